@@ -1,0 +1,43 @@
+-- What a shelf holds: a finite map from names to bytes, as a list in which the first entry of a name counts.
+use Rattle.std.specs.Prelude.{◌≡◌, ◌<◌, ◌≤◌, ℕ, List, [], ◌∷◌, ◌++◌, length, take, drop, Option, None, Some, IfSome, bytes_eq, if◌then◌else◌}
+
+-- the bytes of a name
+abbrev pub file_of : List (List ℕ × List ℕ) → List ℕ → Option (List ℕ)
+file_of [] name = None
+file_of (entry ∷ rest) name = if bytes_eq entry.0 name then Some entry.1 else file_of rest name
+
+-- the first n bytes of the buffer are those of the file from a place on, and there are none only at its end; no read is answered where there is no file
+abbrev pub ReadsAt : Option (List ℕ) → ℕ → ℕ → List ℕ → Type 0
+ReadsAt None at n buf = ⊥
+ReadsAt (Some bytes) at n buf = (take n buf ≡ take n (drop at bytes)) × (n ≡ 0 → 0 < length buf → length bytes ≤ at)
+
+-- `ReadsAt`, of a shelf that tells
+abbrev pub ReadsFrom : Option (List (List ℕ × List ℕ)) → List ℕ → ℕ → ℕ → List ℕ → Type 0
+ReadsFrom told name at n buf = IfSome told (λ files. ReadsAt (file_of files name) at n buf)
+
+-- the text is the whole file, of a shelf that tells
+abbrev pub IsWhole : Option (List (List ℕ × List ℕ)) → List ℕ → List ℕ → Type 0
+IsWhole told name text = IfSome told (λ files. file_of files name ≡ Some text)
+
+-- there is a file, and it has more bytes than the limit
+abbrev pub HasMore : Option (List ℕ) → ℕ → Type 0
+HasMore None limit = ⊥
+HasMore (Some bytes) limit = limit < length bytes
+
+-- there is a file, and it has at most that many bytes
+abbrev pub HasAtMost : Option (List ℕ) → ℕ → Type 0
+HasAtMost None limit = ⊥
+HasAtMost (Some bytes) limit = length bytes ≤ limit
+
+-- the file has more bytes than the limit, of a shelf that tells
+abbrev pub IsLonger : Option (List (List ℕ × List ℕ)) → List ℕ → ℕ → Type 0
+IsLonger told name limit = IfSome told (λ files. HasMore (file_of files name) limit)
+
+-- the text is a front part of the file; nothing was read where it is not there
+abbrev pub IsFrontOf : Option (List ℕ) → List ℕ → Type 0
+IsFrontOf None text = text ≡ []
+IsFrontOf (Some bytes) text = (rest : List ℕ) × (bytes ≡ text ++ rest)
+
+-- `IsFrontOf`, of a shelf that tells
+abbrev pub IsFront : Option (List (List ℕ × List ℕ)) → List ℕ → List ℕ → Type 0
+IsFront told name text = IfSome told (λ files. IsFrontOf (file_of files name) text)

@@ -1,0 +1,5 @@
+pub mod Causes
+pub mod Fetching
+pub mod Files
+pub mod Memory
+pub mod Sinks
