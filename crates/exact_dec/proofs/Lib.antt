@@ -1,0 +1,9 @@
+pub mod Answering
+pub mod Digits
+pub mod Grammar
+pub mod Laws
+pub mod ReadBack
+pub mod Rounding
+pub mod Scaling
+pub mod Texts
+pub mod Units

@@ -1,0 +1,32 @@
+-- What the code's slices show, and what its division steps keep.
+use Rattle.std.specs.Prelude.{◌≡◌, ℕ, ◌+◌, ◌*◌, ◌/◌, ◌^◌, ◌<◌, Bool, true, ◌&&◌, ◌++◌, length, ◌==◌, if◌then◌else◌}
+use Rattle.std.specs.Str.{all_ascii_digits}
+use Rattle.exact_dec.specs.declared.parts.Parts.{Parts as Slices}
+use Rattle.exact_dec.specs.Decimal.{Parts, number, raised, lowered}
+
+abbrev pub spelled : Slices → Parts
+spelled p = record { negative = p.negative; whole = p.whole.now; fraction = p.fraction.now; lowers = p.lowers; exponent = p.exponent.now }
+
+-- each part is digits
+pub record HasDigits (p : Parts) : Type 0 where
+  pub whole : all_ascii_digits p.whole ≡ true
+  pub fraction : all_ascii_digits p.fraction ≡ true
+  pub exponent : all_ascii_digits p.exponent ≡ true
+
+-- the value without its sign, as a fraction
+abbrev pub top : Parts → ℕ
+top p = number (p.whole ++ p.fraction) * 10 ^ raised p.lowers p.exponent
+
+abbrev pub bottom : Parts → ℕ
+bottom p = 10 ^ (length p.fraction + lowered p.lowers p.exponent)
+
+-- n divided by d: the whole part, and whether nothing is left
+pub record IsQuotient (n d whole : ℕ) (exact : Bool) : Type 0 where
+  pub left : ℕ
+  pub divided : n ≡ whole * d + left
+  pub small : left < d
+  pub is_exact : exact ≡ (left == 0)
+
+-- the nearest whole number, without its sign, by the number of halves: a half goes up, which is toward zero below zero
+abbrev pub half : Bool → ℕ → Bool → ℕ
+half negative halves exact = if (negative && exact) then (halves / 2) else ((halves + 1) / 2)

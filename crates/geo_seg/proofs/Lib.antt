@@ -1,0 +1,12 @@
+pub mod Spots
+pub mod LeastGaps
+pub mod FirstExit
+pub mod PointReach
+pub mod SegReach
+pub mod SegAnswers
+pub mod Passed
+pub mod Choices
+pub mod BoxLemmas
+pub mod CornerBoxes
+pub mod Parity
+pub mod Enclosed

@@ -1,0 +1,44 @@
+-- Boxes along the axes. As on a screen y grows downward, so the top of a box is its least y.
+use Rattle.std.specs.Prelude.{ℤ, neg_ℤ, ◌+ℤ◌, ◌-ℤ◌, ◌*ℤ◌, ◌≤ℤ◌, ◌⊎◌}
+use Rattle.geo_seg.specs.declared.boxes.Bounds.{Bounds}
+use Rattle.geo_seg.specs.Points.{Spot}
+
+-- the spot lies in the box, its sides included
+pub record IsInBox (b : Bounds) (p : Spot) : Type 0 where
+  pub left : (p.w *ℤ b.left) ≤ℤ p.x
+  pub top : (p.w *ℤ b.top) ≤ℤ p.y
+  pub right : p.x ≤ℤ (p.w *ℤ b.right)
+  pub bottom : p.y ≤ℤ (p.w *ℤ b.bottom)
+
+-- the box b lies in the box c
+pub record IsPartOf (b c : Bounds) : Type 0 where
+  pub left : c.left ≤ℤ b.left
+  pub top : c.top ≤ℤ b.top
+  pub right : b.right ≤ℤ c.right
+  pub bottom : b.bottom ≤ℤ c.bottom
+
+-- b holds all points of P, and lies in each box that does
+pub record IsLeastBox (P : Spot → Type 0) (b : Bounds) : Type 0 where
+  pub holds : (p : Spot) → P p → IsInBox b p
+  pub least : (c : Bounds) → ((p : Spot) → P p → IsInBox c p) → IsPartOf b c
+
+-- the box with each side moved out by r
+abbrev pub widened : Bounds → ℤ → Bounds
+widened b r = record { left = b.left -ℤ r; top = b.top -ℤ r; right = b.right +ℤ r; bottom = b.bottom +ℤ r }
+
+-- the box is not empty, and reaches no farther than `limit` from the axes
+pub record FitsWithin (limit : ℤ) (b : Bounds) : Type 0 where
+  pub wide : b.left ≤ℤ b.right
+  pub high : b.top ≤ℤ b.bottom
+  pub left : neg_ℤ limit ≤ℤ b.left
+  pub top : neg_ℤ limit ≤ℤ b.top
+  pub right : b.right ≤ℤ limit
+  pub bottom : b.bottom ≤ℤ limit
+
+-- the range from low to high ends at least d before the other begins, or begins as far after it
+abbrev pub IsClearOf : ℤ → ℤ → ℤ → ℤ → ℤ → Type 0
+IsClearOf low high other_low other_high d = (high +ℤ d) ≤ℤ other_low ⊎ (other_high +ℤ d) ≤ℤ low
+
+-- the boxes are at least d apart in x or in y
+abbrev pub AreClear : Bounds → Bounds → ℤ → Type 0
+AreClear b c d = IsClearOf b.left b.right c.left c.right d ⊎ IsClearOf b.top b.bottom c.top c.bottom d

@@ -1,0 +1,93 @@
+// The least boxes that hold points, segments and shapes.
+
+ghost use Rattle.std.specs.Prelude.{◌≤ℤ◌, ◌≡◌, ◌++◌, ◌∷◌, [], List, pos};
+ghost use Rattle.geo_seg.specs.declared.points.Point.{Point};
+ghost use Rattle.geo_seg.specs.Boxes.{FitsWithin, IsLeastBox, widened};
+ghost use Rattle.geo_seg.specs.Corners.{IsCornerBox};
+ghost use Rattle.geo_seg.specs.Points.{IsAt, IsOn};
+ghost use Rattle.geo_seg.specs.Cores.{IsPointOf, IsBoundsOf};
+
+use crate::boxes::Bounds;
+use crate::points::{Point, Seg};
+use crate::shapes::{Core, Shape};
+
+// The box of a single corner.
+pub fn around(p: Point) -> Bounds
+    ensures { IsCornerBox (p ∷ []) result }
+{
+    Bounds {
+        left: p.x,
+        top: p.y,
+        right: p.x,
+        bottom: p.y,
+    }
+}
+
+// The box, grown to hold one corner more.
+pub fn grown(bounds: Bounds, p: Point) -> Bounds
+    requires { FitsWithin (pos 1000000000) bounds }
+    ensures { (cs : List Point) → IsCornerBox cs bounds → IsCornerBox (cs ++ p ∷ []) result }
+{
+    Bounds {
+        left: bounds.left.min(p.x),
+        top: bounds.top.min(p.y),
+        right: bounds.right.max(p.x),
+        bottom: bounds.bottom.max(p.y),
+    }
+}
+
+// The box with each side moved out by `radius`.
+fn widen(bounds: Bounds, radius: i64) -> Bounds
+    requires fits { FitsWithin (pos 1000000000) bounds }
+    requires from { pos 0 ≤ℤ radius }
+    requires to { radius ≤ℤ pos 500000000 }
+    ensures wider { result ≡ widened bounds radius }
+    ensures fits { FitsWithin (pos 1500000000) result }
+{
+    Bounds {
+        left: bounds.left - radius,
+        top: bounds.top - radius,
+        right: bounds.right + radius,
+        bottom: bounds.bottom + radius,
+    }
+}
+
+impl Point {
+    /// The box that holds nothing else.
+    pub fn bounds(self) -> Bounds
+        ensures least { IsLeastBox (IsAt self) result }
+        ensures fits { FitsWithin (pos 1000000000) result }
+    {
+        around(self)
+    }
+}
+
+impl Seg {
+    /// The least box that holds it.
+    pub fn bounds(self) -> Bounds
+        ensures least { IsLeastBox (IsOn self) result }
+        ensures fits { FitsWithin (pos 1000000000) result }
+    {
+        grown(around(self.a), self.b)
+    }
+}
+
+fn core_bounds(core: &Core) -> Bounds
+    ensures least { IsLeastBox (IsPointOf core.now) result }
+    ensures fits { FitsWithin (pos 1000000000) result }
+{
+    match core {
+        Core::Line(s) => s.bounds(),
+        Core::Area(p) => p.bounds(),
+    }
+}
+
+impl Shape {
+    /// The least box that holds the core, widened on each side by the radius.
+    pub fn bounds(&self) -> Bounds
+        ensures least { IsBoundsOf self.now result }
+        ensures fits { FitsWithin (pos 1500000000) result }
+    {
+        widen(core_bounds(&self.core), self.radius)
+    }
+}

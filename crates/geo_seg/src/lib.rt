@@ -1,0 +1,20 @@
+//! Exact distances of points and segments, with no rounding, and the plain types of shapes.
+//!
+//! Coordinates, radii and distances are whole numbers of half nanometres.
+#![tactic(auto)]
+
+mod boxes;
+mod extents;
+mod near;
+mod points;
+mod polygon;
+mod shapes;
+#[cfg(test)]
+mod tests;
+mod vectors;
+
+pub use boxes::Bounds;
+pub use near::{point_apart, point_within, seg_apart, seg_meet, seg_within};
+pub use points::{Point, Seg};
+pub use polygon::Poly;
+pub use shapes::{Core, Shape};

@@ -1,0 +1,55 @@
+// The way from one point to another, and products of such ways. All fits into 64 bits, but for the
+// products of two products.
+
+ghost use Rattle.std.specs.Prelude.{◌≡◌, ◌*ℤ◌, ◌+ℤ◌, ◌-ℤ◌, ◌≤◌, unsigned_abs};
+
+use crate::points::Point;
+
+#[derive(Clone, Copy, Drop)]
+pub struct Vector {
+    pub x: i64,
+    pub y: i64,
+    ghost x_in_range: { unsigned_abs x ≤ 2000000000 },
+    ghost y_in_range: { unsigned_abs y ≤ 2000000000 },
+}
+
+pub fn between(from: Point, to: Point) -> Vector
+    ensures x { result.x ≡ to.x -ℤ from.x }
+    ensures y { result.y ≡ to.y -ℤ from.y }
+{
+    Vector {
+        x: to.x - from.x,
+        y: to.y - from.y,
+    }
+}
+
+pub fn product(a: i64, b: i64) -> i64
+    requires a_in_range { unsigned_abs a ≤ 2000000000 }
+    requires b_in_range { unsigned_abs b ≤ 2000000000 }
+    ensures value { result ≡ a *ℤ b }
+    ensures in_range { unsigned_abs result ≤ 4000000000000000000 }
+{
+    a * b
+}
+
+pub fn large_product(a: i64, b: i64) -> i128
+    requires a_in_range { unsigned_abs a ≤ 8000000000000000000 }
+    requires b_in_range { unsigned_abs b ≤ 8000000000000000000 }
+    ensures { result ≡ a *ℤ b }
+{
+    a as i128 * b as i128
+}
+
+pub fn dot(u: Vector, v: Vector) -> i64
+    ensures value { result ≡ u.x *ℤ v.x +ℤ u.y *ℤ v.y }
+    ensures in_range { unsigned_abs result ≤ 8000000000000000000 }
+{
+    product(u.x, v.x) + product(u.y, v.y)
+}
+
+pub fn cross(u: Vector, v: Vector) -> i64
+    ensures value { result ≡ u.x *ℤ v.y -ℤ u.y *ℤ v.x }
+    ensures in_range { unsigned_abs result ≤ 8000000000000000000 }
+{
+    product(u.x, v.y) - product(u.y, v.x)
+}

@@ -1,0 +1,15 @@
+pub mod Ranges
+pub mod Machine
+pub mod Spelled
+pub mod CellLemmas
+pub mod Splits
+pub mod Unique
+pub mod Joined
+pub mod Reading
+pub mod Faults
+pub mod Accepted
+pub mod HeadFaults
+pub mod FromText
+pub mod Lines
+pub mod FormFaults
+pub mod Ordered

@@ -1,0 +1,10 @@
+pub mod Bytes
+pub mod Tree
+pub mod Comments
+pub mod Spelling
+pub mod Refusals
+pub mod Runs
+pub mod Kinds
+pub mod Places
+pub mod Cells
+pub mod Views

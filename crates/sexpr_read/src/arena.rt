@@ -1,0 +1,122 @@
+ghost use Rattle.std.specs.Prelude.{◌≡◌, ◌+◌, ◌-◌, ◌<◌, ◌≤◌, ◌^◌, ◌∷◌, ◌++◌, [], IfOk, OnOk, vec_len, slice_set, slice_index_or, IsTrue, ◌↔◌};
+ghost use Rattle.sexpr_read.specs.Kinds.{kind_of, no_cell};
+
+use crate::bytes::Class;
+use std::alloc::{AllocError, Global};
+
+/// What a tree is.
+#[derive(Clone, Copy)]
+pub enum Kind {
+    Word,
+    String,
+    List,
+}
+
+/// The first byte of a tree says what it is.
+#[inline(always)]
+pub fn kind_of(first: Class) -> Kind
+    ensures { result ≡ kind_of first }
+{
+    match first {
+        Class::Open => Kind::List,
+        Class::Quote => Kind::String,
+        _ => Kind::Word,
+    }
+}
+
+/// A list or an atom of a text. Cells stand in reading order, a list before what stands in it.
+#[derive(Clone, Copy)]
+pub struct Cell {
+    pub at: u32,
+    pub end: u32,
+    /// How many cells stand in the list. While the list is open: one more than the place of the cell of the open list
+    /// around it, or 0.
+    pub inside: u32,
+}
+
+/// The cells of a text that is being read.
+#[derive(Drop)]
+pub struct Arena {
+    pub cells: Vec<Cell>,
+    /// One more than the place of the cell of the innermost open list, or 0. From there the open lists are linked.
+    pub innermost: u32,
+}
+
+impl Arena {
+    /// No cell, and room for those of a text of so many bytes, if it has six bytes for each.
+    pub fn for_text(alloc: Global, bytes: usize) -> Result<Arena, AllocError>
+        ensures cells { IfOk result (λ arena. arena.cells.items ≡ []) }
+        ensures innermost { IfOk result (λ arena. arena.innermost ≡ 0) }
+    {
+        Ok(Arena {
+            cells: Vec::with_capacity(alloc, bytes / 6)?,
+            innermost: 0,
+        })
+    }
+
+    /// Whether no list is open.
+    pub fn is_closed(&self) -> bool
+        ensures { IsTrue result ↔ (self.now.innermost ≡ 0) }
+    {
+        self.innermost == 0
+    }
+
+    pub fn add_atom(&mut self, at: usize, end: usize) -> Result<(), AllocError>
+        requires at { at < 2 ^ 32 }
+        requires end { end < 2 ^ 32 }
+        ensures cells { OnOk result (self.new.cells.items
+            ≡ self.old.cells.items ++ record { at = at; end = end; inside = 0 } ∷ []) }
+        ensures innermost { self.new.innermost ≡ self.old.innermost }
+    {
+        let cell = Cell {
+            at: at as u32,
+            end: end as u32,
+            inside: 0,
+        };
+        self.cells.push(cell)?;
+        Ok(())
+    }
+
+    pub fn open_list(&mut self, at: usize) -> Result<(), AllocError>
+        requires at { at < 2 ^ 32 }
+        requires room { vec_len self.old.cells + 1 < 2 ^ 32 }
+        ensures cells { OnOk result (self.new.cells.items
+            ≡ self.old.cells.items ++ record { at = at; end = 0; inside = self.old.innermost } ∷ []) }
+        ensures innermost { OnOk result (self.new.innermost ≡ vec_len self.old.cells + 1) }
+    {
+        let opened = Cell {
+            at: at as u32,
+            end: 0,
+            inside: self.innermost,
+        };
+        self.cells.push(opened)?;
+        self.innermost = self.cells.len() as u32;
+        Ok(())
+    }
+
+    /// Closes the innermost open list.
+    pub fn close_list(&mut self, end: usize)
+        requires end { end < 2 ^ 32 }
+        requires few { vec_len self.old.cells < 2 ^ 32 }
+        requires innermost { 0 < self.old.innermost }
+        requires held { self.old.innermost ≤ vec_len self.old.cells }
+        ensures innermost { self.new.innermost ≡ (slice_index_or self.old.cells.items (self.old.innermost - 1) no_cell).inside }
+        ensures cells { self.new.cells.items ≡ slice_set self.old.cells.items (self.old.innermost - 1)
+            (record {
+              at = (slice_index_or self.old.cells.items (self.old.innermost - 1) no_cell).at;
+              end = end;
+              inside = vec_len self.old.cells - self.old.innermost;
+            }) }
+    {
+        let inside = self.cells.len() as u32 - self.innermost;
+        let place = self.innermost as usize - 1;
+        let outer = self.cells[place].inside;
+        let at = self.cells[place].at;
+        self.cells[place] = Cell {
+            at,
+            end: end as u32,
+            inside,
+        };
+        self.innermost = outer;
+    }
+}

@@ -1,0 +1,65 @@
+ghost use Rattle.std.specs.Prelude.{◌≡◌, ◌≢◌, ◌<◌, ◌≤◌, length, true, false, MatchOption, ⊤};
+ghost use Rattle.sexpr_read.specs.declared.bytes.Class.TheVariants.{Space, Quote, Open};
+ghost use Rattle.sexpr_read.specs.Bytes.{sign_of, is_word};
+ghost use Rattle.sexpr_read.specs.Spelling.{IsGap, IsWord, IsContent};
+ghost use Rattle.sexpr_read.specs.Runs.{IsUnclosed};
+
+use crate::bytes::{Class, sign_at};
+
+/// Where the space from `at` on ends.
+pub fn gap_end(text: &[u8], at: usize) -> usize
+    requires { at ≤ length text.now }
+    ensures gap { IsGap (sign_of text.now) at result }
+    ensures within { result ≤ length text.now }
+    ensures stops { result < length text.now → sign_of text.now result ≢ Space }
+{
+    let mut end = at;
+    while end < text.len() {
+        match sign_at(text, end) {
+            Class::Space => end += 1,
+            _ => return end,
+        }
+    }
+    end
+}
+
+/// Where the word at `at` ends.
+pub fn word_end(text: &[u8], at: usize) -> usize
+    requires within { at < length text.now }
+    requires begins { is_word (sign_of text.now at) ≡ true }
+    ensures word { IsWord (sign_of text.now) at result }
+    ensures within { result ≤ length text.now }
+{
+    let mut end = at + 1;
+    while end < text.len() {
+        match sign_at(text, end) {
+            Class::Backslash | Class::Plain => end += 1,
+            _ => return end,
+        }
+    }
+    end
+}
+
+/// The place of the quote that ends the string whose content begins at `at`, or `None` where the text ends first.
+pub fn string_end(text: &[u8], at: usize) -> Option<usize>
+    requires { at ≤ length text.now }
+    ensures content { MatchOption result (IsUnclosed (sign_of text.now) at (length text.now))
+        (λ close. IsContent (sign_of text.now) at close) }
+    ensures quote { MatchOption result ⊤ (λ close. sign_of text.now close ≡ Quote) }
+    ensures within { MatchOption result ⊤ (λ close. (at ≤ close) × (close < length text.now)) }
+{
+    let mut end = at;
+    while end < text.len() {
+        match sign_at(text, end) {
+            Class::Quote => return Some(end),
+            Class::Backslash => {
+                if end + 1 == text.len() {
+                    return None;
+                }
+                end += 2;
+            }
+            _ => end += 1,
+        }
+    }
+    None
+}

@@ -1,0 +1,179 @@
+ghost use Rattle.std.specs.Prelude.{◌≡◌};
+ghost use Rattle.std.proofs.Props.{props};
+ghost use Rattle.sexpr_read.specs.Cells.{cells_of, forest_of, IsPlaced, ArePlaced, ArePlaced-prop};
+ghost use Rattle.sexpr_read.specs.declared.arena.Kind.TheVariants.{List as Nested};
+
+use crate::arena::{Cell, Kind, kind_of};
+use crate::bytes::sign_at;
+use crate::decode::{append_unescaped, is_unescaped};
+use crate::place::Span;
+use std::alloc::AllocError;
+
+/// The tree of a text: the text, and the cells of its lists and atoms. No atom is copied.
+#[derive(Drop)]
+pub struct Doc<'t> {
+    pub(crate) text: &'t [u8],
+    pub(crate) span: Span,
+    pub(crate) cells: Vec<Cell>,
+    ghost placed: { IsPlaced text.now Nested span.at span.end },
+    ghost whole: { cells_of (forest_of text.now cells.items) ≡ cells.items } by { Prim.hlevel props },
+    ghost each_placed: { ArePlaced text.now cells.items } by { ArePlaced-prop text.now cells.items },
+}
+
+#[tactic(auto, unfolding(crate::specs::Views::root_of, crate::specs::Views::tree_of))]
+impl<'t> Doc<'t> {
+    ghost use Rattle.std.specs.Prelude.{◌≡◌};
+    ghost use Rattle.sexpr_read.specs.Views.{root_of, tree_of};
+
+    /// The one list, or the list of all forms.
+    pub fn root<'d>(&'d self) -> Node<'d, 't>
+        ensures { tree_of result ≡ root_of self.now }
+    {
+        Node {
+            text: self.text,
+            kind: Kind::List,
+            span: self.span,
+            cells: self.cells.as_slice(),
+        }
+    }
+}
+
+/// A list or an atom of a document. It borrows the document and its text, and is copied freely.
+#[derive(Clone, Copy)]
+pub struct Node<'d, 't> {
+    pub(crate) text: &'t [u8],
+    pub(crate) kind: Kind,
+    pub(crate) span: Span,
+    pub(crate) cells: &'d [Cell],
+    ghost placed: { IsPlaced text.now kind span.at span.end },
+    ghost whole: { cells_of (forest_of text.now cells.now) ≡ cells.now } by { Prim.hlevel props },
+    ghost each_placed: { ArePlaced text.now cells.now } by { ArePlaced-prop text.now cells.now },
+}
+
+#[tactic(auto, unfolding(crate::specs::Views::tree_of, crate::specs::Views::trees_left))]
+impl<'d, 't> Node<'d, 't> {
+    ghost use Rattle.std.specs.Prelude.{◌≡◌, ◌++◌, ◌↔◌, ◌<◌, ◌^◌, [], length, IsTrue, Some, option_copied, unwrap_or, OnOk, OnErr};
+    ghost use Rattle.sexpr_read.specs.Tree.{is_list, content, quoted, span, parts, value};
+    ghost use Rattle.sexpr_read.specs.Views.{tree_of, trees_left};
+
+    /// Whether it is a list.
+    pub fn is_list(self) -> bool
+        ensures { result ≡ is_list (tree_of self.entry) }
+    {
+        match self.kind {
+            Kind::List => true,
+            Kind::Word | Kind::String => false,
+        }
+    }
+
+    /// An atom's bytes as they stand in the text, without quotes, or `None` for a list.
+    pub fn atom(self) -> Option<&'t [u8]>
+        ensures { option_copied result ≡ content (tree_of self.entry) }
+    {
+        let at = self.span.at as usize;
+        let end = self.span.end as usize;
+        match self.kind {
+            Kind::Word => Some(&self.text[at..end]),
+            Kind::String => Some(&self.text[at + 1..end - 1]),
+            Kind::List => None,
+        }
+    }
+
+    /// Whether it is an atom in quotes.
+    pub fn quoted(self) -> bool
+        ensures { result ≡ quoted (tree_of self.entry) }
+    {
+        match self.kind {
+            Kind::String => true,
+            Kind::Word | Kind::List => false,
+        }
+    }
+
+    /// Where it stands in the text, its quotes or brackets with it.
+    pub fn span(self) -> Span
+        ensures { result ≡ span (tree_of self.entry) }
+    {
+        self.span
+    }
+
+    #[tactic(auto, unfolding(crate::specs::Views::tree_of, crate::specs::Views::trees_left, crate::specs::Cells::forest_of))]
+    /// What stands in a list, in the order of the text. An atom has no children.
+    pub fn children(self) -> Children<'d, 't>
+        ensures given { trees_left result ≡ parts (tree_of self.entry) }
+        ensures fits { length (trees_left result) < 2 ^ 64 }
+    {
+        if let Kind::List = self.kind {
+            return Children {
+                text: self.text,
+                cells: self.cells,
+            };
+        }
+        Children {
+            text: self.text,
+            cells: &[],
+        }
+    }
+
+    /// Whether it is an atom that stands for `text`, the escapes of a string read.
+    pub fn is(self, text: &[u8]) -> bool
+        ensures { IsTrue result ↔ (value (tree_of self.entry) ≡ Some text.now) }
+    {
+        match self.atom() {
+            None => false,
+            Some(content) => match self.kind {
+                Kind::String => is_unescaped(content, text),
+                Kind::Word | Kind::List => content == text,
+            },
+        }
+    }
+
+    /// Appends what an atom stands for; a list appends nothing.
+    pub fn value(self, out: &mut Vec<u8>) -> Result<(), AllocError>
+        ensures ok { OnOk result (out.new.items ≡ out.old.items ++ unwrap_or (value (tree_of self.entry)) []) }
+        ensures err { OnErr result (out.new.items ≡ out.old.items) }
+    {
+        match self.atom() {
+            None => Ok(()),
+            Some(content) => match self.kind {
+                Kind::String => append_unescaped(out, content),
+                Kind::Word | Kind::List => out.extend_from_slice(content),
+            },
+        }
+    }
+}
+
+/// The parts of a list that are still to come, in the order of the text.
+#[derive(Clone, Copy)]
+pub struct Children<'d, 't> {
+    pub(crate) text: &'t [u8],
+    pub(crate) cells: &'d [Cell],
+    ghost whole: { cells_of (forest_of text.now cells.now) ≡ cells.now } by { Prim.hlevel props },
+    ghost each_placed: { ArePlaced text.now cells.now } by { ArePlaced-prop text.now cells.now },
+}
+
+impl<'d, 't> Iterator for Children<'d, 't> {
+    ghost use Rattle.std.specs.Iterator.{YieldsFirstBy, item_count};
+    ghost use Rattle.sexpr_read.specs.Views.{tree_of, trees_left};
+
+    type Item = Node<'d, 't>;
+
+    ghost next_gives = { YieldsFirstBy tree_of trees_left };
+
+    ghost remaining = { item_count trees_left };
+
+    fn next(&mut self) -> Option<Node<'d, 't>> {
+        let (cell, after) = self.cells.split_first()?;
+        let kind = kind_of(sign_at(self.text, cell.at as usize));
+        let (inside, others) = after.split_at(cell.inside as usize);
+        self.cells = others;
+        Some(Node {
+            text: self.text,
+            kind,
+            span: Span {
+                at: cell.at,
+                end: cell.end,
+            },
+            cells: inside,
+        })
+    }
+}
