@@ -1,0 +1,10 @@
+pub mod Lines
+pub mod NetLists
+pub mod Atoms
+pub mod Scalars
+pub mod Distances
+pub mod ViaCopper
+pub mod Pairs
+pub mod RowLists
+pub mod ReportLines
+pub mod Written

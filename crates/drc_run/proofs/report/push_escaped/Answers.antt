@@ -1,0 +1,17 @@
+use Rattle.std.proofs.Common.{◌≡◌, ◌∙◌, sym, ap, refl, ◌++◌, ◌∷◌, [], ◌+◌, List, ℕ, append_assoc, append-nil, take, drop, get_or, Bor, arith, rules}
+use Rattle.std.proofs.lemmas.Result.{err_from_is_err_and}
+use Rattle.std.specs.List.{flat_map}
+use Rattle.drc_run.specs.Line.{escaped, escaped_byte}
+use Rattle.drc_run.proofs.Lines.{Puts-then, Puts-stop, Puts-cut, Puts-text, flat_more, flat_rest}
+use Rattle.drc_run.proofs.report.push_escaped.Goals as goal
+
+pub returns-in_err-push_byte : goal.returns-in_err-push_byte
+returns-in_err-push_byte g c =
+    let p = err_from_is_err_and c.from_residual.result c.from_residual.ensures.1 in
+    Puts-cut _ _ _ _ _ _ _ _ _ _ _ _ _ p.1 (flat_rest escaped_byte c.args.name.now c.loop-byte.byte-index 0 (omega arith))
+    (Puts-then _ _ _ _ _ _ _ _ _ _ _ _ _ c.loop-byte.invariant c.in_err-push_byte.ensures)
+
+pub loop-byte-preserved : goal.loop-byte-preserved
+loop-byte-preserved g c =
+    Puts-text _ _ _ _ _ _ _ _ _ (sym (flat_more escaped_byte c.args.name.now c.loop-byte.byte-index 0 (omega arith)))
+    (Puts-then _ _ _ _ _ _ _ _ _ _ _ _ _ c.loop-byte.invariant c.in_ok-push_byte.ensures)

@@ -1,0 +1,11 @@
+//! The rows of a board, over all pairs.
+
+use crate::violation::Violation;
+
+/// What two vias of the board break, each by its place in the text.
+#[derive(Clone, Copy, Debug, PartialEq, Eq)]
+pub(crate) struct Row {
+    pub(crate) first: u32,
+    pub(crate) second: u32,
+    pub(crate) violation: Violation,
+}
