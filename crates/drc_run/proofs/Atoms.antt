@@ -1,5 +1,5 @@
 -- Atoms have a value and lists have none.
-use Rattle.std.proofs.Common.{◌≡◌, Bool, true, false, not, None, Some, IsSome, MatchBool, refl}
+use Rattle.std.proofs.Common.{◌≡◌, true, false, not, None, IsSome, MatchBool, refl}
 use Rattle.sexpr_read.specs.Tree.{Tree, leaf, branch, is_list, value}
 
 pub atom_or_list : (t : Tree) → MatchBool (not (is_list t)) (IsSome (value t)) (value t ≡ None)

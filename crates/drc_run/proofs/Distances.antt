@@ -1,8 +1,8 @@
 -- What is apart at a distance is apart at a lesser one, and what is within a distance is nearer than a greater one.
-use Rattle.std.proofs.Common.{◌≡◌, ℤ, pos, ◌+ℤ◌, ◌-ℤ◌, ◌*ℤ◌, ◌≤ℤ◌, ◌<ℤ◌, [], ◌∷◌, arith}
+use Rattle.std.proofs.Common.{ℤ, pos, ◌+ℤ◌, ◌-ℤ◌, ◌*ℤ◌, ◌≤ℤ◌, ◌<ℤ◌, [], ◌∷◌, arith}
 use Rattle.std.proofs.lemmas.Int.{ints}
 use Rattle.int_algebra.proofs.Ring.{ring, var, sq, ◌⊕◌, ◌⊖◌, ◌⊗◌}
-use Rattle.int_algebra.proofs.Order.{le_by, lt_by, le_gap, lt_gap, lt-le, product-nonneg, product-pos, sum-nonneg, square-nonneg}
+use Rattle.int_algebra.proofs.Order.{le_by, lt_by, le_gap, lt_gap, product-nonneg, product-pos, sum-nonneg, square-nonneg}
 use Rattle.geo_seg.specs.Points.{Spot}
 use Rattle.geo_seg.specs.Nearer.{square, squared_gap, squared_limit, IsNearer, IsWithin, AreApart, AreWithin}
 

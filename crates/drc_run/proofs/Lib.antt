@@ -8,3 +8,5 @@ pub mod Pairs
 pub mod RowLists
 pub mod ReportLines
 pub mod Written
+pub mod OneOutput
+pub mod Exact

@@ -1,5 +1,5 @@
 -- Lines that are put together piece by piece.
-use Rattle.std.proofs.Common.{◌≡◌, ℕ, ◌≤◌, ◌<◌, ◌+◌, suc, List, [], ◌∷◌, length, get_or, take, drop, take-append-drop, add-one, Option, ◌++◌, Result, Ok, Err, refl, subst, sym, ap, ◌∙◌, append_assoc, append-nil, arith}
+use Rattle.std.proofs.Common.{◌≡◌, ℕ, ◌<◌, ◌+◌, List, [], ◌∷◌, length, get_or, take, drop, take-append-drop, add-one, Option, ◌++◌, Result, Ok, Err, subst, sym, ap, ◌∙◌, append_assoc, append-nil, arith}
 use Rattle.std.proofs.Math.Seq.{take-suc}
 use Rattle.std.proofs.lemmas.Grind.{flat_map-append}
 use Rattle.std.specs.List.{flat_map}
@@ -7,7 +7,7 @@ use Rattle.std.specs.Io.KnownBytes.{Appends}
 use Rattle.std.proofs.KnownBytes.{Appends-trans}
 use Rattle.drc_io.specs.Sinks.{AppendsFront, Writes}
 use Rattle.drc_io.proofs.Writing.{AppendsFront-after, AppendsFront-more}
-use Rattle.drc_run.specs.Line.{Splits, Puts}
+use Rattle.drc_run.specs.Line.{Puts}
 
 -- what was pending did not go out whole
 pub Puts-fails : {S T E D : Type 0} (a b : Option (List ℕ)) (m n : ℕ) (text pending piece kept : List ℕ) (e : D) (r : Result T E) (d : E) → r ≡ Err d

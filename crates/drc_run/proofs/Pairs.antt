@@ -1,5 +1,5 @@
 -- What two vias break, case by case.
-use Rattle.std.proofs.Common.{◌≡◌, ◌≢◌, ◌⊎◌, ℕ, zero, suc, ◌<◌, ℤ, pos, negsuc, Bool, IsTrue, ◌↔◌, ◌+ℤ◌, ◌≤ℤ◌, ◌<ℤ◌, List, [], ◌∷◌, ◌++◌, All, Contains, Option, Some, None, IfSome, inl, inr, refl, sym, ap, subst, ◌∙◌, arith}
+use Rattle.std.proofs.Common.{◌≡◌, ◌≢◌, ◌⊎◌, ℕ, zero, suc, ℤ, pos, negsuc, Bool, IsTrue, ◌↔◌, ◌≤ℤ◌, List, [], ◌∷◌, ◌++◌, All, Contains, Some, inl, inr, refl, sym, ap, subst, ◌∙◌, arith}
 use Rattle.std.proofs.lemmas.Int.{ints}
 use Rattle.std.proofs.lemmas.List.Elements.{All-head, All-nil, Contains-append_right}
 use Rattle.drc_run.specs.declared.violation.Violation.{Violation}
@@ -7,7 +7,7 @@ use Rattle.drc_run.specs.declared.violation.Kind.{Kind}
 use Rattle.drc_run.specs.declared.violation.Kind.TheVariants.{Short, Clearance}
 use Rattle.drc_run.specs.Board.{PlainVia}
 use Rattle.drc_run.specs.Copper.{through, MeetOn, KeepOn, AreApartOn, IsGap}
-use Rattle.drc_run.specs.Violations.{clearance, IsFirstLayer, CanShort, DoShort, IsShort, IsTooNear, IsViolation}
+use Rattle.drc_run.specs.Violations.{clearance, IsFirstLayer, DoShort, IsViolation}
 
 -- the first layer of all, where P holds of it
 pub first_is : (l : ℕ) (ls : List ℕ) (P : ℕ → Type 0) (layer : ℕ) → P l → IsFirstLayer (l ∷ ls) P layer → layer ≡ l

@@ -1,5 +1,5 @@
 -- What the writers of the report need of a row.
-use Rattle.std.proofs.Common.{◌≡◌, ◌≤◌, ◌<◌, ℕ, ℤ, pos, negsuc, ◌≤ℤ◌, List, ◌++◌, length, Option, Result, Ok, Err, inl, inr, subst, sym, ap, arith, unsigned_abs}
+use Rattle.std.proofs.Common.{◌≡◌, ◌≤◌, ◌<◌, ℕ, ℤ, pos, negsuc, ◌≤ℤ◌, List, ◌++◌, length, Option, Result, Err, inl, inr, subst, sym, arith, unsigned_abs}
 use Rattle.std.proofs.lemmas.Int.{ints}
 use Rattle.std.proofs.lemmas.Option.{slice_get_within}
 use Rattle.drc_io.specs.Sinks.{Writes}
@@ -7,8 +7,8 @@ use Rattle.drc_io.proofs.Writing.{Writes-stop}
 use Rattle.drc_run.specs.declared.rows.Row.{Row}
 use Rattle.drc_run.specs.declared.violation.Violation.{Violation}
 use Rattle.drc_run.specs.Board.{PlainVia}
-use Rattle.drc_run.specs.Copper.{IsGap, through}
-use Rattle.drc_run.specs.Violations.{IsViolation, clearance}
+use Rattle.drc_run.specs.Copper.{through}
+use Rattle.drc_run.specs.Violations.{IsViolation}
 use Rattle.drc_run.specs.Rows.{IsRow}
 use Rattle.drc_run.specs.RowsBelow.{of_vias}
 

@@ -1,11 +1,11 @@
 -- The copper of two vias, by the lines of no length at their positions.
-use Rattle.std.proofs.Common.{◌≡◌, ℕ, ℤ, pos, ◌+ℤ◌, ◌-ℤ◌, ◌*ℤ◌, ◌≤ℤ◌, ◌<ℤ◌, List, [], ◌∷◌, Contains, ◌↔◌, refl, sym, ap, subst, ◌∙◌, arith}
+use Rattle.std.proofs.Common.{◌≡◌, ℕ, ℤ, pos, ◌+ℤ◌, ◌-ℤ◌, ◌*ℤ◌, ◌≤ℤ◌, ◌<ℤ◌, Contains, refl, sym, ap, subst, ◌∙◌, arith}
 use Rattle.std.proofs.lemmas.Int.{ints}
 use Rattle.geo_seg.specs.declared.points.Seg.{Seg}
 use Rattle.geo_seg.specs.Points.{Spot, IsOn}
 use Rattle.geo_seg.specs.Nearer.{AreApart, AreWithin}
 use Rattle.drc_run.specs.Board.{PlainVia}
-use Rattle.drc_run.specs.Copper.{Part, IsCore, IsPartOf, through, MeetOn, AreApartOn}
+use Rattle.drc_run.specs.Copper.{IsCore, through, MeetOn, AreApartOn}
 use Rattle.drc_run.proofs.Distances.{apart_less, apart_not_within}
 
 mix_same : (part whole w a b a' b' : ℤ) → a ≡ a' → b ≡ b' → w *ℤ ((whole -ℤ part) *ℤ a +ℤ part *ℤ b) ≡ w *ℤ ((whole -ℤ part) *ℤ a' +ℤ part *ℤ b')

@@ -1,12 +1,12 @@
 -- How a run ends once its last text was written, or broke off.
-use Rattle.std.proofs.Common.{◌≡◌, ◌⊎◌, ℕ, ◌+◌, ◌<◌, ◌≤◌, List, [], ◌∷◌, length, Option, Some, None, Result, Ok, Err, MatchResult, inl, inr, refl, sym, ap, subst, ◌∙◌, arith}
+use Rattle.std.proofs.Common.{◌≡◌, ℕ, ◌+◌, ◌<◌, ◌≤◌, List, [], ◌∷◌, length, Option, Some, None, Result, Ok, Err, MatchResult, inl, inr, refl, sym, ap, subst, ◌∙◌, arith}
 use Rattle.std.specs.Prelude.{replicate}
 use Rattle.std.proofs.Math.ListN.{length-replicate}
 use Rattle.drc_io.specs.declared.Failed.{Failed}
-use Rattle.drc_io.specs.Files.{IsLonger, IsWhole, HasMore, file_of}
+use Rattle.drc_io.specs.Files.{IsLonger, HasMore, file_of}
 use Rattle.drc_io.specs.Sinks.{Writes}
 use Rattle.drc_run.specs.declared.status.Status.{Status}
-use Rattle.drc_run.specs.declared.status.Status.TheVariants.{Clean, Rows, Usage, Refused, ReadFault, WriteFault, OutOfMemory}
+use Rattle.drc_run.specs.declared.status.Status.TheVariants.{ReadFault, WriteFault}
 use Rattle.sexpr_read.specs.Tree.{Tree, levels}
 use Rattle.sexpr_read.specs.Spelling.{Spells}
 use Rattle.drc_run.specs.declared.rows.Row.{Row}
@@ -14,7 +14,7 @@ use Rattle.drc_run.specs.Board.{PlainBoard}
 use Rattle.drc_run.specs.BoardOf.{board_of}
 use Rattle.drc_run.specs.Rows.{AreRows}
 use Rattle.drc_run.specs.Report.{report}
-use Rattle.drc_run.specs.Output.{Output, IsOutputOf, IsOutputFor, longer, reported, limit, too_long, cannot_read, status_of, IsReported}
+use Rattle.drc_run.specs.Output.{Output, IsOutputOf, IsOutputFor, longer, reported, too_long, cannot_read, status_of}
 use Rattle.drc_run.specs.Endings.{Whole, Ends, report_status}
 
 -- an output was written, and then the status is a given one

@@ -1,6 +1,6 @@
 -- The board of a tree. An atom stands for its decoded value, and a number is read from the atom as it stands in the text.
 -- The root is (kicad_pcb VERSION GENERATOR LAYERS NET .. VIA ..), and each part has its one form.
-use Rattle.std.specs.Prelude.{ℕ, ◌+◌, ℤ, pos, neg_ℤ, int_le, List, [], ◌∷◌, length, drop, codes, bytes_eq, nat_lt, ◌==◌, Bool, true, false, ◌&&◌, not, Option, None, Some, is_some, Result, if◌then◌else◌}
+use Rattle.std.specs.Prelude.{ℕ, ℤ, pos, neg_ℤ, int_le, List, [], ◌∷◌, length, drop, codes, bytes_eq, nat_lt, ◌==◌, Bool, true, false, ◌&&◌, not, Option, None, Some, is_some, if◌then◌else◌}
 use Rattle.std.specs.List.{list_any}
 use Rattle.std.specs.Result.{result_ok}
 use Rattle.sexpr_read.specs.Tree.{Tree, content, parts, value}

@@ -1,5 +1,5 @@
 -- The texts of the report. Every line ends with a line feed.
-use Rattle.std.specs.Prelude.{ℕ, List, [], ◌∷◌, ◌++◌, length, codes, decimal, Option, Some, None, slice_get, ◌==◌, if◌then◌else◌}
+use Rattle.std.specs.Prelude.{ℕ, List, [], ◌++◌, length, codes, decimal, Option, Some, None, slice_get, ◌==◌, if◌then◌else◌}
 use Rattle.std.specs.List.{flat_map}
 use Rattle.exact_dec.specs.Written.{mm_text}
 use Rattle.drc_run.specs.declared.violation.Kind.{Kind}

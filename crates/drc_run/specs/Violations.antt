@@ -1,6 +1,6 @@
 -- What two vias break. Only nets that differ are compared; a short needs two nets that are there, and where there is a
 -- short there is no row for the clearance.
-use Rattle.std.specs.Prelude.{◌≡◌, ◌≢◌, ℕ, ℤ, pos, List, [], ◌∷◌, ◌++◌, ◌⊎◌, All, Contains}
+use Rattle.std.specs.Prelude.{◌≡◌, ◌≢◌, ℕ, ℤ, pos, List, ◌∷◌, ◌++◌, ◌⊎◌, All, Contains}
 use Rattle.drc_run.specs.declared.violation.Violation.{Violation}
 use Rattle.drc_run.specs.declared.violation.Kind.TheVariants.{Short, Clearance}
 use Rattle.drc_run.specs.Board.{PlainVia}

@@ -14,6 +14,7 @@ mod board;
 mod board_text;
 mod check;
 mod copper;
+pub mod laws;
 mod line;
 mod millimetres;
 mod pair;

@@ -1,4 +1,4 @@
-use Rattle.std.proofs.Common.{subst, sym, ap, ◌∙◌, ◌≡◌, ◌++◌, [], ◌∷◌, ◌+◌, List, Vec}
+use Rattle.std.proofs.Common.{subst, sym, ap, ◌∙◌, ◌+◌, Vec}
 use Rattle.std.specs.declared.alloc.Global.{Global}
 use Rattle.drc_run.specs.declared.rows.Row.{Row}
 use Rattle.drc_run.specs.RowsBelow.{AreRowsBelow, of_vias}

@@ -1,5 +1,4 @@
-use Rattle.std.proofs.Common.{sym, subst, List}
-use Rattle.drc_run.specs.declared.rows.Row.{Row}
+use Rattle.std.proofs.Common.{sym, subst}
 use Rattle.drc_run.specs.Rows.{AreRows}
 use Rattle.drc_run.proofs.RowLists.{rows_end}
 use Rattle.drc_run.proofs.all_pairs.rows_of.Goals as goal

@@ -1,4 +1,4 @@
-use Rattle.std.proofs.Common.{subst, sym, ap, MatchBool, IsSome, None, ◌≡◌, not, Bool}
+use Rattle.std.proofs.Common.{subst, sym, MatchBool, IsSome, None, ◌≡◌, not, Bool}
 use Rattle.sexpr_read.specs.Tree.{value}
 use Rattle.sexpr_read.specs.Views.{tree_of}
 use Rattle.drc_run.proofs.Atoms.{atom_or_list}

@@ -1,4 +1,4 @@
-use Rattle.std.proofs.Common.{◌∙◌, sym, ap, ◌≡◌, ◌≤◌, ◌<◌, [], Option, Some, None, Vec, IfSome, length, nat_lt, false, ℕ, rules, arith}
+use Rattle.std.proofs.Common.{◌∙◌, sym, ◌≡◌, ◌≤◌, [], Option, Some, None, Vec, IfSome, length, nat_lt, false, ℕ, rules, arith}
 use Rattle.std.proofs.lemmas.Bool.Decides.{nat_tests}
 use Rattle.std.proofs.lemmas.Result.{IfOk-weaker}
 use Rattle.std.specs.declared.alloc.Global.{Global}

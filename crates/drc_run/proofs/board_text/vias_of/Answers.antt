@@ -1,4 +1,4 @@
-use Rattle.std.proofs.Common.{◌≡◌, ◌∙◌, ◌++◌, sym, ap, option_map, append-nil, length, List}
+use Rattle.std.proofs.Common.{◌∙◌, ◌++◌, sym, ap, option_map, append-nil, length, List}
 use Rattle.std.specs.Ordering.{nat_cmp}
 use Rattle.std.specs.BTreeSet.{contains}
 use Rattle.sexpr_read.specs.Tree.{Tree}

@@ -1,6 +1,5 @@
-use Rattle.std.proofs.Common.{◌≡◌, ◌∙◌, sym, ap, subst, Some, Err, refl}
+use Rattle.std.proofs.Common.{ap, Some, Err}
 use Rattle.drc_run.specs.declared.status.Status.TheVariants.{Refused}
-use Rattle.drc_io.specs.Causes.{Rose}
 use Rattle.drc_run.specs.Output.{IsOutputFor, too_long}
 use Rattle.drc_run.proofs.Written.{written, faulted, longer_output}
 use Rattle.drc_run.proofs.check.check.Goals as goal

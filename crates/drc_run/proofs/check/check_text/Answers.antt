@@ -1,9 +1,9 @@
-use Rattle.std.proofs.Common.{◌≡◌, ◌∙◌, sym, ap, subst, List, Some}
+use Rattle.std.proofs.Common.{◌≡◌, ◌∙◌, sym, ap, subst, List}
 use Rattle.drc_io.proofs.Writing.{Writes-text}
 use Rattle.sexpr_read.specs.Views.{tree_of, root_of}
 use Rattle.drc_run.specs.declared.rows.Row.{Row}
 use Rattle.drc_run.specs.Report.{report}
-use Rattle.drc_run.specs.Output.{Output, IsOutputOf, status_of}
+use Rattle.drc_run.specs.Output.{IsOutputOf, status_of}
 use Rattle.drc_run.specs.Endings.{Ends, report_status}
 use Rattle.drc_run.proofs.Written.{written, reporting, report_of}
 use Rattle.drc_run.proofs.check.check_text.Goals as goal

@@ -1,5 +1,4 @@
 use Rattle.std.proofs.Common.{◌≡◌, ◌∙◌, sym, subst, ◌+ℤ◌, ℤ, w64}
-use Rattle.std.proofs.lemmas.Int.{ints}
 use mir.Val.{to_z, of_z}
 use Rattle.geo_seg.specs.Points.{IsOn}
 use Rattle.geo_seg.specs.Nearer.{AreWithin}

@@ -1,4 +1,4 @@
-use Rattle.std.proofs.Common.{◌≡◌, ◌∙◌, ap, ◌+ℤ◌, ◌*ℤ◌, pos}
+use Rattle.std.proofs.Common.{◌∙◌, ap, ◌+ℤ◌, ◌*ℤ◌, pos}
 use Rattle.drc_run.specs.Board.{PlainVia}
 use Rattle.drc_run.proofs.Scalars.{clean_sum}
 use Rattle.drc_run.proofs.copper.reach.Goals as goal

@@ -1,4 +1,4 @@
-use Rattle.std.proofs.Common.{◌≡◌, ◌∙◌, ap, sym, ℕ}
+use Rattle.std.proofs.Common.{◌∙◌, ap}
 use Rattle.drc_run.specs.Board.{PlainVia}
 use Rattle.drc_run.proofs.Pairs.{shorts, front}
 use Rattle.drc_run.proofs.pair.do_short.Goals as goal

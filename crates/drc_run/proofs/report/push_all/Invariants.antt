@@ -1,5 +1,4 @@
 use Rattle.std.proofs.Common.{take, Ok}
-use Rattle.std.proofs.Common.{Bor, List, ℕ}
 use Rattle.std.specs.List.{flat_map}
 use Rattle.drc_io.specs.declared.Failed.{Failed}
 use Rattle.drc_run.specs.Line.{Puts}

@@ -1,8 +1,7 @@
-use Rattle.std.proofs.Common.{◌≡◌, ◌∙◌, sym, ap, refl, ◌++◌, ◌∷◌, [], ◌+◌, List, ℕ, append_assoc, append-nil, take, drop, get_or, Bor, arith, rules}
+use Rattle.std.proofs.Common.{sym, arith}
 use Rattle.std.proofs.lemmas.Result.{err_from_is_err_and}
-use Rattle.std.specs.List.{flat_map}
-use Rattle.drc_run.specs.Line.{escaped, escaped_byte}
-use Rattle.drc_run.proofs.Lines.{Puts-then, Puts-stop, Puts-cut, Puts-text, flat_more, flat_rest}
+use Rattle.drc_run.specs.Line.{escaped_byte}
+use Rattle.drc_run.proofs.Lines.{Puts-then, Puts-cut, Puts-text, flat_more, flat_rest}
 use Rattle.drc_run.proofs.report.push_escaped.Goals as goal
 
 pub returns-in_err-push_byte : goal.returns-in_err-push_byte

@@ -1,12 +1,9 @@
-use Rattle.std.proofs.Common.{◌≡◌, ◌∙◌, sym, ap, refl, ◌++◌, ◌∷◌, [], ◌+◌, List, ℕ, append_assoc, append-nil, codes, take, drop, get_or, Bor, arith, rules}
-use Rattle.std.proofs.lemmas.Result.{err_from_is_err_and}
-use Rattle.std.specs.List.{flat_map}
-use Rattle.drc_run.specs.Line.{escaped, escaped_byte}
+use Rattle.std.proofs.Common.{◌≡◌, ◌∙◌, ap, ◌++◌, append_assoc, codes}
 use Rattle.std.proofs.Math.Facts.{to_z-of_z}
 use Rattle.exact_dec.specs.Written.{mm_text}
 use Rattle.drc_run.specs.Report.{measures}
 use Rattle.drc_run.proofs.Scalars.{fits_far}
-use Rattle.drc_run.proofs.Lines.{Puts-then, Puts-stop, Puts-cut, Puts-text, flat_more, flat_rest}
+use Rattle.drc_run.proofs.Lines.{Puts-text}
 use Rattle.drc_run.proofs.report.push_measures.Goals as goal
 
 pub returns-in-Clearance : goal.returns-in-Clearance

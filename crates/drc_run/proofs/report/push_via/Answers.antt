@@ -1,12 +1,11 @@
-use Rattle.std.proofs.Common.{◌≡◌, ◌∙◌, sym, ap, refl, ◌++◌, ◌∷◌, [], ◌+◌, List, ℕ, append_assoc, append-nil, codes, take, drop, get_or, Bor, arith, rules}
+use Rattle.std.proofs.Common.{◌≡◌, ◌∙◌, ap, refl, ◌++◌, [], append_assoc, append-nil, codes}
 use Rattle.std.proofs.lemmas.Result.{err_from_is_err_and}
-use Rattle.std.specs.List.{flat_map}
 use Rattle.exact_dec.specs.Written.{mm_text}
 use Rattle.drc_run.specs.Board.{PlainVia}
-use Rattle.drc_run.specs.Line.{escaped, escaped_byte}
+use Rattle.drc_run.specs.Line.{escaped}
 use Rattle.std.proofs.Math.Facts.{to_z-of_z}
 use Rattle.drc_run.proofs.Scalars.{fits}
-use Rattle.drc_run.proofs.Lines.{Puts-then, Puts-stop, Puts-cut, Puts-text, flat_more, flat_rest}
+use Rattle.drc_run.proofs.Lines.{Puts-then, Puts-cut, Puts-text}
 use Rattle.drc_run.proofs.report.push_via.Goals as goal
 
 pub returns-in_err-push : goal.returns-in_err-push

@@ -1,14 +1,11 @@
-use Rattle.std.proofs.Common.{◌≡◌, ◌<◌, ◌∙◌, sym, ap, refl, ◌++◌, ◌∷◌, [], ◌+◌, List, ℕ, Some, append_assoc, append-nil, codes, decimal, slice_get, take, drop, get_or, length, arith, rules}
+use Rattle.std.proofs.Common.{sym, arith}
 use Rattle.std.proofs.lemmas.Result.{err_from_is_err_and}
-use Rattle.std.proofs.lemmas.Option.{slice_get_read}
-use Rattle.std.specs.List.{flat_map}
-use Rattle.drc_io.proofs.Writing.{Writes-then, Writes-stop, Writes-text}
-use Rattle.drc_run.specs.Board.{PlainVia, PlainBoard}
+use Rattle.drc_io.proofs.Writing.{Writes-then, Writes-text}
 use Rattle.std.proofs.Common.{pos}
 use Rattle.drc_run.specs.declared.violation.Kind.TheVariants.{Short}
-use Rattle.drc_run.specs.Report.{via_text, text_of, pair_text, head_text, measures, row_line, count_line, report}
-use Rattle.drc_run.proofs.Lines.{Puts-then, Puts-stop, Puts-cut, Puts-text, Puts-ends, Puts-broke, flat_more, flat_rest}
-use Rattle.drc_run.proofs.ReportLines.{first_place, second_place, value_range, gap_range, Writes-cut}
+use Rattle.drc_run.specs.Report.{row_line}
+use Rattle.drc_run.proofs.Lines.{flat_more, flat_rest}
+use Rattle.drc_run.proofs.ReportLines.{Writes-cut}
 use Rattle.drc_run.proofs.report.write_rows.Goals as goal
 
 pub returns-in_err-write_row : goal.returns-in_err-write_row

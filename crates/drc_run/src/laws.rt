@@ -1,0 +1,13 @@
+//! Laws of the output. The functions do nothing: each clause holds for all words and files.
+
+ghost use Rattle.std.specs.Prelude.{◌≡◌, ℕ, List, Option, Some};
+ghost use Rattle.drc_run.specs.Output.{Output, IsOutputFor};
+
+use sexpr_read::laws::one_tree;
+
+/// The words and the files have one output at most.
+pub fn one_output()
+    ensures { (reading : Option (List ℕ)) (files : List (List ℕ × List ℕ)) (a b : Output) → IsOutputFor reading (Some files) a → IsOutputFor reading (Some files) b → a ≡ b }
+{
+    one_tree();
+}
