@@ -90,6 +90,7 @@ pub(crate) fn check<F: Shelf, W: Sink>(
     ensures ends { Ends (IsOutputFor (Some name.now) (F.files shelf.old)) (Rose (F.faults shelf.old name.now) (F.faults shelf.new name.now))
         (W.written out.old) (W.written out.new) result }
     ensures fault { result ≡ Status.WriteFault → Rose (W.faults out.old) (W.faults out.new) }
+    ensures same { F.files shelf.new ≡ F.files shelf.old }
 {
     match fetch(alloc, shelf, name, LIMIT) {
         Ok(text) => check_text(alloc, &text, out),

@@ -54,6 +54,8 @@ pub fn run<R: AllocGlobal, F: Shelf, W: Sink>(
         → (result < 4) ⊎ (result ≡ 6) }
     // Of a shelf that tells, the status is that of each output that the words and the files have.
     ensures exact { IfSome (F.files shelf.old) (λ files. (output : Output) → IsOutputFor (reading_of (words_of words.now)) (Some files) output → result < 4 → result ≡ output.status) }
+    // The files stay as they were.
+    ensures same { F.files shelf.new ≡ F.files shelf.old }
 {
     match reading(words) {
         Some(name) => check(rt.alloc(), name, shelf, out) as u8,

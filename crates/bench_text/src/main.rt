@@ -1,0 +1,69 @@
+// Reads a text, and prints how many bytes it has and how many parts its root.
+//
+// Without words it reads a small text of its own a few times. With `plain FILE` it adds the file's bytes up, and with
+// `sexpr FILE` it reads the file as one S-expression.
+#![tactic(auto)]
+
+use sexpr_read::parse_one;
+use std::alloc::Global;
+use std::io::Print;
+use std::rt::Runtime;
+use std::{env, fs};
+
+/// The most bytes of a text.
+const LIMIT: usize = 33_554_432;
+
+/// The bytes, each added to the sum so far times 31.
+fn checksum(text: &[u8]) -> u64 {
+    let mut sum = 0u64;
+    for byte in text {
+        sum = sum.wrapping_mul(31).wrapping_add(u64::from(*byte));
+    }
+    sum
+}
+
+/// How many parts the one list of the text has.
+fn parts(alloc: Global, text: &[u8]) -> Option<u64> {
+    if text.len() > LIMIT {
+        return None;
+    }
+    let doc = parse_one(alloc, text).ok()?;
+    let mut count = 0u64;
+    for _ in doc.root().children() {
+        count = count.wrapping_add(1);
+    }
+    Some(count)
+}
+
+fn show(rt: &impl Print, kind: &str, bytes: usize, number: Option<u64>) -> anyhow::Result<()> {
+    match number {
+        Some(number) => println!(rt; "{kind} {bytes}: {number}")?,
+        None => println!(rt; "{kind} {bytes}: refused")?,
+    }
+    Ok(())
+}
+
+fn stored<R: Print + AllocGlobal>(rt: &R) -> anyhow::Result<()> {
+    let text = b"(kicad_pcb (version 20221018) (net 0 \"\") (net 1 \"N1\"))";
+    show(rt, "plain", text.len(), Some(checksum(text)))?;
+    for _ in 0..3 {
+        show(rt, "sexpr", text.len(), parts(rt.alloc(), text))?;
+    }
+    show(rt, "sexpr", 4, parts(rt.alloc(), b"(()x"))
+}
+
+fn bench<R: Runtime + Print + AllocGlobal>(rt: &R, kind: &str, path: &str) -> anyhow::Result<()> {
+    let text = fs::read(rt, path)?;
+    match kind {
+        "sexpr" => show(rt, kind, text.len(), parts(rt.alloc(), &text)),
+        _ => show(rt, "plain", text.len(), Some(checksum(&text))),
+    }
+}
+
+fn main(rt: HostRuntime) -> anyhow::Result<()> {
+    let words: Vec<String> = env::args(&rt)?.skip(1).collect(rt.alloc())?;
+    match words.as_slice() {
+        [kind, path] => bench(&rt, kind.as_str(), path.as_str()),
+        _ => stored(&rt),
+    }
+}
