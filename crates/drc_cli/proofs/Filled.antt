@@ -1,5 +1,5 @@
 -- A buffer that is filled piece by piece.
-use Rattle.std.proofs.Common.{◌≡◌, ◌≤◌, ℕ, ◌+◌, ◌-◌, List, Option, ◌++◌, length, take, drop, subst, sym, ap, ◌∙◌, le_refl, length-take-le}
+use Rattle.std.proofs.Common.{◌≡◌, ◌≤◌, ℕ, ◌+◌, List, Option, ◌++◌, length, take, subst, sym, ap, ◌∙◌, le_refl, length-take-le}
 use lib.Seq.{take-append-le, take-append-add}
 use Rattle.std.proofs.lemmas.Slice.{take-put_mid_below}
 use Rattle.std.specs.Io.KnownBytes.{Consumes, Keeps}

@@ -1,4 +1,4 @@
-use Rattle.std.proofs.Common.{rules, arith, sym, subst, ℕ, ◌-◌, take, length}
+use Rattle.std.proofs.Common.{rules, sym, subst, ℕ, ◌-◌, take, length}
 use borrow.Rule.Slice.PartMut.{put_mid}
 use Rattle.std.specs.Io.KnownBytes.{Consumes}
 use Rattle.drc_cli.proofs.Filled.{Consumes-piece, Consumes-none}
