@@ -59,6 +59,7 @@ fn answer<R: AllocGlobal, F: Shelf, W: Sink>(
     ensures complete { ¬ (Rose (W.faults out.old) (W.faults out.new)) → ¬ (HasReadFault (reading_of_line line.now) (F.faults shelf.old) (F.faults shelf.new)) → (result < 4) ⊎ (result ≡ 6) }
     ensures exact { IfSome (F.files shelf.old) (λ files. (output : Output) → IsOutputFor (reading_of_line line.now) (Some files) output → result < 4 → result ≡ output.status) }
     ensures bound { result ≤ 6 }
+    ensures same { F.files shelf.new ≡ F.files shelf.old }
 {
     match words_of(rt.alloc(), line) {
         Ok(words) => run(rt, &words, shelf, out),
