@@ -1,0 +1,78 @@
+//! Checks a circuit board: `drc BOARD`.
+//!
+//! The report goes to standard output, and the exit status says how the run ended.
+#![tactic(auto)]
+
+ghost use Rattle.std.specs.Prelude.{◌≡◌, ◌<◌, ◌≤◌, ◌⊎◌, ℕ, List, Option, Some, IfOk, IfSome};
+ghost use Rattle.std.specs.Io.KnownBytes.{Appends};
+ghost use Rattle.drc_io.specs.Causes.{Rose};
+ghost use Rattle.drc_io.specs.Sinks.{AppendsFront};
+ghost use Rattle.drc_run.specs.Words.{words_of};
+ghost use Rattle.drc_run.specs.Output.{Output, IsOutputFor, IsFrontOfOutput, HasReadFault, cannot_read};
+ghost use Rattle.drc_run.specs.Endings.{Whole};
+ghost use Rattle.drc_cli.specs.CommandLine.{reading_of_line, words_after_name};
+
+mod outside;
+
+use drc_io::{Shelf, Sink};
+use drc_run::run;
+use outside::{FileShelf, StdoutSink};
+use std::alloc::{AllocError, Global};
+use std::env::Env;
+use std::io::ErrorKind;
+use std::process::ExitCode;
+use std::{env, io};
+
+/// The status where memory has no room for the words.
+const OUT_OF_MEMORY: u8 = 6;
+
+/// The words of the command line with the program's name. A line that is not text has none, and so no reading.
+fn command_line<R: Env + AllocGlobal>(rt: &R) -> Result<Vec<String>, AllocError> {
+    match env::args(rt) {
+        Ok(words) => words.collect(rt.alloc()),
+        Err(e) if e.kind() == ErrorKind::OutOfMemory => Err(AllocError),
+        Err(_) => Ok(Vec::new(rt.alloc())),
+    }
+}
+
+/// The words behind the program's name.
+fn words_of(alloc: Global, line: &[String]) -> Result<Vec<&str>, AllocError>
+    ensures { IfOk result (λ words. words_of words.items ≡ words_after_name line.now) }
+{
+    line.iter().skip(1).map(|word| word.as_str()).collect(alloc)
+}
+
+/// Runs the program on a command line and says with which status it ends. What the status says, it says of the
+/// words behind the program's name.
+fn answer<R: AllocGlobal, F: Shelf, W: Sink>(
+    rt: &R,
+    line: &[String],
+    shelf: &mut F,
+    out: &mut W,
+) -> u8
+    ensures whole { result < 4 → Whole (IsOutputFor (reading_of_line line.now) (F.files shelf.old)) (W.written out.old) (W.written out.new) result }
+    ensures read { result ≡ 4 → HasReadFault (reading_of_line line.now) (F.faults shelf.old) (F.faults shelf.new) × Appends (W.written out.old) (W.written out.new) cannot_read }
+    ensures write { result ≡ 5 → Rose (W.faults out.old) (W.faults out.new) }
+    ensures part { result ≡ 5 → IsFrontOfOutput (reading_of_line line.now) (F.files shelf.old) (W.written out.old) (W.written out.new)
+        ⊎ (HasReadFault (reading_of_line line.now) (F.faults shelf.old) (F.faults shelf.new) × AppendsFront (W.written out.old) (W.written out.new) cannot_read) }
+    ensures memory { result ≡ 6 → IsFrontOfOutput (reading_of_line line.now) (F.files shelf.old) (W.written out.old) (W.written out.new) }
+    ensures complete { ¬ (Rose (W.faults out.old) (W.faults out.new)) → ¬ (HasReadFault (reading_of_line line.now) (F.faults shelf.old) (F.faults shelf.new)) → (result < 4) ⊎ (result ≡ 6) }
+    ensures exact { IfSome (F.files shelf.old) (λ files. (output : Output) → IsOutputFor (reading_of_line line.now) (Some files) output → result < 4 → result ≡ output.status) }
+    ensures bound { result ≤ 6 }
+    ensures same { F.files shelf.new ≡ F.files shelf.old }
+{
+    match words_of(rt.alloc(), line) {
+        Ok(words) => run(rt, &words, shelf, out),
+        Err(_) => OUT_OF_MEMORY,
+    }
+}
+
+fn main(rt: HostRuntime) -> ExitCode {
+    let mut shelf = FileShelf::new(&rt);
+    let mut out = StdoutSink::new(io::writer(&rt));
+    let status = match command_line(&rt) {
+        Ok(line) => answer(&rt, &line, &mut shelf, &mut out),
+        Err(_) => OUT_OF_MEMORY,
+    };
+    ExitCode::from(status)
+}
