@@ -1,0 +1,118 @@
+-- What is left to be read at each point of a text: which rests complete it, and to which value.
+-- This is what the reader keeps, and no caller needs it.
+use Rattle.std.specs.Prelude.{◌≡◌, ◌≢◌, ℕ, suc, ◌+◌, ◌-◌, ◌<◌, ◌≤◌, ◌⊎◌, List, [], ◌∷◌, ◌++◌, length, take, slice_index, Bool, true, false, IsTrue, Option, Some, None}
+use Rattle.json_exact.specs.Json.{Leaf, word, number, string, Word, null_word, true_word, false_word, Bracket, square, curly, Name, Json, leaf, nest, Parts, no_parts, part}
+use Rattle.json_exact.specs.Characters.{within}
+use Rattle.json_exact.specs.JsonText.{Blanks, Spells, SpellsLeaf, SpellsFirst, SpellsMore, SpellsPart, SpelledWithin, closing}
+use Rattle.json_exact.specs.Refusals.{depth_limit, CanGoOn}
+use Rattle.json_exact.specs.declared.cells.Kind.{Kind}
+use Rattle.json_exact.specs.declared.cells.Kind.TheVariants.{Null, True, False, Number, String, List as AList, Object}
+use Rattle.json_exact.specs.declared.cells.Cell.{Cell}
+
+-- Open brackets: where they opened, the parts within them so far, the last one first, and the name
+-- that was read for the next.
+pub record Frame : Type 0 where
+  pub kind : Bracket
+  pub from : ℕ
+  pub done : List (Option Name × Json)
+  pub name : Option Name
+
+-- the parts of a list, the last one first, before others
+abbrev pub onto : List (Option Name × Json) → Parts → Parts
+onto [] ps = ps
+onto (d ∷ ds) ps = onto ds (part d.0 d.1 ps)
+
+abbrev pub levels_left : ℕ → List Frame → ℕ
+levels_left levels fs = levels - length fs
+
+-- the brackets of the frame, closed behind the parts
+abbrev pub closed : Frame → ℕ → Parts → Json
+closed f to ps = nest f.kind f.from to (onto f.done ps)
+
+-- A rest completes the open brackets around a whole value w to the value v of a whole text.
+abbrev pub Behind : ℕ → ℕ → List Frame → Json → List ℕ → Json → Type 0
+Behind levels n [] w rest v = Blanks rest [] × (v ≡ w)
+Behind levels n (f ∷ fs) w rest v =
+    (ps : Parts) × (to : ℕ) × (s : List ℕ) × SpellsMore n (levels_left levels (f ∷ fs)) f.kind ps to rest s
+    × Behind levels n fs (closed f to (part f.name w ps)) s v
+
+-- the same, where a value comes first
+abbrev pub Before : ℕ → ℕ → List Frame → List ℕ → Json → Type 0
+Before levels n fs rest v =
+    (w : Json) × (s t : List ℕ) × Blanks rest s × Spells n (levels_left levels fs) w s t × Behind levels n fs w t v
+
+-- the same, behind an opening bracket
+abbrev pub Opened : ℕ → ℕ → Frame → List Frame → List ℕ → Json → Type 0
+Opened levels n f fs rest v =
+    (ps : Parts) × (to : ℕ) × (s : List ℕ) × SpellsFirst n (levels_left levels (f ∷ fs)) f.kind ps to rest s
+    × Behind levels n fs (closed f to ps) s v
+
+-- the same, where a name comes first, and where the colon behind it does
+abbrev pub BeforeName : ℕ → ℕ → Frame → List Frame → List ℕ → Json → Type 0
+BeforeName levels n f fs rest v =
+    (name : Name) × (s t u : List ℕ) × Blanks rest s × SpellsLeaf n (string name.text) name.from name.to s t
+    × Blanks t (58 ∷ u) × Before levels n (record f { name = Some name } ∷ fs) u v
+
+abbrev pub BeforeColon : ℕ → ℕ → List Frame → List ℕ → Json → Type 0
+BeforeColon levels n fs rest v = (u : List ℕ) × Blanks rest (58 ∷ u) × Before levels n fs u v
+
+-- what a number may be written on with
+abbrev pub IsInNumber : ℕ → Type 0
+IsInNumber b = IsTrue (within 48 57 b) ⊎ (IsTrue (within 43 46 b) ⊎ ((b ≡ 69) ⊎ (b ≡ 101)))
+
+-- Behind a number only such rests count as do not write it on.
+abbrev pub Counts : Bool → List ℕ → Type 0
+Counts false rest = Unit {0}
+Counts true [] = Unit {0}
+Counts true (b ∷ rest) = IsInNumber b → ⊥
+
+-- The texts that begin as this one does up to `at` are those whose rest is one of `Rest`, with the same value.
+pub record Agrees (text : List ℕ) (at : ℕ) (behind_number : Bool) (Rest : ℕ → ℕ → List ℕ → Json → Type 0) : Type 0 where
+  pub in_text : at ≤ length text
+  pub into : (more : ℕ) (rest : List ℕ) (v : Json) → Counts behind_number rest → SpelledWithin (depth_limit + more) (take at text ++ rest) v → Rest (depth_limit + more) (at + length rest) rest v
+  pub back : (more : ℕ) (rest : List ℕ) (v : Json) → Counts behind_number rest → Rest (depth_limit + more) (at + length rest) rest v → SpelledWithin (depth_limit + more) (take at text ++ rest) v
+  pub letters : (s : ℕ) → s < at → slice_index text s ≡ 92 → CanGoOn depth_limit (take s text ++ 120 ∷ [])
+      → (j : ℕ) × (s < j) × (j ≤ at) × CanGoOn depth_limit (take j text ++ 120 ∷ [])
+
+-- ---- the cells of a value, and of open brackets
+
+abbrev pub kind_of : Leaf → Kind
+kind_of (word null_word) = Null
+kind_of (word true_word) = True
+kind_of (word false_word) = False
+kind_of (number digits) = Number
+kind_of (string text) = String
+
+abbrev pub kind_of_bracket : Bracket → Kind
+kind_of_bracket square = AList
+kind_of_bracket curly = Object
+
+abbrev pub cell : Kind → ℕ → ℕ → ℕ → Cell
+cell k from to inside = record { kind = k; at = from; end = to; inside = inside }
+
+abbrev pub name_cells : Option Name → List Cell
+name_cells None = []
+name_cells (Some name) = cell String name.from name.to 0 ∷ []
+
+abbrev mutual
+  pub cells_of : Json → List Cell
+  cells_of (leaf l from to) = cell (kind_of l) from to 0 ∷ []
+  cells_of (nest b from to ps) = cell (kind_of_bracket b) from to (length (cells_in ps)) ∷ cells_in ps
+
+  pub cells_in : Parts → List Cell
+  cells_in no_parts = []
+  cells_in (part name v ps) = name_cells name ++ (cells_of v ++ cells_in ps)
+
+abbrev pub cells_done : List (Option Name × Json) → List Cell
+cells_done [] = []
+cells_done (d ∷ ds) = cells_done ds ++ (name_cells d.0 ++ cells_of d.1)
+
+-- Until its bracket closes, a cell has as its end the place, among the cells, of the bracket around it.
+abbrev mutual
+  pub top_of : List Frame → ℕ
+  top_of [] = 0
+  top_of (f ∷ fs) = length (open_cells fs)
+
+  pub open_cells : List Frame → List Cell
+  open_cells [] = []
+  open_cells (f ∷ fs) = open_cells fs ++ (cell (kind_of_bracket f.kind) f.from (top_of fs) 0 ∷ (cells_done f.done ++ name_cells f.name))

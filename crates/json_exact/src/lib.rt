@@ -1,0 +1,18 @@
+//! An exact reader of JSON (RFC 8259, in UTF-8). Numbers stay slices of the text, strings stay where
+//! they are until they are asked for, and a refusal says at which byte the text went wrong.
+#![tactic(auto)]
+
+mod cells;
+mod decode;
+mod error;
+mod reader;
+mod scan;
+mod strings;
+mod handles;
+
+pub use error::JsonError;
+pub use reader::parse;
+pub use handles::Items;
+pub use handles::Json;
+pub use handles::Span;
+pub use handles::Value;
