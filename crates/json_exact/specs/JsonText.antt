@@ -1,7 +1,7 @@
 -- Which JSON value a text spells (RFC 8259, section 2). `text` is what stands at some place, `rest` what
 -- stands behind the value there, and n is the length of the whole text: what is left to its end tells the place.
 -- `levels` is how deep brackets may nest.
-use Rattle.std.specs.Prelude.{◌≡◌, ℕ, suc, ◌+◌, List, [], ◌∷◌, ◌++◌, length, Bool, ◌||◌, ◌==◌, IsTrue, Option, Some, None, All}
+use Rattle.std.specs.Prelude.{◌≡◌, ℕ, suc, ◌+◌, List, [], ◌∷◌, ◌++◌, length, Bool, ◌||◌, ◌==◌, IsTrue, Option, Some, None}
 use Rattle.json_exact.specs.Json.{Word, null_word, true_word, false_word, Leaf, word, number, string, Bracket, square, curly, Name, Json, leaf, nest, Parts, no_parts, part}
 use Rattle.json_exact.specs.Characters.{AreCharacters, decoded}
 use Rattle.json_exact.specs.Numbers.{IsNumber}
@@ -11,7 +11,8 @@ abbrev pub is_blank : ℕ → Bool
 is_blank b = (b == 32) || ((b == 9) || ((b == 10) || (b == 13)))
 
 abbrev pub AreBlanks : List ℕ → Type 0
-AreBlanks bytes = All (λ b. IsTrue (is_blank b)) bytes
+AreBlanks [] = Unit {0}
+AreBlanks (b ∷ bs) = IsTrue (is_blank b) × AreBlanks bs
 
 -- text is blanks, and then rest
 abbrev pub Blanks : List ℕ → List ℕ → Type 0

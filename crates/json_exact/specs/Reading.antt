@@ -2,7 +2,7 @@
 -- This is what the reader keeps, and no caller needs it.
 use Rattle.std.specs.Prelude.{◌≡◌, ◌≢◌, ℕ, suc, ◌+◌, ◌-◌, ◌<◌, ◌≤◌, ◌⊎◌, List, [], ◌∷◌, ◌++◌, length, take, slice_index, Bool, true, false, IsTrue, Option, Some, None}
 use Rattle.json_exact.specs.Json.{Leaf, word, number, string, Word, null_word, true_word, false_word, Bracket, square, curly, Name, Json, leaf, nest, Parts, no_parts, part}
-use Rattle.json_exact.specs.Characters.{within}
+use Rattle.json_exact.specs.Scans.{is_in_number}
 use Rattle.json_exact.specs.JsonText.{Blanks, Spells, SpellsLeaf, SpellsFirst, SpellsMore, SpellsPart, SpelledWithin, closing}
 use Rattle.json_exact.specs.Refusals.{depth_limit, CanGoOn}
 use Rattle.json_exact.specs.declared.cells.Kind.{Kind}
@@ -56,21 +56,24 @@ BeforeName levels n f fs rest v =
 abbrev pub BeforeColon : ℕ → ℕ → List Frame → List ℕ → Json → Type 0
 BeforeColon levels n fs rest v = (u : List ℕ) × Blanks rest (58 ∷ u) × Before levels n fs u v
 
--- what a number may be written on with
-abbrev pub IsInNumber : ℕ → Type 0
-IsInNumber b = IsTrue (within 48 57 b) ⊎ (IsTrue (within 43 46 b) ⊎ ((b ≡ 69) ⊎ (b ≡ 101)))
+-- Which rests are looked at: any; behind a number only those that do not write it on; behind an opening
+-- bracket, once no closing one was found, only those that do not close it.
+pub data Limit : Type 0 where
+  any : Limit
+  no_number : Limit
+  no_closing : Bracket → Limit
 
--- Behind a number only such rests count as do not write it on.
-abbrev pub Counts : Bool → List ℕ → Type 0
-Counts false rest = Unit {0}
-Counts true [] = Unit {0}
-Counts true (b ∷ rest) = IsInNumber b → ⊥
+abbrev pub Counts : Limit → List ℕ → Type 0
+Counts any rest = Unit {0}
+Counts no_number [] = Unit {0}
+Counts no_number (b ∷ rest) = is_in_number b ≡ false
+Counts (no_closing b) rest = (s : List ℕ) → Blanks rest (closing b ∷ s) → ⊥
 
 -- The texts that begin as this one does up to `at` are those whose rest is one of `Rest`, with the same value.
-pub record Agrees (text : List ℕ) (at : ℕ) (behind_number : Bool) (Rest : ℕ → ℕ → List ℕ → Json → Type 0) : Type 0 where
+pub record Agrees (text : List ℕ) (at : ℕ) (limit : Limit) (Rest : ℕ → ℕ → List ℕ → Json → Type 0) : Type 0 where
   pub in_text : at ≤ length text
-  pub into : (more : ℕ) (rest : List ℕ) (v : Json) → Counts behind_number rest → SpelledWithin (depth_limit + more) (take at text ++ rest) v → Rest (depth_limit + more) (at + length rest) rest v
-  pub back : (more : ℕ) (rest : List ℕ) (v : Json) → Counts behind_number rest → Rest (depth_limit + more) (at + length rest) rest v → SpelledWithin (depth_limit + more) (take at text ++ rest) v
+  pub into : (more : ℕ) (rest : List ℕ) (v : Json) → Counts limit rest → SpelledWithin (depth_limit + more) (take at text ++ rest) v → Rest (depth_limit + more) (at + length rest) rest v
+  pub back : (more : ℕ) (rest : List ℕ) (v : Json) → Counts limit rest → Rest (depth_limit + more) (at + length rest) rest v → SpelledWithin (depth_limit + more) (take at text ++ rest) v
   pub letters : (s : ℕ) → s < at → slice_index text s ≡ 92 → CanGoOn depth_limit (take s text ++ 120 ∷ [])
       → (j : ℕ) × (s < j) × (j ≤ at) × CanGoOn depth_limit (take j text ++ 120 ∷ [])
 

@@ -16,3 +16,6 @@ pub use handles::Items;
 pub use handles::Json;
 pub use handles::Span;
 pub use handles::Value;
+
+#[cfg(test)]
+mod tests;
