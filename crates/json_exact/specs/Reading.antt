@@ -3,7 +3,7 @@
 use Rattle.std.specs.Prelude.{◌≡◌, ◌≢◌, ℕ, suc, ◌+◌, ◌-◌, ◌<◌, ◌≤◌, ◌⊎◌, List, [], ◌∷◌, ◌++◌, length, take, slice_index, Bool, true, false, IsTrue, Option, Some, None}
 use Rattle.json_exact.specs.Json.{Leaf, word, number, string, Word, null_word, true_word, false_word, Bracket, square, curly, Name, Json, leaf, nest, Parts, no_parts, part}
 use Rattle.json_exact.specs.Scans.{is_in_number}
-use Rattle.json_exact.specs.JsonText.{Blanks, Spells, SpellsLeaf, SpellsFirst, SpellsMore, SpellsPart, SpelledWithin, closing}
+use Rattle.json_exact.specs.JsonText.{Blanks, closing, Spells, SpellsLeaf, SpellsFirst, SpellsMore, SpellsPart, SpelledWithin}
 use Rattle.json_exact.specs.Refusals.{depth_limit, CanGoOn}
 use Rattle.json_exact.specs.declared.cells.Kind.{Kind}
 use Rattle.json_exact.specs.declared.cells.Kind.TheVariants.{Null, True, False, Number, String, List as AList, Object}
