@@ -3,3 +3,4 @@ pub mod Walks
 pub mod Ways
 pub mod Digits
 pub mod Blanks
+pub mod Steps
