@@ -4,3 +4,5 @@ pub mod Ways
 pub mod Digits
 pub mod Blanks
 pub mod Steps
+pub mod Leaves
+pub mod Stuck
