@@ -6,3 +6,5 @@ pub mod Blanks
 pub mod Steps
 pub mod Leaves
 pub mod Stuck
+pub mod Endings
+pub mod Agreeing

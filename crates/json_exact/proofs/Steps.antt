@@ -271,7 +271,7 @@ pub leaf_back : (d n : ℕ) (fs : List Frame) (l : Leaf) (bytes : List ℕ) (fro
     → from + length (bytes ++ t) ≡ n → to + length t ≡ n → Behind d n fs (leaf l from to) t v → Before d n fs (bytes ++ t) v
 leaf_back d n fs l bytes from to t v h p q bh = (leaf l from to, bytes ++ t, t, no_blanks (bytes ++ t), (bytes, h, refl, p, q), bh)
 
-closing_clear : (b : Bracket) → is_in_number (closing b) ≡ false
+pub closing_clear : (b : Bracket) → is_in_number (closing b) ≡ false
 closing_clear square = refl
 closing_clear curly = refl
 
