@@ -157,3 +157,109 @@ letter_inside text at j limit Rest a t c h k q alive inside can =
     let e : (take j text ++ 120 ∷ []) ++ r ≡ take at text ++ (34 ∷ (p ++ 120 ∷ r)) = e1 ∙ e2 ∙ ap (λ (x : List ℕ). take at text ++ x) e3 in
     let stuck : Stuck p 120 = record { alive = alive; quote = λ _. eqb-false 120 34 refl; stuck = no_letter_inside (steps whole p) (tidy_steps whole p tt) inside } in
     t.dead 0 _ p 120 r can.1 stuck (a.into 0 (34 ∷ (p ++ 120 ∷ r)) can.1 (c (p ++ 120 ∷ r)) (subst (λ (x : List ℕ). SpelledWithin depth_limit x can.1) e can.2))
+
+-- ---- a string that ends, and one that does not
+
+pub string_letters : (text : List ℕ) (at e : ℕ) (limit : Limit) (Rest : ℕ → ℕ → List ℕ → Json → Type 0) → Agrees text at limit Rest → TakesString Rest
+    → ((q : List ℕ) → Counts limit (34 ∷ q)) → slice_index text at ≡ 34 → EndsString text (suc at) e
+    → (s : ℕ) → at ≤ s → s < e → slice_index text s ≡ 92 → (j : ℕ) × (s < j) × (j ≤ e) × CanGoOn depth_limit (take j text ++ 120 ∷ [])
+string_letters text at e limit Rest a t c q h s le lt b =
+    let f : suc at < e = h.forward in
+    let g : e ≤ length text = h.in_text in
+    let ne : s ≡ e - 1 → ⊥ = λ i. eqb-false 92 34 refl (sym b ∙ ap (λ (x : ℕ). slice_index text x) i ∙ h.quote) in
+    (e - 1, omega (arith, ne), omega arith, letter_between text at (e - 1) limit Rest a t c (omega arith) (omega arith) q h.characters)
+
+-- what a string is, as a leaf
+pub string_bytes : (text : List ℕ) (at e : ℕ) → slice_index text at ≡ 34 → EndsString text (suc at) e
+    → slice_range text at e ≡ 34 ∷ slice_range text (suc at) (e - 1) ++ 34 ∷ []
+string_bytes text at e q h =
+    let f : suc at < e = h.forward in
+    let g : e ≤ length text = h.in_text in
+    let l : suc (e - 1) ≡ e = omega arith in
+    let lt : e - 1 < length text = omega arith in
+    let le : at ≤ e - 1 = omega arith in
+    let le' : at < e - 1 = omega arith in
+    let last : slice_range text at (suc (e - 1)) ≡ slice_range text at (e - 1) ++ slice_index text (e - 1) ∷ [] = range_more text at (e - 1) le lt in
+    let last' : slice_range text at e ≡ slice_range text at (e - 1) ++ slice_index text (e - 1) ∷ [] = subst (λ (m : ℕ). slice_range text at m ≡ slice_range text at (e - 1) ++ slice_index text (e - 1) ∷ []) l last in
+    last' ∙ ap (λ (x : ℕ). slice_range text at (e - 1) ++ x ∷ []) h.quote ∙ ap (λ (x : List ℕ). x ++ 34 ∷ []) (from_quote text at (e - 1) le' (omega arith) q)
+
+not_alone_here : (text : List ℕ) (at i k : ℕ) (limit : Limit) (Rest : ℕ → ℕ → List ℕ → Json → Type 0) → Agrees text at limit Rest → TakesString Rest
+    → ((q : List ℕ) → Counts limit (34 ∷ q)) → slice_index text at ≡ 34 → StopsString text (suc at) i k → (IsHalf text i k → ⊥) → (s : ℕ) → IsAlone text s k
+    → slice_index text s ≡ 92 → at ≤ s → ((s < i) ⊎ (i ≤ s)) → ((i < s) ⊎ (s ≤ i)) → ⊥
+not_alone_here text at i k limit Rest a t c q h half s x b le (inl lt) z =
+    let f : suc at ≤ i = h.forward in
+    let o : i ≤ k = h.order in
+    let l : k ≤ length text = h.in_text in
+    x.no_letter i lt o (letter_between text at i limit Rest a t c (omega arith) (omega arith) q h.characters)
+not_alone_here text at i k limit Rest a t c q h half s x b le (inr ge) (inl gt) =
+    let f : suc at ≤ i = h.forward in
+    let o : s ≤ k = x.order in
+    let l : k ≤ length text = h.in_text in
+    letter_inside text at s limit Rest a t c (omega arith) (omega arith) q (refused_on text (suc at) s k (omega arith) o l h.before) (h.inside s gt o) x.letter
+not_alone_here text at i k limit Rest a t c q h half s x b le (inr ge) (inr le') =
+    let e : s ≡ i = omega arith in
+    half (record { stops_inside = x.stops_inside; surrogate = subst (λ (m : ℕ). IsSurrogate (slice_range text m (suc k))) e x.surrogate })
+
+no_later_by : (text : List ℕ) (a i k : ℕ) → ((j : ℕ) → i < j → j ≤ k → steps whole (slice_range text a j) ≢ whole) → steps whole (slice_range text a k) ≡ whole → ((i < k) ⊎ (k ≤ i)) → k ≤ i
+no_later_by text a i k inside w (inl lt) = absurd (inside k lt (omega arith) w)
+no_later_by text a i k inside w (inr le) = le
+
+no_later : (text : List ℕ) (a i k : ℕ) → i ≤ k → ((j : ℕ) → i < j → j ≤ k → steps whole (slice_range text a j) ≢ whole) → steps whole (slice_range text a k) ≡ whole → i ≡ k
+no_later text a i k h inside w = (let le : k ≤ i = no_later_by text a i k inside w (cases_lt i k) in omega arith)
+
+not_alone : (text : List ℕ) (at i k : ℕ) (limit : Limit) (Rest : ℕ → ℕ → List ℕ → Json → Type 0) → Agrees text at limit Rest → TakesString Rest
+    → ((q : List ℕ) → Counts limit (34 ∷ q)) → slice_index text at ≡ 34 → StopsString text (suc at) i k → (IsHalf text i k → ⊥) → (s : ℕ) → IsAlone text s k → ⊥
+not_alone text at i k limit Rest a t c q h half s x =
+    let f : suc at ≤ i = h.forward in
+    let o : i ≤ k = h.order in
+    let l : k ≤ length text = h.in_text in
+    let b : slice_index text s ≡ 92 = surrogate_first text s k x.order x.surrogate in
+    elim (cases_lt s at)
+    [ inl lt ↦ (let y = a.letters s lt b x.letter in x.no_letter y.0 y.1 (omega (arith, y.2)) y.3)
+    | inr le ↦ not_alone_here text at i k limit Rest a t c q h half s x b le (cases_lt s i) (cases_lt i s) ]
+
+string_halts : (text : List ℕ) (at i k : ℕ) (limit : Limit) (Rest : ℕ → ℕ → List ℕ → Json → Type 0) → Agrees text at limit Rest → TakesString Rest
+    → ((q : List ℕ) → Counts limit (34 ∷ q)) → slice_index text at ≡ 34 → StopsString text (suc at) i k → Halts text at k limit Rest
+string_halts text at i k limit Rest a t c q h =
+    let f : suc at ≤ i = h.forward in
+    let o : i ≤ k = h.order in
+    let l : k ≤ length text = h.in_text in
+    let lt : at < k = omega arith in
+    let p : List ℕ = slice_range text (suc at) k in
+    let all : slice_range text at k ≡ 34 ∷ p = from_quote text at k lt l q in
+    let counts : (r : List ℕ) → Counts limit (slice_range text at k ++ r) = λ r. subst (λ (x : List ℕ). Counts limit (x ++ r)) (sym all) (c (p ++ r)) in
+    let longer : k < length text → slice_range text at (suc k) ≡ 34 ∷ (p ++ slice_index text k ∷ []) = λ in'. range_more text at k (omega arith) in' ∙ ap (λ (x : List ℕ). x ++ slice_index text k ∷ []) all in
+    let stuck : k < length text → Stuck p (slice_index text k) = λ in'. record {
+      alive = h.before;
+      quote = λ w. h.quote in' (no_later text (suc at) i k o h.inside w);
+      stuck = sym (ap (steps whole) (range_more text (suc at) k (omega arith) in') ∙ steps-append whole p (slice_index text k ∷ [])) ∙ h.byte in'
+    } in
+    let i' : EndsBehind depth_limit at (34 ∷ p) Rest = t.ends at p h.before in
+    record {
+      alive = record { rest = i'.rest; value = i'.value; ends = subst (λ (x : List ℕ). Rest depth_limit (at + length (x ++ i'.rest)) (x ++ i'.rest) i'.value) (sym all) i'.ends };
+      alive_counts = λ r v _. counts r;
+      dead = λ in' more n r v x. t.dead more n p (slice_index text k) r v (stuck in')
+          (subst (λ (y : List ℕ). Rest (depth_limit + more) n y v) (ap (λ (y : List ℕ). y ++ r) (longer in') ∙ ap (λ (y : List ℕ). 34 ∷ y) (append_assoc p (slice_index text k ∷ []) r)) x);
+      dead_counts = λ in' r. subst (λ (y : List ℕ). Counts limit (y ++ r)) (sym (longer in')) (c ((p ++ slice_index text k ∷ []) ++ r));
+      over = λ e more n v x. t.over more n p v h.before (subst (λ (y : List ℕ). Rest (depth_limit + more) n y v) all x);
+      over_counts = λ e. subst (λ (y : List ℕ). Counts limit y) (sym all) (c p)
+    }
+
+pub string_stops : (text : List ℕ) (at counted : ℕ) (limit : Limit) (Rest : ℕ → ℕ → List ℕ → Json → Type 0) → Agrees text at limit Rest → TakesString Rest
+    → ((q : List ℕ) → Counts limit (34 ∷ q)) → slice_index text at ≡ 34 → CountsString text (suc at) counted → IsBad text counted
+string_stops text at counted limit Rest a t c q (i, k, h, inl half) =
+    let f : suc at ≤ i = h.forward in
+    let o : i ≤ k = h.order in
+    let l : k ≤ length text = h.in_text in
+    let alone : IsAlone text i k = record {
+      order = o; stops_inside = half.0.stops_inside;
+      letter = letter_between text at i limit Rest a t c (omega arith) (omega arith) q h.characters;
+      no_letter = λ j lt le can. letter_inside text at j limit Rest a t c (omega arith) (omega arith) q (refused_on text (suc at) j k (omega arith) le l h.before) (h.inside j lt le) can;
+      surrogate = half.0.surrogate
+    } in
+    (k, stops text at k limit Rest a (omega arith) l (string_halts text at i k limit Rest a t c q h), inl (subst (λ (x : ℕ). IsAlone text x k) (sym half.1) alone))
+string_stops text at counted limit Rest a t c q (i, k, h, inr other) =
+    let f : suc at ≤ i = h.forward in
+    let o : i ≤ k = h.order in
+    let l : k ≤ length text = h.in_text in
+    (k, stops text at k limit Rest a (omega arith) l (string_halts text at i k limit Rest a t c q h), inr (λ s x. not_alone text at i k limit Rest a t c q h other.0 s x, other.1))
