@@ -8,3 +8,4 @@ pub mod Leaves
 pub mod Stuck
 pub mod Endings
 pub mod Agreeing
+pub mod Scanning

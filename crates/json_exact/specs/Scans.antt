@@ -113,11 +113,19 @@ pub record IsHalf (text : List ℕ) (at : ℕ) (k : ℕ) : Type 0 where
   pub stops_inside : k < length text
   pub surrogate : IsSurrogate (slice_range text at (suc k))
 
--- what is counted where the character at `at`, whose first byte may stand there, stops
-abbrev pub CountsCharacter : List ℕ → ℕ → ℕ → Type 0
-CountsCharacter text at counted =
-    (k : ℕ) × StopsWay (character (slice_index text at)) text (suc at) k
-    × ((IsHalf text at k × (counted ≡ at)) ⊎ ((IsHalf text at k → ⊥) × (counted ≡ k)))
+-- from `at` to `end` whole characters stand
+pub record PassesCharacter (text : List ℕ) (at : ℕ) (end : ℕ) : Type 0 where
+  pub forward : at < end
+  pub in_text : end ≤ length text
+  pub characters : AreCharacters (slice_range text at end)
+
+-- the character at `at` may go on up to k, and not with the byte at k
+pub record StopsCharacter (text : List ℕ) (at : ℕ) (k : ℕ) : Type 0 where
+  pub forward : at ≤ k
+  pub in_text : k ≤ length text
+  pub inside : (j : ℕ) → at < j → j ≤ k → steps whole (slice_range text at j) ≢ whole
+  pub before : steps whole (slice_range text at k) ≢ refused
+  pub byte : k < length text → steps whole (slice_range text at (suc k)) ≡ refused
 
 -- From `at`, just behind the opening quote, characters stand up to a closing quote before `end`.
 pub record EndsString (text : List ℕ) (at : ℕ) (end : ℕ) : Type 0 where

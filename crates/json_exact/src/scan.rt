@@ -1,7 +1,7 @@
 // Readers of what has no brackets: blanks, words and numbers.
 ghost use Rattle.std.specs.Prelude.{◌≡◌, ◌+◌, ◌<◌, ◌≤◌, length, MatchResult, slice_index};
 ghost use Rattle.json_exact.specs.JsonText.{is_blank};
-ghost use Rattle.json_exact.specs.Scans.{PassesBlanks, PassesWord, StopsWord, PassesNumber, StopsNumber, then, may_end};
+ghost use Rattle.json_exact.specs.Scans.{PassesBlanks, PassesWord, StopsWord, PassesNumber, StopsNumber, is_in_number, then, may_end};
 
 /// What a number was written with last.
 #[derive(Clone, Copy, Drop, PartialEq, Eq)]
@@ -100,6 +100,9 @@ pub(crate) fn number_end(text: &[u8], at: usize) -> Result<usize, usize>
     if last.may_end() { Ok(i) } else { Err(i) }
 }
 
-fn is_in_number(b: u8) -> bool {
+/// What may stand in a number at all.
+fn is_in_number(b: u8) -> bool
+    ensures { result ≡ is_in_number b }
+{
     matches!(b, b'0'..=b'9' | b'+' | b'-' | b'.' | b'e' | b'E')
 }

@@ -1,7 +1,7 @@
 // The reader of strings.
-ghost use Rattle.std.specs.Prelude.{◌≡◌, ◌≢◌, ◌+◌, ◌<◌, ◌≤◌, false, length, MatchResult, slice_index};
-ghost use Rattle.json_exact.specs.Characters.{is_plain, is_hex, is_d, is_high_digit, is_low_digit, is_short, escape, character};
-ghost use Rattle.json_exact.specs.Scans.{PassesWay, StopsWay, EndsString, CountsString, CountsCharacter, accepts, way_of};
+ghost use Rattle.std.specs.Prelude.{◌≡◌, ◌≢◌, ◌↔◌, ◌+◌, ◌<◌, ◌≤◌, false, length, MatchResult, slice_index, IsTrue};
+ghost use Rattle.json_exact.specs.Characters.{is_plain, is_hex, is_d, is_high_digit, is_low_digit, is_short, escape, digits, surrogate, two_digits, low_half};
+ghost use Rattle.json_exact.specs.Scans.{PassesWay, StopsWay, PassesCharacter, StopsCharacter, IsHalf, EndsString, CountsString, accepts, way_of};
 
 /// What one byte of a character may be.
 #[derive(Clone, Copy, Drop)]
@@ -87,52 +87,64 @@ fn row_end(text: &[u8], at: usize, row: &[Class]) -> Result<usize, usize>
     Ok(i)
 }
 
-/// The place behind an escape, of which `at` is the backslash, or the place that its fault counts at.
+/// The place behind an escape, of which the byte behind the backslash is at `at`, or where it stops.
 fn escape_end(text: &[u8], at: usize) -> Result<usize, usize>
-    requires here { at < length text.now }
-    requires backslash { slice_index text.now at ≡ 92 }
-    ensures { MatchResult result (PassesWay (character 92) text.now (at + 1)) (CountsCharacter text.now at) }
+    requires { at ≤ length text.now }
+    ensures { MatchResult result (PassesWay escape text.now at) (StopsWay escape text.now at) }
 {
-    let Some(letter) = text.get(at + 1).copied() else {
-        return Err(at + 1);
-    };
-    if is_short(letter) {
-        return Ok(at + 2);
+    if at == text.len() {
+        return Err(at);
     }
-    if letter != b'u' {
-        return Err(at + 1);
-    }
-    let Some(first) = text.get(at + 2).copied() else {
-        return Err(at + 2);
-    };
-    if is_d(first) {
-        surrogate_end(text, at)
-    } else if is_hex(first) {
-        row_end(text, at + 3, &[Class::Hex, Class::Hex, Class::Hex])
+    let b = text[at];
+    if is_short(b) {
+        Ok(at + 1)
+    } else if b == b'u' {
+        digits_end(text, at + 1)
     } else {
-        Err(at + 2)
+        Err(at)
+    }
+}
+
+/// The same, behind `\u`.
+fn digits_end(text: &[u8], at: usize) -> Result<usize, usize>
+    requires { at ≤ length text.now }
+    ensures { MatchResult result (PassesWay digits text.now at) (StopsWay digits text.now at) }
+{
+    if at == text.len() {
+        return Err(at);
+    }
+    let b = text[at];
+    if is_d(b) {
+        surrogate_end(text, at + 1)
+    } else if is_hex(b) {
+        row_end(text, at + 1, &[Class::Hex, Class::Hex, Class::Hex])
+    } else {
+        Err(at)
     }
 }
 
 /// The same, behind `\uD`.
 fn surrogate_end(text: &[u8], at: usize) -> Result<usize, usize>
+    requires { at ≤ length text.now }
+    ensures { MatchResult result (PassesWay surrogate text.now at) (StopsWay surrogate text.now at) }
 {
-    let Some(second) = text.get(at + 3).copied() else {
-        return Err(at + 3);
-    };
-    if 48 <= second && second <= 55 {
-        row_end(text, at + 4, &[Class::Hex, Class::Hex])
-    } else if is_high_digit(second) {
-        pair_end(text, at)
-    } else if is_low_digit(second) {
-        Err(at)
+    if at == text.len() {
+        return Err(at);
+    }
+    let b = text[at];
+    if 48 <= b && b <= 55 {
+        row_end(text, at + 1, &[Class::Hex, Class::Hex])
+    } else if is_high_digit(b) {
+        high_end(text, at + 1)
     } else {
-        Err(at + 3)
+        Err(at)
     }
 }
 
-/// The same, behind `\uD` and the next digit of a high surrogate.
-fn pair_end(text: &[u8], at: usize) -> Result<usize, usize>
+/// The same, behind the second digit of a high surrogate.
+fn high_end(text: &[u8], at: usize) -> Result<usize, usize>
+    requires { at ≤ length text.now }
+    ensures { MatchResult result (PassesWay (two_digits low_half) text.now at) (StopsWay (two_digits low_half) text.now at) }
 {
     let row = [
         Class::Hex,
@@ -144,19 +156,17 @@ fn pair_end(text: &[u8], at: usize) -> Result<usize, usize>
         Class::Hex,
         Class::Hex,
     ];
-    match row_end(text, at + 4, &row) {
-        Ok(end) => Ok(end),
-        Err(stop) if stop < at + 6 || stop == text.len() => Err(stop),
-        Err(_) => Err(at),
-    }
+    row_end(text, at, &row)
 }
 
-/// The place behind the character whose first byte, neither plain nor a quote, is at `at`, or the
-/// place that its fault counts at.
+/// The place behind the character of more than one byte at `at`, or where it stops.
 fn character_end(text: &[u8], at: usize) -> Result<usize, usize>
+    requires here { at < length text.now }
+    requires not_plain { is_plain (slice_index text.now at) ≡ false }
+    ensures { MatchResult result (PassesCharacter text.now at) (StopsCharacter text.now at) }
 {
     match text[at] {
-        b'\\' => escape_end(text, at),
+        b'\\' => escape_end(text, at + 1),
         194..=223 => row_end(text, at + 1, &[TAIL]),
         224 => row_end(text, at + 1, &[Class::Range(160, 191), TAIL]),
         225..=236 | 238..=239 => row_end(text, at + 1, &[TAIL, TAIL]),
@@ -166,6 +176,22 @@ fn character_end(text: &[u8], at: usize) -> Result<usize, usize>
         244 => row_end(text, at + 1, &[Class::Range(128, 143), TAIL, TAIL]),
         _ => Err(at),
     }
+}
+
+/// Whether the escape of a surrogate stands at `at`, and the text stops at `stop` since it stays alone.
+fn is_half(text: &[u8], at: usize, stop: usize) -> bool
+    requires order { at ≤ stop }
+    requires in_text { stop ≤ length text.now }
+    ensures { IsTrue result ↔ IsHalf text.now at stop }
+{
+    if stop == text.len() || stop - at < 3 {
+        return false;
+    }
+    if text[at] != b'\\' || text[at + 1] != b'u' || !is_d(text[at + 2]) {
+        return false;
+    }
+    let digit = text[at + 3];
+    is_low_digit(digit) || (is_high_digit(digit) && stop - at >= 6)
 }
 
 /// The place behind the closing quote of the string whose characters begin at `at`, or the place
@@ -180,11 +206,14 @@ pub(crate) fn string_end(text: &[u8], at: usize) -> Result<usize, usize>
         if b == b'"' {
             return Ok(i + 1);
         }
-        i = if is_plain(b) {
-            i + 1
+        if is_plain(b) {
+            i += 1;
         } else {
-            character_end(text, i)?
-        };
+            match character_end(text, i) {
+                Ok(end) => i = end,
+                Err(stop) => return Err(if is_half(text, i, stop) { i } else { stop }),
+            }
+        }
     }
     Err(i)
 }
