@@ -1,17 +1,17 @@
 -- One byte more in a scan.
-use Rattle.std.proofs.Common.{◌≡◌, ◌≢◌, ℕ, zero, suc, ◌+◌, ◌-◌, ◌<◌, ◌≤◌, List, [], ◌∷◌, ◌++◌, length, get_or, take, drop, Bool, true, false, cond, refl, sym, ◌∙◌, ap, subst, arith, ◌⊎◌, inl, inr}
-use Rattle.std.specs.Prelude.{slice_range, slice_index}
+use Rattle.std.proofs.Common.{◌≡◌, ◌≢◌, ℕ, zero, suc, ◌+◌, ◌-◌, ◌<◌, ◌≤◌, List, [], ◌∷◌, ◌++◌, length, get_or, take, drop, Bool, true, false, cond, refl, sym, ◌∙◌, ap, subst, arith, ◌⊎◌, inl, inr, Result, Ok, Err}
+use Rattle.std.specs.Prelude.{slice_range, slice_index, MatchResult}
 use denote.Enum.Bare.{sameb}
 use Rattle.json_exact.specs.contracts.scan.Last.{the_type}
 use Rattle.std.proofs.lemmas.Bool.{both_ways, cases_lt}
 use Rattle.std.proofs.lemmas.List.{drop_more}
-use Rattle.json_exact.specs.Characters.{Way, refused, whole, next, one, step, steps, character, AreCharacters}
-use Rattle.json_exact.specs.Scans.{then, written, way_of, accepts, PassesWay, StopsWay, PassesCharacter, StopsCharacter}
+use Rattle.json_exact.specs.Characters.{Way, refused, whole, next, one, step, steps, character, AreCharacters, is_d, is_low_digit, is_high_digit, is_plain}
+use Rattle.json_exact.specs.Scans.{then, written, way_of, accepts, PassesWay, StopsWay, PassesCharacter, StopsCharacter, StopsString, IsHalf}
 use Rattle.json_exact.specs.declared.strings.Class.{Class}
 use Rattle.json_exact.specs.JsonText.{is_blank, AreBlanks}
 use Rattle.json_exact.specs.declared.scan.Last.{Last}
 use Rattle.json_exact.specs.declared.scan.Last.TheVariants.{Nothing, Misplaced}
-use Rattle.json_exact.proofs.Ranges.{range_more, range_one, range_first, range_none}
+use Rattle.json_exact.proofs.Ranges.{range_more, range_one, range_first, range_none, range_byte, range_split, length_range}
 use Rattle.json_exact.proofs.Digits.{written-append}
 use Rattle.json_exact.proofs.Walks.{steps-append}
 
@@ -120,17 +120,13 @@ pub on : {A : Type 0} (b : Bool) (x y z : A) → b ≡ true → x ≡ z → cond
 on true x y z e h = h
 on false x y z e h = cc
 
-pub row_more : (row : List Class) (i : ℕ) (c : Class) (b : ℕ) → i < length row → c ≡ get_or row i c → accepts c b ≡ true → step (way_of (drop i row)) b ≡ way_of (drop (i + 1) row)
-row_more row i c b h e k =
-    let d : drop i row ≡ get_or row i c ∷ drop (i + 1) row = drop_more row i c h in
-    let d' : drop i row ≡ c ∷ drop (i + 1) row = d ∙ ap (λ (x : Class). x ∷ drop (i + 1) row) (sym e) in
-    ap (λ (x : List Class). step (way_of x) b) d' ∙ on (accepts c b) (way_of (drop (i + 1) row)) refused (way_of (drop (i + 1) row)) k refl
+pub row_more : (row : List Class) (i : ℕ) (d : Class) (b : ℕ) → i < length row → accepts (get_or row i d) b ≡ true → step (way_of (drop i row)) b ≡ way_of (drop (i + 1) row)
+row_more row i d b h k =
+    ap (λ (x : List Class). step (way_of x) b) (drop_more row i d h) ∙ on (accepts (get_or row i d) b) (way_of (drop (i + 1) row)) refused (way_of (drop (i + 1) row)) k refl
 
-pub row_less : (row : List Class) (i : ℕ) (c : Class) (b : ℕ) → i < length row → c ≡ get_or row i c → accepts c b ≡ false → step (way_of (drop i row)) b ≡ refused
-row_less row i c b h e k =
-    let d : drop i row ≡ get_or row i c ∷ drop (i + 1) row = drop_more row i c h in
-    let d' : drop i row ≡ c ∷ drop (i + 1) row = d ∙ ap (λ (x : Class). x ∷ drop (i + 1) row) (sym e) in
-    ap (λ (x : List Class). step (way_of x) b) d' ∙ off (accepts c b) (way_of (drop (i + 1) row)) refused refused k refl
+pub row_less : (row : List Class) (i : ℕ) (d : Class) (b : ℕ) → i < length row → accepts (get_or row i d) b ≡ false → step (way_of (drop i row)) b ≡ refused
+row_less row i d b h k =
+    ap (λ (x : List Class). step (way_of x) b) (drop_more row i d h) ∙ off (accepts (get_or row i d) b) (way_of (drop (i + 1) row)) refused refused k refl
 
 row_next : (row : List Class) (i : ℕ) → i < length row → (c : Class) × (cs : List Class) × (drop i row ≡ c ∷ cs)
 row_next [] i h = absurd (omega arith)
@@ -161,3 +157,100 @@ row_stops row n t a i h k l e below stuck = record {
 pub row_inside : (row : List Class) (n : ℕ) (t : List ℕ) (a i j : ℕ) → n < length row → steps (way_of row) (slice_range t a i) ≡ way_of (drop n row)
     → ((k : ℕ) → a ≤ k → k < i → steps (way_of row) (slice_range t a k) ≢ whole) → a ≤ j → j < i + 1 → steps (way_of row) (slice_range t a j) ≢ whole
 row_inside row n t a i j h e below k l = inside_more (way_of row) t a i j below (λ w. row_not_whole row n h (sym e ∙ w)) k (omega arith) (cases_lt j i)
+
+-- ---- what a reader of the rest answers, answered for the whole
+
+pub way_on : (w v : Way) (t : List ℕ) (a : ℕ) (r : Result ℕ ℕ) → a < length t → w ≢ whole → step w (get_or t a 0) ≡ v
+    → MatchResult r (PassesWay v t (a + 1)) (StopsWay v t (a + 1)) → MatchResult r (PassesWay w t a) (StopsWay w t a)
+way_on w v t a (Ok e) h n s p = (let one' : a + 1 ≡ suc a = omega arith in pass_on w v t a e h s (subst (λ (m : ℕ). PassesWay v t m e) one' p))
+way_on w v t a (Err k) h n s p = (let one' : a + 1 ≡ suc a = omega arith in stop_on w v t a k h n s (subst (λ (m : ℕ). StopsWay v t m k) one' p))
+
+pub character_on : (v : Way) (t : List ℕ) (a : ℕ) (r : Result ℕ ℕ) → a < length t → character (get_or t a 0) ≡ v
+    → MatchResult r (PassesWay v t (a + 1)) (StopsWay v t (a + 1)) → MatchResult r (PassesCharacter t a) (StopsCharacter t a)
+character_on v t a (Ok e) h s p = (let one' : a + 1 ≡ suc a = omega arith in character_passes v t a e h s (subst (λ (m : ℕ). PassesWay v t m e) one' p))
+character_on v t a (Err k) h s p = (let one' : a + 1 ≡ suc a = omega arith in character_stops v t a k h s (subst (λ (m : ℕ). StopsWay v t m k) one' p))
+
+-- ---- a surrogate's escape
+
+pub half_if : (t : List ℕ) (a k : ℕ) → k < length t → a + 3 ≤ k → get_or t a 0 ≡ 92 → get_or t (a + 1) 0 ≡ 117 → is_d (get_or t (a + 2) 0) ≡ true
+    → ((is_low_digit (get_or t (a + 3) 0) ≡ true) ⊎ ((is_high_digit (get_or t (a + 3) 0) ≡ true) × (a + 6 ≤ k))) → IsHalf t a k
+half_if t a k in' h b u d l =
+    let a1 : suc a ≡ a + 1 = omega arith in
+    let a2 : suc (suc a) ≡ a + 2 = omega arith in
+    let a3 : suc (suc (suc a)) ≡ a + 3 = omega arith in
+    let r : List ℕ = slice_range t (suc (suc (suc (suc a)))) (suc k) in
+    let e : slice_range t a (suc k) ≡ get_or t a 0 ∷ get_or t (suc a) 0 ∷ get_or t (suc (suc a)) 0 ∷ get_or t (suc (suc (suc a))) 0 ∷ r
+        = range_first t a (suc k) (omega arith) (omega arith) ∙ ap (λ (q : List ℕ). get_or t a 0 ∷ q) (range_first t (suc a) (suc k) (omega arith) (omega arith)
+        ∙ ap (λ (q : List ℕ). get_or t (suc a) 0 ∷ q) (range_first t (suc (suc a)) (suc k) (omega arith) (omega arith)
+        ∙ ap (λ (q : List ℕ). get_or t (suc (suc a)) 0 ∷ q) (range_first t (suc (suc (suc a))) (suc k) (omega arith) (omega arith)))) in
+    let u' : get_or t (suc a) 0 ≡ 117 = ap (λ (m : ℕ). get_or t m 0) a1 ∙ u in
+    let d' : is_d (get_or t (suc (suc a)) 0) ≡ true = ap (λ (m : ℕ). is_d (get_or t m 0)) a2 ∙ d in
+    let e' : slice_range t a (suc k) ≡ 92 ∷ 117 ∷ get_or t (suc (suc a)) 0 ∷ get_or t (suc (suc (suc a))) 0 ∷ r
+        = e ∙ ap (λ (x : ℕ). x ∷ get_or t (suc a) 0 ∷ get_or t (suc (suc a)) 0 ∷ get_or t (suc (suc (suc a))) 0 ∷ r) b
+        ∙ ap (λ (x : ℕ). 92 ∷ x ∷ get_or t (suc (suc a)) 0 ∷ get_or t (suc (suc (suc a))) 0 ∷ r) u' in
+    let len : length r ≡ suc k - suc (suc (suc (suc a))) = length_range t (suc (suc (suc (suc a)))) (suc k) (omega arith) in
+    let last : (is_low_digit (get_or t (suc (suc (suc a))) 0) ≡ true) ⊎ ((is_high_digit (get_or t (suc (suc (suc a))) 0) ≡ true) × (2 < length r))
+        = elim l [ inl x ↦ inl (ap (λ (m : ℕ). is_low_digit (get_or t m 0)) a3 ∙ x)
+                 | inr x ↦ inr (ap (λ (m : ℕ). is_high_digit (get_or t m 0)) a3 ∙ x.0, omega (arith, x.1)) ] in
+    record { stops_inside = in'; surrogate = (get_or t (suc (suc a)) 0, get_or t (suc (suc (suc a))) 0, r, e', d', last) }
+
+half_byte : (t : List ℕ) (a k j x : ℕ) (q : List ℕ) → slice_range t a (suc k) ≡ q → a + j < suc k → get_or q j 0 ≡ x → get_or t (a + j) 0 ≡ x
+half_byte t a k j x q e h f = sym (range_byte t a (suc k) j h) ∙ ap (λ (y : List ℕ). get_or y j 0) e ∙ f
+
+pub record Half (t : List ℕ) (a k : ℕ) : Type 0 where
+  pub in_text : k < length t
+  pub long : a + 3 ≤ k
+  pub backslash : get_or t a 0 ≡ 92
+  pub u : get_or t (a + 1) 0 ≡ 117
+  pub d : is_d (get_or t (a + 2) 0) ≡ true
+  pub digit : (is_low_digit (get_or t (a + 3) 0) ≡ true) ⊎ ((is_high_digit (get_or t (a + 3) 0) ≡ true) × (a + 6 ≤ k))
+
+pub half_only : (t : List ℕ) (a k : ℕ) → a ≤ k → IsHalf t a k → Half t a k
+half_only t a k le h =
+    let in' : k < length t = h.stops_inside in
+    let s = h.surrogate in
+    let q : List ℕ = 92 ∷ 117 ∷ s.0 ∷ s.1 ∷ s.2 in
+    let len : suc k - a ≡ length q = sym (length_range t a (suc k) in') ∙ ap length s.3 in
+    let long : a + 3 ≤ k = omega arith in
+    let z : a + 0 ≡ a = omega arith in
+    let b0 : get_or t (a + 0) 0 ≡ 92 = half_byte t a k 0 92 q s.3 (omega arith) refl in
+    let b1 : get_or t (a + 1) 0 ≡ 117 = half_byte t a k 1 117 q s.3 (omega arith) refl in
+    let b2 : get_or t (a + 2) 0 ≡ s.0 = half_byte t a k 2 s.0 q s.3 (omega arith) refl in
+    let b3 : get_or t (a + 3) 0 ≡ s.1 = half_byte t a k 3 s.1 q s.3 (omega arith) refl in
+    record {
+      in_text = in'; long = long; backslash = subst (λ (m : ℕ). get_or t m 0 ≡ 92) z b0; u = b1; d = ap is_d b2 ∙ s.4;
+      digit = elim s.5 [ inl x ↦ inl (ap is_low_digit b3 ∙ x) | inr x ↦ inr (ap is_high_digit b3 ∙ x.0, omega (arith, x.1)) ]
+    }
+
+-- ---- a string, character by character
+
+pub characters_on : (t : List ℕ) (a i e : ℕ) → a ≤ i → AreCharacters (slice_range t a i) → PassesCharacter t i e → AreCharacters (slice_range t a e)
+characters_on t a i e h w p =
+    let f : i < e = p.forward in
+    ap (steps whole) (range_split t a i e h (omega arith) p.in_text) ∙ steps-append whole (slice_range t a i) (slice_range t i e) ∙ ap (λ (x : Way). steps x (slice_range t i e)) w ∙ p.characters
+
+pub plain_on : (t : List ℕ) (a i : ℕ) → a ≤ i → i < length t → AreCharacters (slice_range t a i) → is_plain (get_or t i 0) ≡ true → AreCharacters (slice_range t a (i + 1))
+plain_on t a i h k w p =
+    ap (steps whole) (one_more t a i h k) ∙ steps-append whole (slice_range t a i) (get_or t i 0 ∷ []) ∙ ap (λ (x : Way). step x (get_or t i 0)) w
+    ∙ on (is_plain (get_or t i 0)) whole _ whole p refl
+
+shift : (t : List ℕ) (a i j : ℕ) → a ≤ i → i ≤ j → j ≤ length t → AreCharacters (slice_range t a i) → steps whole (slice_range t a j) ≡ steps whole (slice_range t i j)
+shift t a i j h k l w = ap (steps whole) (range_split t a i j h k l) ∙ steps-append whole (slice_range t a i) (slice_range t i j) ∙ ap (λ (x : Way). steps x (slice_range t i j)) w
+
+pub string_stops_at : (t : List ℕ) (a i k : ℕ) → a ≤ i → i < length t → AreCharacters (slice_range t a i) → get_or t i 0 ≢ 34 → StopsCharacter t i k → StopsString t a i k
+string_stops_at t a i k h lt w q p =
+    let f : i ≤ k = p.forward in
+    let l : k ≤ length t = p.in_text in
+    record {
+      forward = h; order = f; in_text = l; characters = w;
+      inside = λ j m n e. p.inside j m n (sym (shift t a i j h (omega arith) (omega arith) w) ∙ e);
+      before = λ e. p.before (sym (shift t a i k h f l w) ∙ e);
+      quote = λ in' e x. q (ap (λ (m : ℕ). get_or t m 0) e ∙ x);
+      byte = λ in'. shift t a i (suc k) h (omega arith) (omega arith) w ∙ p.byte in'
+    }
+
+pub string_stops_end : (t : List ℕ) (a i : ℕ) → a ≤ i → i ≡ length t → AreCharacters (slice_range t a i) → StopsString t a i i
+string_stops_end t a i h e w = record {
+  forward = h; order = omega arith; in_text = omega arith; characters = w; inside = λ j m n. absurd (omega arith);
+  before = λ x. (let y : whole ≡ refused = sym w ∙ x in cc); quote = λ in'. absurd (omega arith); byte = λ in'. absurd (omega arith)
+}

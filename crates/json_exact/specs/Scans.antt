@@ -1,7 +1,7 @@
 -- What the readers of blanks, words, numbers and strings say of the bytes that they pass.
 -- This is what the reader keeps, and no caller needs it.
 use Rattle.std.specs.Prelude.{◌≡◌, ◌≢◌, ℕ, suc, ◌+◌, ◌-◌, ◌<◌, ◌≤◌, ◌⊎◌, List, [], ◌∷◌, ◌++◌, length, take, drop, slice_range, slice_index, Bool, true, false, cond, ◌||◌, ◌==◌, IsTrue, IsFalse}
-use Rattle.json_exact.specs.Characters.{Way, refused, whole, one, step, steps, character, within, is_hex, is_d, is_low_digit, AreCharacters}
+use Rattle.json_exact.specs.Characters.{Way, refused, whole, one, tail, step, steps, character, within, is_hex, is_d, is_low_digit, AreCharacters}
 use Rattle.json_exact.specs.Numbers.{is_digit, is_mark}
 use Rattle.json_exact.specs.JsonText.{is_blank, AreBlanks}
 use Rattle.json_exact.specs.Refusals.{IsSurrogate}
@@ -93,6 +93,13 @@ accepts Low b = is_low_digit b
 abbrev pub way_of : List Class → Way
 way_of [] = whole
 way_of (c ∷ cs) = one (accepts c) (way_of cs)
+
+-- the last ways of `character`
+abbrev pub four_bytes : ℕ → Way
+four_bytes b =
+    cond (b == 240) (one (within 144 191) (tail (tail whole)))
+    (cond (within 241 243 b) (tail (tail (tail whole)))
+    (cond (b == 244) (one (within 128 143) (tail (tail whole))) refused))
 
 -- from `at` to `end` a character is written to its end in this way
 pub record PassesWay (way : Way) (text : List ℕ) (at : ℕ) (end : ℕ) : Type 0 where

@@ -1,7 +1,7 @@
 // The reader of strings.
 ghost use Rattle.std.specs.Prelude.{◌≡◌, ◌≢◌, ◌↔◌, ◌+◌, ◌<◌, ◌≤◌, false, length, MatchResult, slice_index, IsTrue};
-ghost use Rattle.json_exact.specs.Characters.{is_plain, is_hex, is_d, is_high_digit, is_low_digit, is_short, escape, digits, surrogate, two_digits, low_half};
-ghost use Rattle.json_exact.specs.Scans.{PassesWay, StopsWay, PassesCharacter, StopsCharacter, IsHalf, EndsString, CountsString, accepts, way_of};
+ghost use Rattle.json_exact.specs.Characters.{is_plain, is_hex, is_d, is_high_digit, is_low_digit, is_short, escape, digits, surrogate, two_digits, low_half, within, character};
+ghost use Rattle.json_exact.specs.Scans.{PassesWay, StopsWay, PassesCharacter, StopsCharacter, IsHalf, EndsString, CountsString, accepts, way_of, four_bytes};
 
 /// What one byte of a character may be.
 #[derive(Clone, Copy, Drop)]
@@ -20,13 +20,19 @@ impl Class {
         ensures { result ≡ accepts self b }
     {
         match self {
-            Class::Range(low, high) => low <= b && b <= high,
+            Class::Range(low, high) => within(low, high, b),
             Class::Byte(c) => b == c,
             Class::Hex => is_hex(b),
             Class::D => is_d(b),
             Class::Low => is_low_digit(b),
         }
     }
+}
+
+fn within(low: u8, high: u8, b: u8) -> bool
+    ensures { result ≡ within low high b }
+{
+    low <= b && b <= high
 }
 
 fn is_hex(b: u8) -> bool
@@ -132,7 +138,7 @@ fn surrogate_end(text: &[u8], at: usize) -> Result<usize, usize>
         return Err(at);
     }
     let b = text[at];
-    if 48 <= b && b <= 55 {
+    if within(48, 55, b) {
         row_end(text, at + 1, &[Class::Hex, Class::Hex])
     } else if is_high_digit(b) {
         high_end(text, at + 1)
@@ -165,16 +171,37 @@ fn character_end(text: &[u8], at: usize) -> Result<usize, usize>
     requires not_plain { is_plain (slice_index text.now at) ≡ false }
     ensures { MatchResult result (PassesCharacter text.now at) (StopsCharacter text.now at) }
 {
-    match text[at] {
-        b'\\' => escape_end(text, at + 1),
-        194..=223 => row_end(text, at + 1, &[TAIL]),
-        224 => row_end(text, at + 1, &[Class::Range(160, 191), TAIL]),
-        225..=236 | 238..=239 => row_end(text, at + 1, &[TAIL, TAIL]),
-        237 => row_end(text, at + 1, &[Class::Range(128, 159), TAIL]),
-        240 => row_end(text, at + 1, &[Class::Range(144, 191), TAIL, TAIL]),
-        241..=243 => row_end(text, at + 1, &[TAIL, TAIL, TAIL]),
-        244 => row_end(text, at + 1, &[Class::Range(128, 143), TAIL, TAIL]),
-        _ => Err(at),
+    let b = text[at];
+    if b == b'\\' {
+        escape_end(text, at + 1)
+    } else if within(194, 223, b) {
+        row_end(text, at + 1, &[TAIL])
+    } else if b == 224 {
+        row_end(text, at + 1, &[Class::Range(160, 191), TAIL])
+    } else if within(225, 236, b) || within(238, 239, b) {
+        row_end(text, at + 1, &[TAIL, TAIL])
+    } else if b == 237 {
+        row_end(text, at + 1, &[Class::Range(128, 159), TAIL])
+    } else {
+        long_end(text, at)
+    }
+}
+
+/// The same, of a character of four bytes.
+fn long_end(text: &[u8], at: usize) -> Result<usize, usize>
+    requires here { at < length text.now }
+    requires long { character (slice_index text.now at) ≡ four_bytes (slice_index text.now at) }
+    ensures { MatchResult result (PassesCharacter text.now at) (StopsCharacter text.now at) }
+{
+    let b = text[at];
+    if b == 240 {
+        row_end(text, at + 1, &[Class::Range(144, 191), TAIL, TAIL])
+    } else if within(241, 243, b) {
+        row_end(text, at + 1, &[TAIL, TAIL, TAIL])
+    } else if b == 244 {
+        row_end(text, at + 1, &[Class::Range(128, 143), TAIL, TAIL])
+    } else {
+        Err(at)
     }
 }
 
