@@ -63,12 +63,12 @@ leaf_ends d at fs l bytes h =
           (subst (λ (n : ℕ). Behind d n fs (leaf l at (at + length bytes)) i.rest i.value) len i.ends)
     }
 
-shifted : (d at : ℕ) (front more : List ℕ) (Rest : ℕ → ℕ → List ℕ → Json → Type 0) → EndsBehind d at (front ++ more) Rest → EndsBehind d at front Rest
+pub shifted : (d at : ℕ) (front more : List ℕ) (Rest : ℕ → ℕ → List ℕ → Json → Type 0) → EndsBehind d at (front ++ more) Rest → EndsBehind d at front Rest
 shifted d at front more Rest i =
     let e : (front ++ more) ++ i.rest ≡ front ++ (more ++ i.rest) = append_assoc front more i.rest in
     record { rest = more ++ i.rest; value = i.value; ends = subst (λ (q : List ℕ). Rest d (at + length q) q i.value) e i.ends }
 
-same_front : (d at : ℕ) (front other : List ℕ) (Rest : ℕ → ℕ → List ℕ → Json → Type 0) → front ≡ other → EndsBehind d at front Rest → EndsBehind d at other Rest
+pub same_front : (d at : ℕ) (front other : List ℕ) (Rest : ℕ → ℕ → List ℕ → Json → Type 0) → front ≡ other → EndsBehind d at front Rest → EndsBehind d at other Rest
 same_front d at front other Rest e i = record { rest = i.rest; value = i.value; ends = subst (λ (q : List ℕ). Rest d (at + length (q ++ i.rest)) (q ++ i.rest) i.value) e i.ends }
 
 pub word_ends : (d at : ℕ) (fs : List Frame) (w : Word) (i : ℕ) → EndsBehind d at (take i (letters w)) (λ e n. Before e n fs)

@@ -9,3 +9,4 @@ pub mod Stuck
 pub mod Endings
 pub mod Agreeing
 pub mod Scanning
+pub mod Tokens

@@ -111,14 +111,14 @@ opening_closing square curly e = eqb-false 93 123 refl e
 opening_closing curly square e = eqb-false 125 91 refl e
 opening_closing curly curly e = eqb-false 125 123 refl e
 
-leaf_not_closing : (n : ℕ) (l : Leaf) (from to : ℕ) (b : Bracket) (t rest s : List ℕ) → s ≡ closing b ∷ t → SpellsLeaf n l from to s rest → ⊥
+pub leaf_not_closing : (n : ℕ) (l : Leaf) (from to : ℕ) (b : Bracket) (t rest s : List ℕ) → s ≡ closing b ∷ t → SpellsLeaf n l from to s rest → ⊥
 leaf_not_closing n l from to b t rest s at sp =
     let st = leaf_starts l sp.0 sp.1 in
     let e : closing b ∷ t ≡ (st.0 ∷ st.1) ++ rest = sym at ∙ sp.2 ∙ ap (λ (q : List ℕ). q ++ rest) st.2 in
     let first : st.0 ≡ closing b = cc in
     closing_starts b l (subst (Starts l) first st.3)
 
-value_not_closing : (n d : ℕ) (v : Json) (b : Bracket) (t rest s : List ℕ) → s ≡ closing b ∷ t → Spells n d v s rest → ⊥
+pub value_not_closing : (n d : ℕ) (v : Json) (b : Bracket) (t rest s : List ℕ) → s ≡ closing b ∷ t → Spells n d v s rest → ⊥
 value_not_closing n d (leaf l from to) b t rest s at sp = leaf_not_closing n l from to b t rest s at sp
 value_not_closing n d (nest k from to ps) b t rest s at sp =
     let e : closing b ∷ t ≡ opening k ∷ sp.3.0 = sym at ∙ sp.3.1 in

@@ -1,9 +1,13 @@
 -- What is left to be read at each point of a text: which rests complete it, and to which value.
 -- This is what the reader keeps, and no caller needs it.
-use Rattle.std.specs.Prelude.{◌≡◌, ◌≢◌, ℕ, suc, ◌+◌, ◌-◌, ◌<◌, ◌≤◌, ◌⊎◌, List, [], ◌∷◌, ◌++◌, length, take, slice_index, Bool, true, false, IsTrue, Option, Some, None}
+use Rattle.std.specs.Prelude.{◌≡◌, ◌≢◌, ℕ, suc, ◌+◌, ◌-◌, ◌<◌, ◌≤◌, ◌⊎◌, List, [], ◌∷◌, ◌++◌, length, take, slice_index, slice_range, Bool, true, false, IsTrue, Option, Some, None}
 use Rattle.json_exact.specs.Json.{Leaf, word, number, string, Word, null_word, true_word, false_word, Bracket, square, curly, Name, Json, leaf, nest, Parts, no_parts, part}
-use Rattle.json_exact.specs.Scans.{is_in_number}
-use Rattle.json_exact.specs.JsonText.{Blanks, closing, Spells, SpellsLeaf, SpellsFirst, SpellsMore, SpellsPart, SpelledWithin}
+use Rattle.json_exact.specs.Numbers.{is_digit}
+use Rattle.json_exact.specs.Scans.{is_in_number, StopsWord, StopsNumber, CountsString}
+use Rattle.json_exact.specs.declared.reader.Reader.{Reader}
+use Rattle.json_exact.specs.declared.reader.Next.{Next}
+use Rattle.json_exact.specs.declared.reader.Next.TheVariants.{Value, First, After}
+use Rattle.json_exact.specs.JsonText.{is_blank, letters, IsLeaf, Blanks, closing, Spells, SpellsLeaf, SpellsFirst, SpellsMore, SpellsPart, SpelledWithin}
 use Rattle.json_exact.specs.Refusals.{depth_limit, CanGoOn}
 use Rattle.json_exact.specs.declared.cells.Kind.{Kind}
 use Rattle.json_exact.specs.declared.cells.Kind.TheVariants.{Null, True, False, Number, String, List as AList, Object}
@@ -119,3 +123,86 @@ abbrev mutual
   pub open_cells : List Frame → List Cell
   open_cells [] = []
   open_cells (f ∷ fs) = open_cells fs ++ (cell (kind_of_bracket f.kind) f.from (top_of fs) 0 ∷ (cells_done f.done ++ name_cells f.name))
+
+-- What the reader has at a place: the cells of the open brackets and then `tail`, and what is left to be read.
+pub record Holds (text : List ℕ) (r : Reader) (limit : Limit) (fs : List Frame) (tail : List Cell) (Rest : ℕ → ℕ → List ℕ → Json → Type 0) : Type 0 where
+  pub agrees : Agrees text r.at limit Rest
+  pub laid : r.cells.items ≡ open_cells fs ++ tail
+  pub top_is : r.top ≡ top_of fs
+  pub depth_is : r.depth ≡ length fs
+  pub shallow : length fs ≤ depth_limit
+  pub few : length r.cells.items ≤ r.at
+
+-- the next byte does not close brackets that are to hold a part
+abbrev pub IsOpenFor : Limit → ℕ → Type 0
+IsOpenFor any c = Unit {0}
+IsOpenFor no_number c = ⊥
+IsOpenFor (no_closing b) c = c ≢ closing b
+
+-- a token stands at the place
+pub record IsHere (text : List ℕ) (at : ℕ) (limit : Limit) : Type 0 where
+  pub in_text : at < length text
+  pub firm : is_blank (slice_index text at) ≡ false
+  pub allowed : IsOpenFor limit (slice_index text at)
+
+abbrev pub ReadsValue : List ℕ → Reader → Type 0
+ReadsValue text r = (fs : List Frame) × Holds text r any fs [] (λ levels n. Before levels n fs)
+
+abbrev pub ReadsValueHere : List ℕ → Reader → Type 0
+ReadsValueHere text r = (fs : List Frame) × (limit : Limit) × Holds text r limit fs [] (λ levels n. Before levels n fs) × IsHere text r.at limit
+
+abbrev pub ReadsName : List ℕ → Reader → Type 0
+ReadsName text r =
+    (from : ℕ) × (done : List (Option Name × Json)) × (fs : List Frame)
+    × Holds text r any (record { kind = curly; from = from; done = done; name = None } ∷ fs) []
+        (λ levels n. BeforeName levels n (record { kind = curly; from = from; done = done; name = None }) fs)
+
+abbrev pub ReadsNameHere : List ℕ → Reader → Type 0
+ReadsNameHere text r =
+    (from : ℕ) × (done : List (Option Name × Json)) × (fs : List Frame) × (limit : Limit)
+    × Holds text r limit (record { kind = curly; from = from; done = done; name = None } ∷ fs) []
+        (λ levels n. BeforeName levels n (record { kind = curly; from = from; done = done; name = None }) fs)
+    × IsHere text r.at limit
+
+abbrev pub ReadsFirst : List ℕ → Reader → Type 0
+ReadsFirst text r =
+    (kind : Bracket) × (from : ℕ) × (fs : List Frame)
+    × Holds text r any (record { kind = kind; from = from; done = []; name = None } ∷ fs) []
+        (λ levels n. Opened levels n (record { kind = kind; from = from; done = []; name = None }) fs)
+
+-- behind a number no byte of a number stands
+abbrev pub IsClear : Limit → List ℕ → ℕ → Type 0
+IsClear any text at = Unit {0}
+IsClear no_number text at = at < length text → is_in_number (slice_index text at) ≡ false
+IsClear (no_closing b) text at = ⊥
+
+abbrev pub ReadsBehind : List ℕ → Reader → Type 0
+ReadsBehind text r =
+    (fs : List Frame) × (w : Json) × (limit : Limit) × Holds text r limit fs (cells_of w) (λ levels n. Behind levels n fs w) × IsClear limit text r.at
+
+abbrev pub Reads : List ℕ → Reader → Next → Type 0
+Reads text r Value = ReadsValue text r
+Reads text r First = ReadsFirst text r
+Reads text r After = ReadsBehind text r
+
+-- ---- a word, a number or a string at a place
+
+abbrev pub limit_of_kind : Kind → Limit
+limit_of_kind Null = any
+limit_of_kind True = any
+limit_of_kind False = any
+limit_of_kind Number = no_number
+limit_of_kind String = any
+limit_of_kind AList = any
+limit_of_kind Object = any
+
+abbrev pub EndsLeaf : List ℕ → ℕ → Kind → ℕ → Type 0
+EndsLeaf text at kind end =
+    (l : Leaf) × IsLeaf l (slice_range text at end) × (kind ≡ kind_of l) × (at < end) × (end ≤ length text) × IsClear (limit_of_kind kind) text end
+
+pub data StopsLeaf (text : List ℕ) (at : ℕ) (k : ℕ) : Type 0 where
+  no_leaf : k ≡ at → slice_index text at ≢ 110 → slice_index text at ≢ 116 → slice_index text at ≢ 102 → slice_index text at ≢ 45
+      → is_digit (slice_index text at) ≡ false → slice_index text at ≢ 34 → StopsLeaf text at k
+  in_word : (w : Word) → slice_index text at ≡ slice_index (letters w) 0 → StopsWord text at (letters w) k → StopsLeaf text at k
+  in_number : (slice_index text at ≡ 45) ⊎ (is_digit (slice_index text at) ≡ true) → StopsNumber text at k → StopsLeaf text at k
+  in_string : slice_index text at ≡ 34 → CountsString text (suc at) k → StopsLeaf text at k
