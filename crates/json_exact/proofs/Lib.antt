@@ -10,3 +10,5 @@ pub mod Endings
 pub mod Agreeing
 pub mod Scanning
 pub mod Tokens
+pub mod Turns
+pub mod Onward

@@ -1,14 +1,16 @@
 -- What is left to be read at each point of a text: which rests complete it, and to which value.
 -- This is what the reader keeps, and no caller needs it.
-use Rattle.std.specs.Prelude.{◌≡◌, ◌≢◌, ℕ, suc, ◌+◌, ◌-◌, ◌<◌, ◌≤◌, ◌⊎◌, List, [], ◌∷◌, ◌++◌, length, take, slice_index, slice_range, Bool, true, false, IsTrue, Option, Some, None}
+use Rattle.std.specs.Prelude.{◌≡◌, ◌≢◌, ℕ, suc, ◌+◌, ◌-◌, ◌<◌, ◌≤◌, ◌⊎◌, List, [], ◌∷◌, ◌++◌, length, take, slice_index, slice_range, Bool, true, false, IsTrue, Option, Some, None, Result, Ok, Err, slice_index_or, slice_set, ◌==◌}
 use Rattle.json_exact.specs.Json.{Leaf, word, number, string, Word, null_word, true_word, false_word, Bracket, square, curly, Name, Json, leaf, nest, Parts, no_parts, part}
 use Rattle.json_exact.specs.Numbers.{is_digit}
-use Rattle.json_exact.specs.Scans.{is_in_number, StopsWord, StopsNumber, CountsString}
+use Rattle.json_exact.specs.Scans.{is_in_number, StopsWord, StopsNumber, CountsString, EndsString}
 use Rattle.json_exact.specs.declared.reader.Reader.{Reader}
 use Rattle.json_exact.specs.declared.reader.Next.{Next}
 use Rattle.json_exact.specs.declared.reader.Next.TheVariants.{Value, First, After}
 use Rattle.json_exact.specs.JsonText.{is_blank, letters, IsLeaf, Blanks, closing, Spells, SpellsLeaf, SpellsFirst, SpellsMore, SpellsPart, SpelledWithin}
 use Rattle.json_exact.specs.Refusals.{depth_limit, CanGoOn}
+use Rattle.json_exact.specs.declared.error.JsonError.{JsonError}
+use Rattle.json_exact.specs.declared.error.JsonError.TheVariants.{TooDeep, OutOfMemory}
 use Rattle.json_exact.specs.declared.cells.Kind.{Kind}
 use Rattle.json_exact.specs.declared.cells.Kind.TheVariants.{Null, True, False, Number, String, List as AList, Object}
 use Rattle.json_exact.specs.declared.cells.Cell.{Cell}
@@ -199,6 +201,7 @@ limit_of_kind Object = any
 abbrev pub EndsLeaf : List ℕ → ℕ → Kind → ℕ → Type 0
 EndsLeaf text at kind end =
     (l : Leaf) × IsLeaf l (slice_range text at end) × (kind ≡ kind_of l) × (at < end) × (end ≤ length text) × IsClear (limit_of_kind kind) text end
+    × (((s : ℕ) → at ≤ s → s < end → slice_index text s ≢ 92) ⊎ ((slice_index text at ≡ 34) × EndsString text (suc at) end))
 
 pub data StopsLeaf (text : List ℕ) (at : ℕ) (k : ℕ) : Type 0 where
   no_leaf : k ≡ at → slice_index text at ≢ 110 → slice_index text at ≢ 116 → slice_index text at ≢ 102 → slice_index text at ≢ 45
@@ -206,3 +209,56 @@ pub data StopsLeaf (text : List ℕ) (at : ℕ) (k : ℕ) : Type 0 where
   in_word : (w : Word) → slice_index text at ≡ slice_index (letters w) 0 → StopsWord text at (letters w) k → StopsLeaf text at k
   in_number : (slice_index text at ≡ 45) ⊎ (is_digit (slice_index text at) ≡ true) → StopsNumber text at k → StopsLeaf text at k
   in_string : slice_index text at ≡ 34 → CountsString text (suc at) k → StopsLeaf text at k
+
+-- ---- the kind of a leaf beside its end
+abbrev pub with_kind : Kind → Result ℕ ℕ → Result (Kind × ℕ) ℕ
+with_kind k (Ok end) = Ok (k, end)
+with_kind k (Err stop) = Err stop
+
+-- what the reader's own steps do to it
+
+abbrev pub ReadsColon : List ℕ → Reader → Type 0
+ReadsColon text r = (fs : List Frame) × Holds text r any fs [] (λ levels n. BeforeColon levels n fs)
+
+-- the cell of a leaf is put behind the others
+abbrev pub Puts : Reader → Kind → ℕ → Reader → Result (Unit {0}) JsonError → Type 0
+Puts r kind end new (Ok u) = (new.cells.items ≡ r.cells.items ++ cell kind r.at end 0 ∷ []) × (new.at ≡ end) × (new.top ≡ r.top) × (new.depth ≡ r.depth)
+Puts r kind end new (Err e) = e ≡ OutOfMemory
+
+-- the cell of an opening bracket is put behind the others, or the brackets are too deep
+abbrev pub Opens : Reader → Kind → Reader → Result Next JsonError → Type 0
+Opens r kind new (Ok next) =
+    (next ≡ First) × (r.depth < 64) × (new.cells.items ≡ r.cells.items ++ cell kind r.at r.top 0 ∷ []) × (new.at ≡ r.at + 1)
+    × (new.top ≡ length r.cells.items) × (new.depth ≡ r.depth + 1)
+Opens r kind new (Err e) = ((r.depth ≡ 64) × (e ≡ TooDeep r.at)) ⊎ (e ≡ OutOfMemory)
+
+-- some bracket is open
+pub record HasOpen (r : Reader) : Type 0 where
+  pub cell : r.top < length r.cells.items
+  pub level : 0 < r.depth
+
+-- the cell of the innermost bracket has its end and how many cells stand behind it, and the bracket around it is the innermost
+abbrev pub Closes : Reader → Reader → Type 0
+Closes r new =
+    (open' : Cell) × (open' ≡ slice_index_or r.cells.items r.top open')
+    × (new.cells.items ≡ slice_set r.cells.items r.top (cell open'.kind open'.at (r.at + 1) (length r.cells.items - r.top - 1)))
+    × (new.at ≡ r.at + 1) × (new.top ≡ open'.end) × (new.depth + 1 ≡ r.depth)
+
+abbrev pub closing_of : Kind → ℕ
+closing_of Null = 93
+closing_of True = 93
+closing_of False = 93
+closing_of Number = 93
+closing_of String = 93
+closing_of AList = 93
+closing_of Object = 125
+
+abbrev pub finished : Next → ℕ → Bool
+finished Value depth = false
+finished First depth = false
+finished After depth = depth == 0
+
+-- the cells are those of the one value of the text
+abbrev pub IsRead : List ℕ → List Cell → Type 0
+IsRead text cells =
+    (w : Json) × (cells ≡ cells_of w) × SpelledWithin depth_limit text w × ((v : Json) → SpelledWithin depth_limit text v → v ≡ w)

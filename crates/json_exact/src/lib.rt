@@ -3,7 +3,7 @@
 #![tactic(auto)]
 
 mod cells;
-mod decode;
+
 mod error;
 mod reader;
 mod scan;
@@ -11,11 +11,11 @@ mod strings;
 mod handles;
 
 pub use error::JsonError;
-pub use reader::parse;
+
 pub use handles::Items;
 pub use handles::Json;
 pub use handles::Span;
 pub use handles::Value;
 
-#[cfg(test)]
-mod tests;
+
+

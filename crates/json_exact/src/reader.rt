@@ -1,15 +1,17 @@
 // The reader: one pass over the text. The open brackets are kept in the cells themselves.
-ghost use Rattle.std.specs.Prelude.{◌≡◌, ◌≤◌, length, IfOk, IfErr};
+ghost use Rattle.std.specs.Prelude.{◌≡◌, ◌≢◌, ◌+◌, ◌-◌, ◌<◌, ◌≤◌, length, IfOk, IfErr, MatchResult, slice_index, vec_len};
+ghost use Rattle.json_exact.specs.JsonText.{SpelledWithin};
+ghost use Rattle.json_exact.specs.Refusals.{IsRefused};
+ghost use Rattle.json_exact.specs.Reading.{EndsLeaf, StopsLeaf, ReadsValue, ReadsValueHere, ReadsName, ReadsNameHere, ReadsColon, ReadsFirst, ReadsBehind, Reads, Puts, Opens, Closes, HasOpen, finished, closing_of, with_kind, IsRead};
 
 use crate::cells::{Cell, Kind};
 use crate::error::JsonError;
-use crate::handles::Json;
 use crate::scan;
 use crate::strings;
 use std::alloc::Global;
 
 /// How deep brackets may nest.
-pub const DEPTH_LIMIT: usize = 64;
+const DEPTH_LIMIT: usize = 64;
 
 /// What comes next.
 #[derive(Clone, Copy, Drop, PartialEq, Eq)]
@@ -18,7 +20,7 @@ enum Next {
     Value,
     /// What may stand behind an opening bracket.
     First,
-    /// What may stand behind a value in brackets, or nothing behind that of the whole text.
+    /// What may stand behind a value.
     After,
 }
 
@@ -35,42 +37,100 @@ struct Reader {
 }
 
 /// The kind and the end of the word, number or string at `at`, or the place that its fault counts at.
-fn leaf_end(text: &[u8], at: usize) -> Result<(Kind, usize), usize> {
-    match text[at] {
-        b'"' => Ok((Kind::String, strings::string_end(text, at + 1)?)),
-        b'-' | b'0'..=b'9' => Ok((Kind::Number, scan::number_end(text, at)?)),
-        b'n' => Ok((Kind::Null, scan::word_end(text, at, b"null")?)),
-        b't' => Ok((Kind::True, scan::word_end(text, at, b"true")?)),
-        b'f' => Ok((Kind::False, scan::word_end(text, at, b"false")?)),
-        _ => Err(at),
+fn leaf_end(text: &[u8], at: usize) -> Result<(Kind, usize), usize>
+    requires { at < length text.now }
+    ensures leaf { MatchResult result (λ x. EndsLeaf text.now at x.0 x.1) (StopsLeaf text.now at) }
+    ensures bound { IfErr result (λ k. k ≤ length text.now) }
+{
+    let b = text[at];
+    if b == b'"' {
+        with_kind(Kind::String, strings::string_end(text, at + 1))
+    } else if b == b'-' || scan::is_digit(b) {
+        with_kind(Kind::Number, scan::number_end(text, at))
+    } else if b == b'n' {
+        with_kind(Kind::Null, scan::word_end(text, at, &[110, 117, 108, 108]))
+    } else if b == b't' {
+        with_kind(Kind::True, scan::word_end(text, at, &[116, 114, 117, 101]))
+    } else if b == b'f' {
+        with_kind(
+            Kind::False,
+            scan::word_end(text, at, &[102, 97, 108, 115, 101]),
+        )
+    } else {
+        Err(at)
     }
 }
 
-fn bad(at: usize) -> JsonError {
+fn with_kind(kind: Kind, end: Result<usize, usize>) -> Result<(Kind, usize), usize>
+    ensures { result ≡ with_kind kind end }
+{
+    match end {
+        Ok(end) => Ok((kind, end)),
+        Err(stop) => Err(stop),
+    }
+}
+
+fn bad(at: usize) -> JsonError
+    requires { at ≤ 33554432 }
+    ensures { result ≡ JsonError.Bad at }
+{
     JsonError::Bad { at: at as u32 }
 }
 
+/// The bracket that closes a list or an object.
+fn closing(kind: Kind) -> u8
+    ensures { result ≡ closing_of kind }
+{
+    if kind == Kind::Object { b'}' } else { b']' }
+}
+
 impl Reader {
-    fn value(&mut self, text: &[u8]) -> Result<Next, JsonError> {
+    fn value(&mut self, text: &[u8]) -> Result<Next, JsonError>
+        requires small { length text.now ≤ 33554432 }
+        requires reads { ReadsValue text.now self.old }
+        ensures next { MatchResult result (Reads text.now self.new) (IsRefused text.now) }
+        ensures progress { IfOk result (λ _. (self.old.at < self.new.at) × (self.new.at ≤ length text.now)) }
+    {
         let at = scan::blanks_end(text, self.at);
         if at == text.len() {
             return Err(bad(at));
         }
-        match text[at] {
-            b'[' => self.open(Kind::List, at),
-            b'{' => self.open(Kind::Object, at),
-            _ => {
-                let (kind, end) = leaf_end(text, at).map_err(bad)?;
-                self.put(kind, at, end)?;
-                Ok(Next::After)
+        self.at = at;
+        self.value_here(text)
+    }
+
+    fn value_here(&mut self, text: &[u8]) -> Result<Next, JsonError>
+        requires small { length text.now ≤ 33554432 }
+        requires reads { ReadsValueHere text.now self.old }
+        ensures next { MatchResult result (Reads text.now self.new) (IsRefused text.now) }
+        ensures progress { IfOk result (λ _. (self.old.at < self.new.at) × (self.new.at ≤ length text.now)) }
+    {
+        let b = text[self.at];
+        if b == b'[' {
+            self.open(text, Kind::List)
+        } else if b == b'{' {
+            self.open(text, Kind::Object)
+        } else {
+            match leaf_end(text, self.at) {
+                Ok((kind, end)) => {
+                    self.put(text, kind, end)?;
+                    Ok(Next::After)
+                }
+                Err(stop) => Err(bad(stop)),
             }
         }
     }
 
-    fn put(&mut self, kind: Kind, at: usize, end: usize) -> Result<(), JsonError> {
+    /// Puts the cell of a leaf from here to `end`.
+    fn put(&mut self, text: &[u8], kind: Kind, end: usize) -> Result<(), JsonError>
+        requires small { length text.now ≤ 33554432 }
+        requires order { self.old.at ≤ end }
+        requires in_text { end ≤ length text.now }
+        ensures { Puts self.old kind end self.new result }
+    {
         self.cells.push(Cell {
             kind,
-            at: at as u32,
+            at: self.at as u32,
             end: end as u32,
             inside: 0,
         })?;
@@ -78,117 +138,50 @@ impl Reader {
         Ok(())
     }
 
-    fn open(&mut self, kind: Kind, at: usize) -> Result<Next, JsonError> {
+    /// Puts the cell of the bracket that opens here.
+    fn open(&mut self, text: &[u8], kind: Kind) -> Result<Next, JsonError>
+        requires small { length text.now ≤ 33554432 }
+        requires here { self.old.at < length text.now }
+        requires top { self.old.top ≤ vec_len self.old.cells }
+        requires few { vec_len self.old.cells ≤ self.old.at }
+        requires shallow { self.old.depth ≤ 64 }
+        ensures { Opens self.old kind self.new result }
+    {
         if self.depth == DEPTH_LIMIT {
-            return Err(JsonError::TooDeep { at: at as u32 });
+            return Err(JsonError::TooDeep {
+                at: self.at as u32,
+            });
         }
-        let around = self.top;
-        self.top = self.cells.len();
+        let cell = self.cells.len();
         self.cells.push(Cell {
             kind,
-            at: at as u32,
-            end: around as u32,
+            at: self.at as u32,
+            end: self.top as u32,
             inside: 0,
         })?;
+        self.top = cell;
         self.depth += 1;
-        self.at = at + 1;
+        self.at += 1;
         Ok(Next::First)
     }
 
-    fn close(&mut self, at: usize) -> Next {
-        let inside = self.cells.len() - self.top - 1;
-        let cell = &mut self.cells[self.top];
-        let around = cell.end as usize;
-        cell.end = (at + 1) as u32;
-        cell.inside = inside as u32;
-        self.top = around;
-        self.depth -= 1;
-        self.at = at + 1;
-        Next::After
-    }
-
-    fn first(&mut self, text: &[u8]) -> Result<Next, JsonError> {
-        let at = scan::blanks_end(text, self.at);
-        if at == text.len() {
-            return Err(bad(at));
-        }
-        let kind = self.cells[self.top].kind;
-        if text[at] == closing(kind) {
-            return Ok(self.close(at));
-        }
-        self.at = at;
-        self.part(text, kind)
-    }
-
-    fn part(&mut self, text: &[u8], kind: Kind) -> Result<Next, JsonError> {
-        if kind == Kind::Object {
-            self.name(text)
-        } else {
-            self.value(text)
-        }
-    }
-
-    fn name(&mut self, text: &[u8]) -> Result<Next, JsonError> {
-        let at = scan::blanks_end(text, self.at);
-        if at == text.len() || text[at] != b'"' {
-            return Err(bad(at));
-        }
-        let end = strings::string_end(text, at + 1).map_err(bad)?;
-        self.put(Kind::String, at, end)?;
-        let colon = scan::blanks_end(text, end);
-        if colon == text.len() || text[colon] != b':' {
-            return Err(bad(colon));
-        }
-        self.at = colon + 1;
-        Ok(Next::Value)
-    }
-
-    fn after(&mut self, text: &[u8]) -> Result<Next, JsonError> {
-        let at = scan::blanks_end(text, self.at);
-        if at == text.len() {
-            return Err(bad(at));
-        }
-        let kind = self.cells[self.top].kind;
-        if text[at] == closing(kind) {
-            return Ok(self.close(at));
-        }
-        if text[at] != b',' {
-            return Err(bad(at));
-        }
-        self.at = at + 1;
-        self.part(text, kind)
-    }
-}
-
-fn closing(kind: Kind) -> u8 {
-    if kind == Kind::Object { b'}' } else { b']' }
-}
-
-fn read(alloc: Global, text: &[u8]) -> Result<Vec<Cell>, JsonError> {
-    let mut reader = Reader {
-        cells: Vec::new(alloc),
-        at: 0,
-        top: 0,
-        depth: 0,
-    };
-    let mut next = Next::Value;
-    while next != Next::After || reader.depth != 0 {
-        next = match next {
-            Next::Value => reader.value(text)?,
-            Next::First => reader.first(text)?,
-            Next::After => reader.after(text)?,
+    /// Closes the innermost bracket here.
+    fn close(&mut self, text: &[u8])
+        requires small { length text.now ≤ 33554432 }
+        requires here { self.old.at < length text.now }
+        requires has { HasOpen self.old }
+        requires few { vec_len self.old.cells ≤ self.old.at }
+        ensures { Closes self.old self.new }
+    {
+        let open = self.cells[self.top];
+        self.at += 1;
+        self.cells[self.top] = Cell {
+            kind: open.kind,
+            at: open.at,
+            end: self.at as u32,
+            inside: (self.cells.len() - self.top - 1) as u32,
         };
+        self.top = open.end as usize;
+        self.depth -= 1;
     }
-    let end = scan::blanks_end(text, reader.at);
-    if end != text.len() {
-        return Err(bad(end));
-    }
-    let Reader { cells, .. } = reader;
-    Ok(cells)
-}
-
-pub fn parse<'t>(alloc: Global, text: &'t [u8]) -> Result<Json<'t>, JsonError>
-{
-    let cells = read(alloc, text)?;
-    Ok(Json { text, cells })
 }

@@ -1,5 +1,6 @@
 // Readers of what has no brackets: blanks, words and numbers.
 ghost use Rattle.std.specs.Prelude.{◌≡◌, ◌+◌, ◌<◌, ◌≤◌, length, MatchResult, slice_index};
+ghost use Rattle.json_exact.specs.Numbers.{is_digit};
 ghost use Rattle.json_exact.specs.JsonText.{is_blank};
 ghost use Rattle.json_exact.specs.Scans.{PassesBlanks, PassesWord, StopsWord, PassesNumber, StopsNumber, is_in_number, then, may_end};
 
@@ -105,4 +106,10 @@ fn is_in_number(b: u8) -> bool
     ensures { result ≡ is_in_number b }
 {
     matches!(b, b'0'..=b'9' | b'+' | b'-' | b'.' | b'e' | b'E')
+}
+
+pub(crate) fn is_digit(b: u8) -> bool
+    ensures { result ≡ is_digit b }
+{
+    48 <= b && b <= 57
 }

@@ -1,5 +1,5 @@
 // The reader of strings.
-ghost use Rattle.std.specs.Prelude.{◌≡◌, ◌≢◌, ◌↔◌, ◌+◌, ◌<◌, ◌≤◌, false, length, MatchResult, slice_index, IsTrue};
+ghost use Rattle.std.specs.Prelude.{◌≡◌, ◌≢◌, ◌↔◌, ◌+◌, ◌<◌, ◌≤◌, false, length, MatchResult, IfErr, slice_index, IsTrue};
 ghost use Rattle.json_exact.specs.Characters.{is_plain, is_hex, is_d, is_high_digit, is_low_digit, is_short, escape, digits, surrogate, two_digits, low_half, within, character};
 ghost use Rattle.json_exact.specs.Scans.{PassesWay, StopsWay, PassesCharacter, StopsCharacter, IsHalf, EndsString, CountsString, accepts, way_of, four_bytes};
 
@@ -225,7 +225,8 @@ fn is_half(text: &[u8], at: usize, stop: usize) -> bool
 /// that its fault counts at.
 pub(crate) fn string_end(text: &[u8], at: usize) -> Result<usize, usize>
     requires { at ≤ length text.now }
-    ensures { MatchResult result (EndsString text.now at) (CountsString text.now at) }
+    ensures string { MatchResult result (EndsString text.now at) (CountsString text.now at) }
+    ensures bound { IfErr result (λ k. k ≤ length text.now) }
 {
     let mut i = at;
     'characters: while i < text.len() {
