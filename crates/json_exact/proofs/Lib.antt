@@ -12,3 +12,4 @@ pub mod Scanning
 pub mod Tokens
 pub mod Turns
 pub mod Onward
+pub mod Behind

@@ -99,14 +99,14 @@ top_in text r limit f fs tail Rest h =
     let n : length r.cells.items ≡ length (open_cells fs) + length (c ∷ x) = ap length e ∙ length-append (open_cells fs) (c ∷ x) in
     omega (arith, h.top_is)
 
-cells_onto : (ds : List (Option Name × Json)) (ps : Parts) → cells_in (onto ds ps) ≡ cells_done ds ++ cells_in ps
+pub cells_onto : (ds : List (Option Name × Json)) (ps : Parts) → cells_in (onto ds ps) ≡ cells_done ds ++ cells_in ps
 cells_onto [] ps = refl
 cells_onto (d ∷ ds) ps =
     cells_onto ds (part d.0 d.1 ps) ∙ ap (λ (x : List Cell). cells_done ds ++ x) (sym (append_assoc (name_cells d.0) (cells_of d.1) (cells_in ps)))
     ∙ sym (append_assoc (cells_done ds) (name_cells d.0 ++ cells_of d.1) (cells_in ps))
 
 -- the cells when the innermost bracket closes behind the parts
-close_cells : (text : List ℕ) (r new : Reader) (limit : Limit) (f : Frame) (fs : List Frame) (tail : List Cell) (Rest : ℕ → ℕ → List ℕ → Json → Type 0) (ps : Parts)
+pub close_cells : (text : List ℕ) (r new : Reader) (limit : Limit) (f : Frame) (fs : List Frame) (tail : List Cell) (Rest : ℕ → ℕ → List ℕ → Json → Type 0) (ps : Parts)
     → Holds text r limit (f ∷ fs) tail Rest → Closes r new → cells_in (onto f.done ps) ≡ (cells_done f.done ++ name_cells f.name) ++ tail
     → (new.cells.items ≡ open_cells fs ++ cells_of (closed f (r.at + 1) ps)) × (new.top ≡ top_of fs) × (new.depth ≡ length fs) × (length new.cells.items ≡ length r.cells.items)
 close_cells text r new limit f fs tail Rest ps h k inside =

@@ -184,4 +184,143 @@ impl Reader {
         self.top = open.end as usize;
         self.depth -= 1;
     }
+
+    /// What may stand behind an opening bracket.
+    fn first(&mut self, text: &[u8]) -> Result<Next, JsonError>
+        requires small { length text.now ≤ 33554432 }
+        requires reads { ReadsFirst text.now self.old }
+        ensures next { MatchResult result (Reads text.now self.new) (IsRefused text.now) }
+        ensures progress { IfOk result (λ _. (self.old.at < self.new.at) × (self.new.at ≤ length text.now)) }
+    {
+        let at = scan::blanks_end(text, self.at);
+        if at == text.len() {
+            return Err(bad(at));
+        }
+        self.at = at;
+        let kind = self.cells[self.top].kind;
+        if text[at] == closing(kind) {
+            self.close(text);
+            Ok(Next::After)
+        } else if kind == Kind::Object {
+            self.name_here(text)
+        } else {
+            self.value_here(text)
+        }
+    }
+
+    fn name(&mut self, text: &[u8]) -> Result<Next, JsonError>
+        requires small { length text.now ≤ 33554432 }
+        requires reads { ReadsName text.now self.old }
+        ensures next { MatchResult result (Reads text.now self.new) (IsRefused text.now) }
+        ensures progress { IfOk result (λ _. (self.old.at < self.new.at) × (self.new.at ≤ length text.now)) }
+    {
+        let at = scan::blanks_end(text, self.at);
+        if at == text.len() {
+            return Err(bad(at));
+        }
+        self.at = at;
+        self.name_here(text)
+    }
+
+    fn name_here(&mut self, text: &[u8]) -> Result<Next, JsonError>
+        requires small { length text.now ≤ 33554432 }
+        requires reads { ReadsNameHere text.now self.old }
+        ensures next { MatchResult result (Reads text.now self.new) (IsRefused text.now) }
+        ensures progress { IfOk result (λ _. (self.old.at < self.new.at) × (self.new.at ≤ length text.now)) }
+    {
+        let at = self.at;
+        if text[at] != b'"' {
+            return Err(bad(at));
+        }
+        match strings::string_end(text, at + 1) {
+            Ok(end) => {
+                self.put(text, Kind::String, end)?;
+                self.colon(text)
+            }
+            Err(stop) => Err(bad(stop)),
+        }
+    }
+
+    fn colon(&mut self, text: &[u8]) -> Result<Next, JsonError>
+        requires small { length text.now ≤ 33554432 }
+        requires reads { ReadsColon text.now self.old }
+        ensures next { MatchResult result (Reads text.now self.new) (IsRefused text.now) }
+        ensures progress { IfOk result (λ _. (self.old.at < self.new.at) × (self.new.at ≤ length text.now)) }
+    {
+        let at = scan::blanks_end(text, self.at);
+        if at == text.len() {
+            return Err(bad(at));
+        }
+        if text[at] != b':' {
+            return Err(bad(at));
+        }
+        self.at = at + 1;
+        Ok(Next::Value)
+    }
+
+    /// What may stand behind a value in brackets.
+    fn after(&mut self, text: &[u8]) -> Result<Next, JsonError>
+        requires small { length text.now ≤ 33554432 }
+        requires reads { ReadsBehind text.now self.old }
+        requires level { 0 < self.old.depth }
+        ensures next { MatchResult result (Reads text.now self.new) (IsRefused text.now) }
+        ensures progress { IfOk result (λ _. (self.old.at < self.new.at) × (self.new.at ≤ length text.now)) }
+    {
+        let at = scan::blanks_end(text, self.at);
+        if at == text.len() {
+            return Err(bad(at));
+        }
+        let kind = self.cells[self.top].kind;
+        if text[at] == closing(kind) {
+            self.at = at;
+            self.close(text);
+            return Ok(Next::After);
+        }
+        if text[at] != b',' {
+            return Err(bad(at));
+        }
+        self.at = at + 1;
+        if kind == Kind::Object {
+            self.name(text)
+        } else {
+            self.value(text)
+        }
+    }
+
+    /// Whether the value of the whole text was read.
+    fn is_done(&self, next: Next) -> bool
+        ensures { result ≡ finished next self.now.depth }
+    {
+        match next {
+            Next::After => self.depth == 0,
+            _ => false,
+        }
+    }
+}
+
+/// The cells of the text's value.
+pub(crate) fn read(alloc: Global, text: &[u8]) -> Result<Vec<Cell>, JsonError>
+    requires { length text.now ≤ 33554432 }
+    ensures { MatchResult result (λ cells. IsRead text.now cells.items) (IsRefused text.now) }
+{
+    let mut reader = Reader {
+        cells: Vec::new(alloc),
+        at: 0,
+        top: 0,
+        depth: 0,
+    };
+    let mut next = Next::Value;
+    'reading: while !reader.is_done(next) {
+        next = match next {
+            Next::Value => reader.value(text)?,
+            Next::First => reader.first(text)?,
+            Next::After => reader.after(text)?,
+        };
+    }
+    let end = scan::blanks_end(text, reader.at);
+    if end != text.len() {
+        return Err(bad(end));
+    }
+    let Reader { cells, .. } = reader;
+    Ok(cells)
 }
