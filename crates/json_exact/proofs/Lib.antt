@@ -13,3 +13,6 @@ pub mod Tokens
 pub mod Turns
 pub mod Onward
 pub mod Behind
+pub mod Calls
+pub mod Unique
+pub mod Decoding

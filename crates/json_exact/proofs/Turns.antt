@@ -207,3 +207,13 @@ open_turn text r new b kind (Err e) (fs, limit, h, hr) q k (inl o) =
       deeper = (j.rest, j.value, subst (λ (x : List ℕ). SpelledWithin 65 x j.value) (sym (seam j.rest)) (h.agrees.back 1 (opening b ∷ j.rest) j.value (here_counts text at (opening b) limit hr q j.rest) opened))
     } in
     subst (IsRefused text) (sym o.1) t
+
+pub top_within : (text : List ℕ) (r : Reader) (limit : Limit) (fs : List Frame) (tail : List Cell) (Rest : ℕ → ℕ → List ℕ → Json → Type 0) → Holds text r limit fs tail Rest → r.top ≤ length r.cells.items
+top_within text r limit [] tail Rest h = omega (arith, h.top_is)
+top_within text r limit (f ∷ fs) tail Rest h =
+    let c : List Cell = cell (kind_of_bracket f.kind) f.from (top_of fs) 0 ∷ (cells_done f.done ++ name_cells f.name) in
+    let n : length r.cells.items ≡ length (open_cells fs) + length c + length tail = ap length h.laid ∙ length-append (open_cells fs ++ c) tail ∙ ap (λ (m : ℕ). m + length tail) (length-append (open_cells fs) c) in
+    omega (arith, h.top_is)
+
+pub top_below : (text : List ℕ) (r : Reader) → ReadsValueHere text r → r.top ≤ length r.cells.items
+top_below text r (fs, limit, h, hr) = top_within text r limit fs [] (λ d n. Before d n fs) h

@@ -1,5 +1,5 @@
 // The reader: one pass over the text. The open brackets are kept in the cells themselves.
-ghost use Rattle.std.specs.Prelude.{◌≡◌, ◌≢◌, ◌+◌, ◌-◌, ◌<◌, ◌≤◌, length, IfOk, IfErr, MatchResult, slice_index, vec_len};
+ghost use Rattle.std.specs.Prelude.{◌≡◌, ◌≢◌, ◌+◌, ◌-◌, ◌<◌, ◌≤◌, length, IfOk, IfErr, MatchResult, slice_index};
 ghost use Rattle.json_exact.specs.JsonText.{SpelledWithin};
 ghost use Rattle.json_exact.specs.Refusals.{IsRefused};
 ghost use Rattle.json_exact.specs.Reading.{EndsLeaf, StopsLeaf, ReadsValue, ReadsValueHere, ReadsName, ReadsNameHere, ReadsColon, ReadsFirst, ReadsBehind, Reads, Puts, Opens, Closes, HasOpen, finished, closing_of, with_kind, IsRead};
@@ -142,8 +142,8 @@ impl Reader {
     fn open(&mut self, text: &[u8], kind: Kind) -> Result<Next, JsonError>
         requires small { length text.now ≤ 33554432 }
         requires here { self.old.at < length text.now }
-        requires top { self.old.top ≤ vec_len self.old.cells }
-        requires few { vec_len self.old.cells ≤ self.old.at }
+        requires top { self.old.top ≤ length self.old.cells.items }
+        requires few { length self.old.cells.items ≤ self.old.at }
         requires shallow { self.old.depth ≤ 64 }
         ensures { Opens self.old kind self.new result }
     {
@@ -170,7 +170,7 @@ impl Reader {
         requires small { length text.now ≤ 33554432 }
         requires here { self.old.at < length text.now }
         requires has { HasOpen self.old }
-        requires few { vec_len self.old.cells ≤ self.old.at }
+        requires few { length self.old.cells.items ≤ self.old.at }
         ensures { Closes self.old self.new }
     {
         let open = self.cells[self.top];
