@@ -16,3 +16,4 @@ pub mod Behind
 pub mod Calls
 pub mod Unique
 pub mod Decoding
+pub mod Fronts

@@ -3,6 +3,7 @@
 #![tactic(auto)]
 
 mod cells;
+mod decode;
 
 mod error;
 mod reader;
