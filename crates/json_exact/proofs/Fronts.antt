@@ -1,10 +1,12 @@
 -- What the first character of a string's content stands for.
-use Rattle.std.proofs.Common.{◌≡◌, ◌≢◌, ℕ, zero, suc, ◌+◌, ◌-◌, ◌*◌, ◌<◌, ◌≤◌, List, [], ◌∷◌, ◌++◌, length, get_or, take, drop, Bool, true, false, cond, refl, sym, ◌∙◌, ap, subst, arith, append_assoc, eqb, ◌&&◌}
-use Rattle.std.proofs.lemmas.Bool.{eq-eqb, ne_eqb, both_ways}
-use Rattle.std.proofs.lemmas.List.{length-drop, get_or-drop, drop-drop}
+use Rattle.std.proofs.Common.{◌≡◌, ◌≢◌, ℕ, zero, suc, ◌+◌, ◌-◌, ◌*◌, ◌<◌, ◌≤◌, List, [], ◌∷◌, ◌++◌, length, get_or, take, drop, Bool, true, false, cond, refl, sym, ◌∙◌, ap, subst, arith, append_assoc, eqb, ltb, leb, ◌&&◌, ◌/◌, ◌%◌}
+use Rattle.std.proofs.lemmas.Bool.{eq-eqb, ne_eqb, eqb-true, eqb-false, both_ways, lt-ltb, le-ltb, and_left, and_right, and_from, lt-leb, le-leb}
+use lib.Utf8.{encode}
+use Rattle.std.proofs.lemmas.List.{length-take-le, drop_all, append-nil, length-drop, get_or-drop, drop-drop}
 use Rattle.std.specs.Char.{encode_utf8}
 use Rattle.json_exact.specs.Characters.{decoded, decoded_behind, between, backslash, backslash_u, high_half, code_unit, is_high_surrogate, surrogate_pair, short_value}
-use Rattle.json_exact.specs.Bytes.{same_bytes, begins_with}
+use Rattle.json_exact.specs.Bytes.{same_bytes, begins_with, piece_bytes, Fronts}
+use Rattle.json_exact.specs.declared.decode.Piece.{Piece}
 use Rattle.json_exact.proofs.Scanning.{on, off}
 
 pub front_plain : (raw : List ℕ) → 0 < length raw → get_or raw 0 0 ≢ 92 → decoded raw ≡ (get_or raw 0 0 ∷ []) ++ decoded (drop 1 raw)
@@ -127,3 +129,100 @@ pub same_behind : (p x n : List ℕ) → same_bytes (p ++ x) n ≡ (begins_with 
 same_behind [] x n = refl
 same_behind (a ∷ p) x [] = refl
 same_behind (a ∷ p) x (b ∷ n) = ap (λ (y : Bool). eqb a b && y) (same_behind p x n) ∙ same_front (eqb a b) (begins_with p n) (same_bytes x (drop (length p) n))
+
+and_false : (a b : Bool) → false ≡ b → false ≡ (a && b)
+and_false true b e = e
+and_false false b e = refl
+
+pub too_short : (f t : List ℕ) → length t < length f → false ≡ begins_with f t
+too_short [] t h = absurd (omega arith)
+too_short (x ∷ f) [] h = refl
+too_short (x ∷ f) (y ∷ t) h = and_false (eqb x y) (begins_with f t) (too_short f t (omega arith))
+
+-- ---- UTF-8 by the size of the code
+
+pub one_byte : (c : ℕ) → c < 128 → c ∷ [] ≡ encode c
+unfolding encode
+one_byte c h = sym (on (ltb c 128) _ _ _ (lt-ltb c 128 h) refl)
+
+pub two_bytes : (c : ℕ) → 128 ≤ c → c < 2048 → (192 + c / 64) ∷ (128 + c % 64) ∷ [] ≡ encode c
+unfolding encode
+two_bytes c l h = sym (off (ltb c 128) _ _ _ (le-ltb c 128 l) (on (ltb c 2048) _ _ _ (lt-ltb c 2048 h) refl))
+
+pub three_bytes : (c : ℕ) → 2048 ≤ c → c < 65536 → (224 + c / 4096) ∷ (128 + c / 64 % 64) ∷ (128 + c % 64) ∷ [] ≡ encode c
+unfolding encode
+three_bytes c l h =
+    let l' : 128 ≤ c = omega arith in
+    sym (off (ltb c 128) _ _ _ (le-ltb c 128 l') (off (ltb c 2048) _ _ _ (le-ltb c 2048 l) (on (ltb c 65536) _ _ _ (lt-ltb c 65536 h) refl)))
+
+pub four_bytes : (c : ℕ) → 65536 ≤ c → (240 + c / 262144) ∷ (128 + c / 4096 % 64) ∷ (128 + c / 64 % 64) ∷ (128 + c % 64) ∷ [] ≡ encode c
+unfolding encode
+four_bytes c l =
+    let l1 : 128 ≤ c = omega arith in
+    let l2 : 2048 ≤ c = omega arith in
+    sym (off (ltb c 128) _ _ _ (le-ltb c 128 l1) (off (ltb c 2048) _ _ _ (le-ltb c 2048 l2) (off (ltb c 65536) _ _ _ (le-ltb c 65536 l) refl)))
+
+-- ---- a piece, and what it stands for
+
+pub fronts_of : (raw : List ℕ) (p : Piece) (used : ℕ) (bytes : List ℕ) → p.used ≡ used → piece_bytes p ≡ bytes → p.len ≤ 4 → length (piece_bytes p) ≡ p.len → 0 < used → used ≤ length raw
+    → decoded raw ≡ bytes ++ decoded (drop used raw) → Fronts raw p
+fronts_of raw p used bytes e f l z h k d = record {
+  some = omega (arith, e); in_raw = omega (arith, e); fits = l; size = z;
+  bytes = d ∙ ap (λ (x : List ℕ). x ++ decoded (drop used raw)) (sym f) ∙ ap (λ (n : ℕ). piece_bytes p ++ decoded (drop n raw)) (sym e)
+}
+
+pub low_unit : (u : ℕ) → u < 55296 → is_high_surrogate u ≡ false
+low_unit u h = and_left (leb 55296 u) (leb u 56319) (lt-leb 55296 u h)
+
+pub high_unit : (u : ℕ) → 56319 < u → is_high_surrogate u ≡ false
+high_unit u h = and_right (leb 55296 u) (leb u 56319) (lt-leb u 56319 h)
+
+pub is_high : (u : ℕ) → 55296 ≤ u → u ≤ 56319 → is_high_surrogate u ≡ true
+is_high u h k = and_from (leb 55296 u) (leb u 56319) (le-leb 55296 u h) (le-leb u 56319 k)
+
+pub pair_is : (u l s : ℕ) → s ≡ l - 56320 → encode_utf8 (65536 + ((u - 55296) * 1024 + s)) ≡ encode_utf8 (surrogate_pair u l)
+pair_is u l s e = ap (λ (x : ℕ). encode_utf8 (65536 + ((u - 55296) * 1024 + x))) e
+
+nothing_decoded : (raw : List ℕ) (i : ℕ) → i ≤ length raw → length raw ≤ i → decoded (drop i raw) ≡ []
+unfolding decoded_behind
+nothing_decoded raw i h k = ap decoded (drop_all i raw k)
+
+pub all_appended : (raw : List ℕ) (i : ℕ) (out all : List ℕ) → i ≤ length raw → length raw ≤ i → out ++ decoded (drop i raw) ≡ all → out ≡ all
+all_appended raw i out all h k e = sym (append-nil out) ∙ ap (λ (x : List ℕ). out ++ x) (sym (nothing_decoded raw i h k)) ∙ e
+
+-- one piece on
+pub appended_on : (raw : List ℕ) (i : ℕ) (p : Piece) (out all : List ℕ) → i ≤ length raw → Fronts (drop i raw) p → out ++ decoded (drop i raw) ≡ all → (out ++ piece_bytes p) ++ decoded (drop (i + p.used) raw) ≡ all
+appended_on raw i p out all h f e =
+    append_assoc out (piece_bytes p) (decoded (drop (i + p.used) raw))
+    ∙ ap (λ (x : List ℕ). out ++ (piece_bytes p ++ decoded x)) (sym (drop-drop p.used i raw)) ∙ ap (λ (x : List ℕ). out ++ x) (sym f.bytes) ∙ e
+
+pub spelled_on : (raw name : List ℕ) (i j : ℕ) (p : Piece) → Fronts (drop i raw) p → begins_with (piece_bytes p) (drop j name) ≡ true
+    → same_bytes (decoded raw) name ≡ same_bytes (decoded (drop i raw)) (drop j name)
+    → same_bytes (decoded raw) name ≡ same_bytes (decoded (drop (i + p.used) raw)) (drop (j + p.len) name)
+spelled_on raw name i j p f b e =
+    let len : length (piece_bytes p) ≡ p.len = f.size in
+    e ∙ ap (λ (x : List ℕ). same_bytes x (drop j name)) f.bytes ∙ same_behind (piece_bytes p) (decoded (drop p.used (drop i raw))) (drop j name)
+    ∙ ap (λ (x : Bool). x && same_bytes (decoded (drop p.used (drop i raw))) (drop (length (piece_bytes p)) (drop j name))) b
+    ∙ ap (λ (n : ℕ). same_bytes (decoded (drop p.used (drop i raw))) (drop n (drop j name))) len
+    ∙ ap (λ (x : List ℕ). same_bytes (decoded x) (drop p.len (drop j name))) (drop-drop p.used i raw) ∙ ap (λ (x : List ℕ). same_bytes (decoded (drop (i + p.used) raw)) x) (drop-drop p.len j name)
+
+pub not_spelled : (raw name : List ℕ) (i j : ℕ) (p : Piece) → Fronts (drop i raw) p → begins_with (piece_bytes p) (drop j name) ≡ false
+    → same_bytes (decoded raw) name ≡ same_bytes (decoded (drop i raw)) (drop j name) → false ≡ same_bytes (decoded raw) name
+not_spelled raw name i j p f b e =
+    sym (e ∙ ap (λ (x : List ℕ). same_bytes x (drop j name)) f.bytes ∙ same_behind (piece_bytes p) (decoded (drop p.used (drop i raw))) (drop j name)
+    ∙ ap (λ (x : Bool). x && same_bytes (decoded (drop p.used (drop i raw))) (drop (length (piece_bytes p)) (drop j name))) b)
+
+same_none : (xs : List ℕ) → same_bytes [] xs ≡ eqb (length xs) 0
+same_none [] = refl
+same_none (x ∷ xs) = sym (ne_eqb (suc (length xs)) 0 (λ e. omega arith))
+
+size_left : (j n : ℕ) → j ≤ n → eqb j n ≡ eqb (n - j) 0
+size_left j n h = elim (eqb j n) as (λ v. eqb j n ≡ v → v ≡ eqb (n - j) 0)
+    [ true ↦ λ e. sym (eq-eqb (n - j) 0 (omega (arith, eqb-true j n e)))
+    | false ↦ λ e. sym (ne_eqb (n - j) 0 (λ f. eqb-false j n e (omega arith))) ] refl
+
+pub all_spelled : (raw name : List ℕ) (i j : ℕ) → i ≤ length raw → length raw ≤ i → j ≤ length name
+    → same_bytes (decoded raw) name ≡ same_bytes (decoded (drop i raw)) (drop j name) → eqb j (length name) ≡ same_bytes (decoded raw) name
+all_spelled raw name i j h k l e =
+    sym (e ∙ ap (λ (x : List ℕ). same_bytes x (drop j name)) (nothing_decoded raw i h k) ∙ same_none (drop j name)
+    ∙ ap (λ (n : ℕ). eqb n 0) (length-drop j name) ∙ sym (size_left j (length name) l))

@@ -24,4 +24,5 @@ pub record Fronts (raw : List ℕ) (p : Piece) : Type 0 where
   pub some : 0 < p.used
   pub in_raw : p.used ≤ length raw
   pub fits : p.len ≤ 4
+  pub size : length (piece_bytes p) ≡ p.len
   pub bytes : decoded raw ≡ piece_bytes p ++ decoded (drop p.used raw)

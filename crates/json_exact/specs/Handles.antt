@@ -58,3 +58,17 @@ value_of j = first_value j.text.now j.cells.items
 
 abbrev pub items_left : Items → List Value'
 items_left i = values (all_parts i.text.now square i.cells.now)
+
+-- ---- the first cell
+
+abbrev pub first_kind : List Cell → Kind
+first_kind [] = Null
+first_kind (c ∷ cells) = c.kind
+
+abbrev pub first_inside : List Cell → List Cell
+first_inside [] = []
+first_inside (c ∷ cells) = take c.inside cells
+
+-- the value that the first cell and those within it stand for
+abbrev pub cell_value : List ℕ → Cell → List Cell → Value'
+cell_value text c inside = first_value text (c ∷ inside)

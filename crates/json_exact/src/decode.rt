@@ -1,5 +1,5 @@
 // What the bytes between the quotes of a string stand for.
-ghost use Rattle.std.specs.Prelude.{◌≡◌, ◌+◌, ◌<◌, ◌≤◌, ◌++◌, length, take, MatchResult};
+ghost use Rattle.std.specs.Prelude.{◌≡◌, ◌+◌, ◌<◌, ◌≤◌, ◌++◌, length, take, drop, IsTrue, MatchResult};
 ghost use Rattle.std.specs.Char.{encode_utf8};
 ghost use Rattle.json_exact.specs.Characters.{hex_value, code_unit, short_value, decoded};
 ghost use Rattle.json_exact.specs.Bytes.{same_bytes, begins_with, piece_bytes, Fronts};
@@ -12,6 +12,15 @@ struct Piece {
     bytes: [u8; 4],
     len: usize,
     used: usize,
+}
+
+impl Piece {
+    fn bytes(&self) -> &[u8]
+        requires { self.now.len ≤ 4 }
+        ensures { result.now ≡ piece_bytes self.now }
+    {
+        &self.bytes[..self.len]
+    }
 }
 
 fn hex_value(b: u8) -> u32
@@ -48,11 +57,11 @@ fn short_value(b: u8) -> u8
 }
 
 /// The UTF-8 of a character, written with `used` bytes.
-#[tactic(auto, unfolding(std::specs::Char::encode_utf8))]
 fn encoded(code: u32, used: usize) -> Piece
     requires { code < 4194304 }
     ensures bytes { piece_bytes result ≡ encode_utf8 code }
     ensures fits { result.len ≤ 4 }
+    ensures size { length (piece_bytes result) ≡ result.len }
     ensures used { result.used ≡ used }
 {
     let last = (128 + code % 64) as u8;
@@ -139,21 +148,30 @@ fn front(raw: &[u8]) -> Piece
     )
 }
 
+/// What stands from a place on.
+fn behind(raw: &[u8], at: usize) -> &[u8]
+    requires { at ≤ length raw.now }
+    ensures { result.now ≡ drop at raw.now }
+{
+    &raw[at..]
+}
+
 /// Appends the characters.
 pub(crate) fn append(raw: &[u8], out: &mut Vec<u8>) -> Result<(), AllocError>
     ensures { MatchResult result (λ _. out.new.items ≡ out.old.items ++ decoded raw.now) (λ _. take (length out.old.items) out.new.items ≡ out.old.items) }
 {
     let mut i = 0;
     'characters: while i < raw.len() {
-        let piece = front(&raw[i..]);
-        out.extend_from_slice(&piece.bytes[..piece.len])?;
+        let piece = front(behind(raw, i));
+        out.extend_from_slice(piece.bytes())?;
         i += piece.used;
     }
     Ok(())
 }
 
 fn begins_with(text: &[u8], front: &[u8]) -> bool
-    ensures { result ≡ begins_with front.now text.now }
+    ensures value { result ≡ begins_with front.now text.now }
+    ensures fits { IsTrue result → length front.now ≤ length text.now }
 {
     if text.len() < front.len() {
         return false;
@@ -171,14 +189,14 @@ pub(crate) fn spells(raw: &[u8], name: &[u8]) -> bool
     ensures { result ≡ same_bytes (decoded raw.now) name.now }
 {
     let mut i = 0;
-    let mut rest = name;
+    let mut j = 0;
     'characters: while i < raw.len() {
-        let piece = front(&raw[i..]);
-        if !begins_with(rest, &piece.bytes[..piece.len]) {
+        let piece = front(behind(raw, i));
+        if !begins_with(behind(name, j), piece.bytes()) {
             return false;
         }
-        rest = &rest[piece.len..];
         i += piece.used;
+        j += piece.len;
     }
-    rest.is_empty()
+    j == name.len()
 }

@@ -1,14 +1,25 @@
-// Handles on the values of a text.
-use crate::cells::Cell;
+// A text that was read, and handles on its values.
+ghost use Rattle.std.specs.Prelude.{◌≡◌, ◌≢◌, ◌⊎◌, ◌+◌, ◌-◌, ◌≤◌, ◌++◌, length, take, true, false, None, Some, IfOk, IfErr, MatchOption, MatchResult, option_map, slice_range};
+ghost use Rattle.json_exact.specs.Json.{Json as JsonValue, begins_at, ends_at, items, member, number_of, text_of, is_null, is_list, is_object};
+ghost use Rattle.json_exact.specs.JsonText.{SpelledWithin};
+ghost use Rattle.json_exact.specs.Refusals.{IsRefused, depth_limit};
+ghost use Rattle.json_exact.specs.Bytes.{same_bytes};
+ghost use Rattle.json_exact.specs.Handles.{json_of, value_of, items_left, first_kind, first_inside, characters_of, cell_value};
+
+use crate::cells::{Cell, Kind};
+use crate::decode;
+use crate::error::JsonError;
+use crate::reader;
+use std::alloc::{AllocError, Global};
 
 /// A text that was read.
 #[derive(Drop)]
 pub struct Json<'t> {
-    pub(crate) text: &'t [u8],
-    pub(crate) cells: Vec<Cell>,
+    text: &'t [u8],
+    cells: Vec<Cell>,
 }
 
-/// A value of a text that was read. It is a pair of borrows and copied freely.
+/// A value of a text that was read. It borrows the text and what was read of it, and is copied freely.
 #[derive(Clone, Copy, Drop)]
 pub struct Value<'j, 't> {
     cells: &'j [Cell],
@@ -27,4 +38,140 @@ pub struct Items<'j, 't> {
 pub struct Span {
     pub at: u32,
     pub end: u32,
+}
+
+/// Reads the one value of a text (RFC 8259, in UTF-8), with brackets at most 64 deep.
+pub fn parse<'t>(alloc: Global, text: &'t [u8]) -> Result<Json<'t>, JsonError>
+    requires { length text.now ≤ 33554432 }
+    // What is read is the value that the text spells,
+    ensures value { IfOk result (λ j. SpelledWithin depth_limit text.now (value_of j)) }
+    // what the text spells is read, and there is no other value,
+    ensures only { (v : JsonValue) → SpelledWithin depth_limit text.now v → MatchResult result (λ j. value_of j ≡ v) (λ e. e ≡ JsonError.OutOfMemory) }
+    // a refusal is that of the text,
+    ensures refusal { IfErr result (λ e. IsRefused text.now e) }
+    // and a text that is to be refused so is refused so.
+    ensures refused { (e : JsonError) → IsRefused text.now e → e ≢ JsonError.OutOfMemory → MatchResult result (λ _. ⊥) (λ f. (f ≡ e) ⊎ (f ≡ JsonError.OutOfMemory)) }
+{
+    match reader::read(alloc, text) {
+        Ok(cells) => Ok(Json { text, cells }),
+        Err(refused) => Err(refused),
+    }
+}
+
+/// The bytes from one place to another, as far as the text has them.
+fn part(text: &[u8], from: usize, to: usize) -> &[u8]
+    ensures { result.now ≡ slice_range text.now from to }
+{
+    let end = to.min(text.len());
+    let begin = from.min(end);
+    &text[begin..end]
+}
+
+/// What stands between the quotes of a string or a name.
+fn characters(text: &[u8], cell: Cell) -> &[u8]
+    ensures { result.now ≡ slice_range text.now (cell.at + 1) (cell.end - 1) }
+{
+    part(
+        text,
+        cell.at as usize + 1,
+        (cell.end as usize).saturating_sub(1),
+    )
+}
+
+impl<'t> Json<'t> {
+    /// The value of the whole text.
+    pub fn root(&self) -> Value<'_, 't>
+        ensures { json_of result ≡ value_of self.now }
+    {
+        Value {
+            cells: self.cells.as_slice(),
+            text: self.text,
+        }
+    }
+}
+
+impl<'j, 't> Value<'j, 't> {
+    fn kind(self) -> Kind
+        ensures { result ≡ first_kind self.entry.cells.now }
+    {
+        match self.cells.first() {
+            Some(cell) => cell.kind,
+            None => Kind::Null,
+        }
+    }
+
+    /// The cells of what the brackets hold.
+    fn inside(self) -> &'j [Cell]
+        ensures { result.now ≡ first_inside self.entry.cells.now }
+    {
+        if self.cells.is_empty() {
+            return self.cells;
+        }
+        let n = self.cells[0].inside as usize;
+        let end = n.min(self.cells.len() - 1);
+        &self.cells[1..1 + end]
+    }
+
+    pub fn is_null(self) -> bool
+        ensures { result ≡ is_null (json_of self.entry) }
+    {
+        self.kind() == Kind::Null
+    }
+
+    pub fn is_list(self) -> bool
+        ensures { result ≡ is_list (json_of self.entry) }
+    {
+        self.kind() == Kind::List
+    }
+
+    pub fn is_object(self) -> bool
+        ensures { result ≡ is_object (json_of self.entry) }
+    {
+        self.kind() == Kind::Object
+    }
+
+    /// Where the value begins and ends. The span of a string has its quotes, that of a list or an
+    /// object its brackets.
+    pub fn span(self) -> Span
+        ensures at { result.at ≡ begins_at (json_of self.entry) }
+        ensures end { result.end ≡ ends_at (json_of self.entry) }
+    {
+        match self.cells.first() {
+            Some(cell) => Span {
+                at: cell.at,
+                end: cell.end,
+            },
+            None => Span { at: 0, end: 0 },
+        }
+    }
+
+    /// The digits of a number, as they are written. None of any other value.
+    pub fn number(self) -> Option<&'t [u8]>
+        ensures { MatchOption result (number_of (json_of self.entry) ≡ None) (λ digits. number_of (json_of self.entry) ≡ Some digits.now) }
+    {
+        if self.kind() != Kind::Number {
+            return None;
+        }
+        match self.cells.first() {
+            Some(cell) => Some(part(self.text, cell.at as usize, cell.end as usize)),
+            None => None,
+        }
+    }
+
+    /// The values in a list. None in any other value.
+    pub fn items(self) -> Items<'j, 't>
+        ensures { items_left result ≡ items (json_of self.entry) }
+    {
+        if self.kind() == Kind::List {
+            Items {
+                cells: self.inside(),
+                text: self.text,
+            }
+        } else {
+            Items {
+                cells: &[],
+                text: self.text,
+            }
+        }
+    }
 }

@@ -17,6 +17,7 @@ pub use handles::Items;
 pub use handles::Json;
 pub use handles::Span;
 pub use handles::Value;
+pub use handles::parse;
 
 
 
