@@ -74,8 +74,12 @@ pub stops : (text : List ℕ) (at k : ℕ) (limit : Limit) (Rest : ℕ → ℕ �
     → Agrees text at limit Rest → at ≤ k → k ≤ length text → Halts text at k limit Rest → Stops text k
 stops text at k limit Rest a h j t = record {
   in_text = j;
-  before = (t.alive.rest, t.alive.value, subst (λ (q : List ℕ). SpelledWithin depth_limit q t.alive.value) (sym (up_to_with text t.alive.rest at k h j))
-      (a.back 0 (slice_range text at k ++ t.alive.rest) t.alive.value (t.alive_counts t.alive.rest t.alive.value t.alive.ends) t.alive.ends));
+  before = (
+    t.alive.rest,
+    t.alive.value,
+    subst (λ (q : List ℕ). SpelledWithin depth_limit q t.alive.value) (sym (up_to_with text t.alive.rest at k h j))
+        (a.back 0 (slice_range text at k ++ t.alive.rest) t.alive.value (t.alive_counts t.alive.rest t.alive.value t.alive.ends) t.alive.ends),
+  );
   byte = λ lt more can.
       t.dead lt more _ can.0 can.1 (a.into more (slice_range text at (suc k) ++ can.0) can.1 (t.dead_counts lt can.0)
       (subst (λ (q : List ℕ). SpelledWithin (depth_limit + more) q can.1) (up_to_with text can.0 at (suc k) (omega arith) (omega arith)) can.2));
@@ -104,9 +108,10 @@ pub no_surrogate : (text : List ℕ) (at k : ℕ) (limit : Limit) (Rest : ℕ �
 no_surrogate text at k limit Rest a h plain s i =
     let b : slice_index text s ≡ 92 = surrogate_first text s k i.order i.surrogate in
     let long : s + 4 ≤ suc k = surrogate_long text s k i.stops_inside i.surrogate in
-    elim (cases_lt s at)
-    [ inl lt ↦ (let o = a.letters s lt b i.letter in i.no_letter o.0 o.1 (omega (arith, o.2)) o.3)
-    | inr le ↦ plain s le (omega arith) b ]
+    elim (cases_lt s at) [
+      | inl lt ↦ (let o = a.letters s lt b i.letter in i.no_letter o.0 o.1 (omega (arith, o.2)) o.3)
+      | inr le ↦ plain s le (omega arith) b
+    ]
 
 pub bad_here : (text : List ℕ) (at k : ℕ) (limit : Limit) (Rest : ℕ → ℕ → List ℕ → Json → Type 0)
     → Agrees text at limit Rest → at ≤ k → k ≤ length text → Halts text at k limit Rest → ((s : ℕ) → at ≤ s → s < k → slice_index text s ≢ 92) → IsBad text k
@@ -140,7 +145,7 @@ letter_between text at j limit Rest a t c h k q w =
     let e1 : (take j text ++ 120 ∷ []) ++ i.rest ≡ take j text ++ (120 ∷ [] ++ i.rest) = append_assoc (take j text) (120 ∷ []) i.rest in
     let e2 : take j text ++ (120 ∷ [] ++ i.rest) ≡ take at text ++ (slice_range text at j ++ (120 ∷ [] ++ i.rest)) = up_to_with text (120 ∷ [] ++ i.rest) at j (omega arith) k in
     let e3 : slice_range text at j ++ (120 ∷ [] ++ i.rest) ≡ (34 ∷ (p ++ 120 ∷ [])) ++ i.rest
-        = ap (λ (x : List ℕ). x ++ (120 ∷ [] ++ i.rest)) (from_quote text at j h k q) ∙ ap (λ (x : List ℕ). 34 ∷ x) (sym (append_assoc p (120 ∷ []) i.rest)) in
+    = ap (λ (x : List ℕ). x ++ (120 ∷ [] ++ i.rest)) (from_quote text at j h k q) ∙ ap (λ (x : List ℕ). 34 ∷ x) (sym (append_assoc p (120 ∷ []) i.rest)) in
     let e : (take j text ++ 120 ∷ []) ++ i.rest ≡ take at text ++ ((34 ∷ (p ++ 120 ∷ [])) ++ i.rest) = e1 ∙ e2 ∙ ap (λ (x : List ℕ). take at text ++ x) e3 in
     (i.rest, i.value, subst (λ (x : List ℕ). SpelledWithin depth_limit x i.value) (sym e) (a.back 0 ((34 ∷ (p ++ 120 ∷ [])) ++ i.rest) i.value (c ((p ++ 120 ∷ []) ++ i.rest)) i.ends))
 
@@ -214,9 +219,10 @@ not_alone text at i k limit Rest a t c q h half s x =
     let o : i ≤ k = h.order in
     let l : k ≤ length text = h.in_text in
     let b : slice_index text s ≡ 92 = surrogate_first text s k x.order x.surrogate in
-    elim (cases_lt s at)
-    [ inl lt ↦ (let y = a.letters s lt b x.letter in x.no_letter y.0 y.1 (omega (arith, y.2)) y.3)
-    | inr le ↦ not_alone_here text at i k limit Rest a t c q h half s x b le (cases_lt s i) (cases_lt i s) ]
+    elim (cases_lt s at) [
+      | inl lt ↦ (let y = a.letters s lt b x.letter in x.no_letter y.0 y.1 (omega (arith, y.2)) y.3)
+      | inr le ↦ not_alone_here text at i k limit Rest a t c q h half s x b le (cases_lt s i) (cases_lt i s)
+    ]
 
 string_halts : (text : List ℕ) (at i k : ℕ) (limit : Limit) (Rest : ℕ → ℕ → List ℕ → Json → Type 0) → Agrees text at limit Rest → TakesString Rest
     → ((q : List ℕ) → Counts limit (34 ∷ q)) → slice_index text at ≡ 34 → StopsString text (suc at) i k → Halts text at k limit Rest
@@ -232,7 +238,7 @@ string_halts text at i k limit Rest a t c q h =
     let stuck : k < length text → Stuck p (slice_index text k) = λ in'. record {
       alive = h.before;
       quote = λ w. h.quote in' (no_later text (suc at) i k o h.inside w);
-      stuck = sym (ap (steps whole) (range_more text (suc at) k (omega arith) in') ∙ steps-append whole p (slice_index text k ∷ [])) ∙ h.byte in'
+      stuck = sym (ap (steps whole) (range_more text (suc at) k (omega arith) in') ∙ steps-append whole p (slice_index text k ∷ [])) ∙ h.byte in';
     } in
     let i' : EndsBehind depth_limit at (34 ∷ p) Rest = t.ends at p h.before in
     record {
@@ -242,7 +248,7 @@ string_halts text at i k limit Rest a t c q h =
           (subst (λ (y : List ℕ). Rest (depth_limit + more) n y v) (ap (λ (y : List ℕ). y ++ r) (longer in') ∙ ap (λ (y : List ℕ). 34 ∷ y) (append_assoc p (slice_index text k ∷ []) r)) x);
       dead_counts = λ in' r. subst (λ (y : List ℕ). Counts limit (y ++ r)) (sym (longer in')) (c ((p ++ slice_index text k ∷ []) ++ r));
       over = λ e more n v x. t.over more n p v h.before (subst (λ (y : List ℕ). Rest (depth_limit + more) n y v) all x);
-      over_counts = λ e. subst (λ (y : List ℕ). Counts limit y) (sym all) (c p)
+      over_counts = λ e. subst (λ (y : List ℕ). Counts limit y) (sym all) (c p);
     }
 
 pub string_stops : (text : List ℕ) (at counted : ℕ) (limit : Limit) (Rest : ℕ → ℕ → List ℕ → Json → Type 0) → Agrees text at limit Rest → TakesString Rest
@@ -252,10 +258,11 @@ string_stops text at counted limit Rest a t c q (i, k, h, inl half) =
     let o : i ≤ k = h.order in
     let l : k ≤ length text = h.in_text in
     let alone : IsAlone text i k = record {
-      order = o; stops_inside = half.0.stops_inside;
+      order = o;
+      stops_inside = half.0.stops_inside;
       letter = letter_between text at i limit Rest a t c (omega arith) (omega arith) q h.characters;
       no_letter = λ j lt le can. letter_inside text at j limit Rest a t c (omega arith) (omega arith) q (refused_on text (suc at) j k (omega arith) le l h.before) (h.inside j lt le) can;
-      surrogate = half.0.surrogate
+      surrogate = half.0.surrogate;
     } in
     (k, stops text at k limit Rest a (omega arith) l (string_halts text at i k limit Rest a t c q h), inl (subst (λ (x : ℕ). IsAlone text x k) (sym half.1) alone))
 string_stops text at counted limit Rest a t c q (i, k, h, inr other) =

@@ -36,14 +36,12 @@ use Rattle.json_exact.proofs.Stuck as stuck
 use Rattle.json_exact.proofs.Endings.{EndsBehind, Ends, digit_ends, before_ends, word_ends, number_ends_so, string_ends, name_ends, colon_ends, behind_ends, opened_ends}
 use Rattle.json_exact.proofs.Agreeing.{Advances, advance, Halts, stops, bad_here, TakesString, string_stops, string_letters, string_bytes}
 use Rattle.json_exact.proofs.Tokens.{All92, blanks_plain, plain_part, within_word, number_plain, other_halts, end_halts, bad_at, leaf_bad, takes_value, takes_name, wide_before, wide_name, wide_here, token_counts, front_counts}
-
 use Rattle.json_exact.specs.Scans.{IsHalf}
 use Rattle.json_exact.proofs.Steps.{closing_clear}
 use Rattle.json_exact.proofs.Onward.{close_cells, cells_onto, top_cell, top_in}
 use Rattle.json_exact.specs.Reading.{IsRead}
 use Rattle.std.proofs.lemmas.List.{take_all}
 use Rattle.json_exact.proofs.Turns.{hold_blanks, advance_blanks, advance_one, one_on, here, here_counts, closing_plain, one_range}
-
 
 -- which rests count behind a value
 behind_counts : (limit : Limit) (text : List ℕ) (at d n : ℕ) (fs : List Frame) (w : Json) (rest : List ℕ) (v : Json) → IsClear limit text at → Behind d n fs w rest v → Counts limit rest
@@ -85,7 +83,7 @@ blanked_by text r e fs w limit h c p (inr le) =
     record {
       limit = limit;
       holds = record { agrees = subst (λ (m : ℕ). Agrees text m limit (λ d n. Behind d n fs w)) same h.agrees; laid = h.laid; top_is = h.top_is; depth_is = h.depth_is; shallow = h.shallow; few = omega (arith, h.few) };
-      clear = subst (λ (m : ℕ). IsClear limit text m) same c
+      clear = subst (λ (m : ℕ). IsClear limit text m) same c;
     }
 blanked_by text r e fs w limit h c p (inl lt) =
     record {
@@ -95,11 +93,15 @@ blanked_by text r e fs w limit h c p (inl lt) =
           into = λ m rest v k x. behind_pass (depth_limit + m) _ fs w (slice_range text r.at e) rest v p.blanks x;
           back = λ m rest v k x. behind_more (depth_limit + m) _ fs w (slice_range text r.at e) rest v p.blanks x;
           counts = λ rest k. blank_counts limit text r.at e rest c lt p.in_text p.blanks;
-          letters = λ s i j b can. absurd (plain_part text r.at e (slice_range text r.at e) p.in_text refl (blanks_plain (slice_range text r.at e) p.blanks) s i j b)
+          letters = λ s i j b can. absurd (plain_part text r.at e (slice_range text r.at e) p.in_text refl (blanks_plain (slice_range text r.at e) p.blanks) s i j b);
         });
-        laid = h.laid; top_is = h.top_is; depth_is = h.depth_is; shallow = h.shallow; few = omega (arith, h.few)
+        laid = h.laid;
+        top_is = h.top_is;
+        depth_is = h.depth_is;
+        shallow = h.shallow;
+        few = omega (arith, h.few);
       };
-      clear = tt
+      clear = tt;
     }
 
 pub blanked : (text : List ℕ) (r : Reader) (e : ℕ) (fs : List Frame) (w : Json) (limit : Limit) → Holds text r limit fs (cells_of w) (λ d n. Behind d n fs w) → IsClear limit text r.at
@@ -129,17 +131,26 @@ behind_close text r new e f fs w b lt q k =
     let h = b.holds in
     let ps : Parts = part f.name w no_parts in
     let inside : cells_in (onto f.done ps) ≡ (cells_done f.done ++ name_cells f.name) ++ cells_of w =
-        cells_onto f.done ps ∙ ap (λ (x : List Cell). cells_done f.done ++ (name_cells f.name ++ x)) (append-nil (cells_of w)) ∙ sym (append_assoc (cells_done f.done) (name_cells f.name) (cells_of w)) in
+    cells_onto f.done ps ∙ ap (λ (x : List Cell). cells_done f.done ++ (name_cells f.name ++ x)) (append-nil (cells_of w)) ∙ sym (append_assoc (cells_done f.done) (name_cells f.name) (cells_of w)) in
     let c = close_cells text (record r { at = e }) new b.limit f fs (cells_of w) (λ d n. Behind d n (f ∷ fs) w) ps h k inside in
     let a : Agrees text (e + 1) any (λ d n. Behind d n fs (closed f (e + 1) ps)) =
-        advance_one text e (closing f.kind) b.limit (λ d n. Behind d n (f ∷ fs) w) (λ d n. Behind d n fs (closed f (e + 1) ps)) h.agrees lt q (closing_plain f.kind)
-        (λ x. byte_counts b.limit text e (closing f.kind) x b.clear (closing_clear f.kind))
-        (λ m rest v x. close_into (depth_limit + m) (e + 1 + length rest) f fs w (e + 1) rest v refl x)
-        (λ m rest v x. close_back (depth_limit + m) (e + 1 + length rest) f fs w (e + 1) rest v refl x) in
-    (fs, closed f (e + 1) ps, any, record {
-      agrees = subst (λ (m : ℕ). Agrees text m any (λ d n. Behind d n fs (closed f (e + 1) ps))) (sym k.3) a;
-      laid = c.0; top_is = c.1; depth_is = c.2; shallow = omega (arith, h.shallow); few = omega (arith, c.3, h.few, k.3)
-    }, tt)
+    advance_one text e (closing f.kind) b.limit (λ d n. Behind d n (f ∷ fs) w) (λ d n. Behind d n fs (closed f (e + 1) ps)) h.agrees lt q (closing_plain f.kind)
+    (λ x. byte_counts b.limit text e (closing f.kind) x b.clear (closing_clear f.kind))
+    (λ m rest v x. close_into (depth_limit + m) (e + 1 + length rest) f fs w (e + 1) rest v refl x)
+    (λ m rest v x. close_back (depth_limit + m) (e + 1 + length rest) f fs w (e + 1) rest v refl x) in (
+      fs,
+      closed f (e + 1) ps,
+      any,
+      record {
+        agrees = subst (λ (m : ℕ). Agrees text m any (λ d n. Behind d n fs (closed f (e + 1) ps))) (sym k.3) a;
+        laid = c.0;
+        top_is = c.1;
+        depth_is = c.2;
+        shallow = omega (arith, h.shallow);
+        few = omega (arith, c.3, h.few, k.3);
+      },
+      tt,
+    )
 
 comma_cells : (text : List ℕ) (r : Reader) (limit : Limit) (k : Bracket) (from : ℕ) (done : List (Option Name × Json)) (name : Option Name) (fs : List Frame) (w : Json) (Rest : ℕ → ℕ → List ℕ → Json → Type 0)
     → Holds text r limit (frame k from done name ∷ fs) (cells_of w) Rest → r.cells.items ≡ open_cells (frame k from ((name, w) ∷ done) None ∷ fs) ++ []
@@ -155,13 +166,19 @@ comma_item text r e from done name fs w b lt q =
     let f : Frame = frame square from done name in
     let g : Frame = frame square from ((name, w) ∷ done) None in
     let a : Agrees text (e + 1) any (λ d n. Before d n (g ∷ fs)) =
-        advance_one text e 44 b.limit (λ d n. Behind d n (f ∷ fs) w) (λ d n. Before d n (g ∷ fs)) h.agrees lt q (eqb-false 44 92 refl) (λ x. byte_counts b.limit text e 44 x b.clear refl)
-        (λ m rest v x. comma_item_into (depth_limit + m) (e + 1 + length rest) from done name fs w rest v x)
-        (λ m rest v x. comma_item_back (depth_limit + m) (e + 1 + length rest) from done name fs w rest v x) in
-    (g ∷ fs, record {
-      agrees = a; laid = comma_cells text (record r { at = e }) b.limit square from done name fs w (λ d n. Behind d n (f ∷ fs) w) h;
-      top_is = h.top_is; depth_is = h.depth_is; shallow = h.shallow; few = omega (arith, h.few)
-    })
+    advance_one text e 44 b.limit (λ d n. Behind d n (f ∷ fs) w) (λ d n. Before d n (g ∷ fs)) h.agrees lt q (eqb-false 44 92 refl) (λ x. byte_counts b.limit text e 44 x b.clear refl)
+    (λ m rest v x. comma_item_into (depth_limit + m) (e + 1 + length rest) from done name fs w rest v x)
+    (λ m rest v x. comma_item_back (depth_limit + m) (e + 1 + length rest) from done name fs w rest v x) in (
+      g ∷ fs,
+      record {
+        agrees = a;
+        laid = comma_cells text (record r { at = e }) b.limit square from done name fs w (λ d n. Behind d n (f ∷ fs) w) h;
+        top_is = h.top_is;
+        depth_is = h.depth_is;
+        shallow = h.shallow;
+        few = omega (arith, h.few);
+      },
+    )
 
 pub comma_name : (text : List ℕ) (r : Reader) (e : ℕ) (from : ℕ) (done : List (Option Name × Json)) (name : Option Name) (fs : List Frame) (w : Json)
     → Blanked text r e (frame curly from done name ∷ fs) w → e < length text → slice_index text e ≡ 44 → ReadsName text (record r { at = e + 1 })
@@ -170,13 +187,21 @@ comma_name text r e from done name fs w b lt q =
     let f : Frame = frame curly from done name in
     let g : Frame = frame curly from ((name, w) ∷ done) None in
     let a : Agrees text (e + 1) any (λ d n. BeforeName d n g fs) =
-        advance_one text e 44 b.limit (λ d n. Behind d n (f ∷ fs) w) (λ d n. BeforeName d n g fs) h.agrees lt q (eqb-false 44 92 refl) (λ x. byte_counts b.limit text e 44 x b.clear refl)
-        (λ m rest v x. comma_name_into (depth_limit + m) (e + 1 + length rest) from done name fs w rest v x)
-        (λ m rest v x. comma_name_back (depth_limit + m) (e + 1 + length rest) from done name fs w rest v x) in
-    (from, (name, w) ∷ done, fs, record {
-      agrees = a; laid = comma_cells text (record r { at = e }) b.limit curly from done name fs w (λ d n. Behind d n (f ∷ fs) w) h;
-      top_is = h.top_is; depth_is = h.depth_is; shallow = h.shallow; few = omega (arith, h.few)
-    })
+    advance_one text e 44 b.limit (λ d n. Behind d n (f ∷ fs) w) (λ d n. BeforeName d n g fs) h.agrees lt q (eqb-false 44 92 refl) (λ x. byte_counts b.limit text e 44 x b.clear refl)
+    (λ m rest v x. comma_name_into (depth_limit + m) (e + 1 + length rest) from done name fs w rest v x)
+    (λ m rest v x. comma_name_back (depth_limit + m) (e + 1 + length rest) from done name fs w rest v x) in (
+      from,
+      (name, w) ∷ done,
+      fs,
+      record {
+        agrees = a;
+        laid = comma_cells text (record r { at = e }) b.limit curly from done name fs w (λ d n. Behind d n (f ∷ fs) w) h;
+        top_is = h.top_is;
+        depth_is = h.depth_is;
+        shallow = h.shallow;
+        few = omega (arith, h.few);
+      },
+    )
 
 -- ---- behind the value of the whole text
 
@@ -190,6 +215,9 @@ root_bad text r e w b lt firm =
 pub root_read : (text : List ℕ) (r : Reader) (e : ℕ) (w : Json) → Blanked text r e [] w → e ≡ length text → IsRead text r.cells.items
 root_read text r e w b n =
     let all : take e text ++ [] ≡ text = append-nil (take e text) ∙ take_all e text (omega arith) in
-    let c : Counts b.limit [] = none_counts b.limit text e b.clear in
-    (w, b.holds.laid, subst (λ (q : List ℕ). SpelledWithin depth_limit q w) all (b.holds.agrees.back 0 [] w c (no_blanks [], refl)),
-    λ v sp. (b.holds.agrees.into 0 [] v c (subst (λ (q : List ℕ). SpelledWithin depth_limit q v) (sym all) sp)).1)
+    let c : Counts b.limit [] = none_counts b.limit text e b.clear in (
+      w,
+      b.holds.laid,
+      subst (λ (q : List ℕ). SpelledWithin depth_limit q w) all (b.holds.agrees.back 0 [] w c (no_blanks [], refl)),
+      λ v sp. (b.holds.agrees.into 0 [] v c (subst (λ (q : List ℕ). SpelledWithin depth_limit q v) (sym all) sp)).1,
+    )

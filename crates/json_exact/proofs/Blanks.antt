@@ -66,12 +66,14 @@ Starts (string text) b = b ≡ 34
 
 number_first : (b : ℕ) → then Nothing b ≢ Misplaced → (b ≡ 45) ⊎ (is_digit b ≡ true)
 number_first b h =
-    elim (b == 45) as (λ v. (b == 45) ≡ v → cond v Minus (cond (b == 48) Zero (cond (is_digit b) Whole Misplaced)) ≢ Misplaced → (b ≡ 45) ⊎ (is_digit b ≡ true))
-    [ true ↦ λ e k. inl (eqb-true b 45 e)
-    | false ↦ λ e k. elim (b == 48) as (λ v. (b == 48) ≡ v → cond v Zero (cond (is_digit b) Whole Misplaced) ≢ Misplaced → (b ≡ 45) ⊎ (is_digit b ≡ true))
-        [ true ↦ λ f l. inr (ap is_digit (eqb-true b 48 f))
+    elim (b == 45) as (λ v. (b == 45) ≡ v → cond v Minus (cond (b == 48) Zero (cond (is_digit b) Whole Misplaced)) ≢ Misplaced → (b ≡ 45) ⊎ (is_digit b ≡ true)) [
+      | true ↦ λ e k. inl (eqb-true b 45 e)
+      | false ↦ λ e k. elim (b == 48) as (λ v. (b == 48) ≡ v → cond v Zero (cond (is_digit b) Whole Misplaced) ≢ Misplaced → (b ≡ 45) ⊎ (is_digit b ≡ true)) [
+        | true ↦ λ f l. inr (ap is_digit (eqb-true b 48 f))
         | false ↦ λ f l. elim (is_digit b) as (λ v. is_digit b ≡ v → cond v Whole Misplaced ≢ Misplaced → (b ≡ 45) ⊎ (v ≡ true))
-            [ true ↦ λ g m. inr refl | false ↦ λ g m. absurd (m refl) ] refl l ] refl k ] refl h
+            [ true ↦ λ g m. inr refl | false ↦ λ g m. absurd (m refl) ] refl l
+      ] refl k
+    ] refl h
 
 number_starts : (bytes : List ℕ) → may_end (written Nothing bytes) ≡ true → (b : ℕ) × (xs : List ℕ) × (bytes ≡ b ∷ xs) × ((b ≡ 45) ⊎ (is_digit b ≡ true))
 number_starts [] h = absurd (both_ways false refl h)
@@ -88,13 +90,16 @@ leaf_starts (string text) bytes h = (34, h.0 ++ 34 ∷ [], h.2, refl)
 -- a blank is none of four bytes and a test at each of them tells
 blank_cases : (b : ℕ) (P : ℕ → Type 0) → is_blank b ≡ true → P 32 → P 9 → P 10 → P 13 → P b
 blank_cases b P h p q r s =
-    elim (or_cases (eqb b 32) (eqb b 9 || (eqb b 10 || eqb b 13)) h)
-    [ inl e ↦ subst P (sym (eqb-true b 32 e)) p
-    | inr f ↦ elim (or_cases (eqb b 9) (eqb b 10 || eqb b 13) f)
-        [ inl e ↦ subst P (sym (eqb-true b 9 e)) q
-        | inr g ↦ elim (or_cases (eqb b 10) (eqb b 13) g)
-            [ inl e ↦ subst P (sym (eqb-true b 10 e)) r
-            | inr e ↦ subst P (sym (eqb-true b 13 e)) s ] ] ]
+    elim (or_cases (eqb b 32) (eqb b 9 || (eqb b 10 || eqb b 13)) h) [
+      | inl e ↦ subst P (sym (eqb-true b 32 e)) p
+      | inr f ↦ elim (or_cases (eqb b 9) (eqb b 10 || eqb b 13) f) [
+        | inl e ↦ subst P (sym (eqb-true b 9 e)) q
+        | inr g ↦ elim (or_cases (eqb b 10) (eqb b 13) g) [
+          | inl e ↦ subst P (sym (eqb-true b 10 e)) r
+          | inr e ↦ subst P (sym (eqb-true b 13 e)) s
+        ]
+      ]
+    ]
 
 firm_if : (b : ℕ) → (is_blank b ≡ true → ⊥) → is_blank b ≡ false
 firm_if b h = elim (is_blank b) as (λ v. is_blank b ≡ v → v ≡ false) [ true ↦ λ e. absurd (h e) | false ↦ λ e. refl ] refl

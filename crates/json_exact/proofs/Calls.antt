@@ -71,8 +71,11 @@ record InBrackets (text : List ℕ) (r : Reader) (e : ℕ) : Type 0 where
 in_brackets : (text : List ℕ) (r : Reader) (e : ℕ) → ReadsBehind text r → 0 < r.depth → PassesBlanks text r.at e → InBrackets text r e
 in_brackets text r e ([], w, limit, h, c) lt p = absurd (omega (arith, h.depth_is))
 in_brackets text r e (f ∷ fs, w, limit, h, c) lt p = record {
-  f = f; fs = fs; w = w; blanks = blanked text r e (f ∷ fs) w limit h c p;
-  cell_is = λ k i. ap (λ (x : Cell). x.kind) (i ∙ top_cell text r limit f fs (cells_of w) (λ d m. Behind d m (f ∷ fs) w) k h)
+  f = f;
+  fs = fs;
+  w = w;
+  blanks = blanked text r e (f ∷ fs) w limit h c p;
+  cell_is = λ k i. ap (λ (x : Cell). x.kind) (i ∙ top_cell text r limit f fs (cells_of w) (λ d m. Behind d m (f ∷ fs) w) k h);
 }
 
 pub behind_top : (text : List ℕ) (r : Reader) → ReadsBehind text r → 0 < r.depth → r.top < length r.cells.items
@@ -137,16 +140,22 @@ unbegin levels rest v (s, t, bl, sp, b) =
     (v, s, t, bl, subst (λ (n : ℕ). Spells n (levels_left levels []) v s t) (sym (no_more (length rest))) one, (b, refl))
 
 pub starts : (text : List ℕ) (r : Reader) → r.cells.items ≡ [] → r.at ≡ 0 → r.top ≡ 0 → r.depth ≡ 0 → ReadsValue text r
-starts text r c a t d =
-    ([], record {
-      agrees = subst (λ (m : ℕ). Agrees text m any (λ x n. Before x n [])) (sym a) (record {
-        in_text = omega arith;
-        into = λ m rest v k sp. unbegin (depth_limit + m) rest v sp;
-        back = λ m rest v k b. begin (depth_limit + m) rest v b;
-        letters = λ s lt. absurd (omega arith)
-      });
-      laid = c; top_is = t; depth_is = d; shallow = omega arith; few = omega (arith, ap length c)
-    })
+starts text r c a t d = (
+  [],
+  record {
+    agrees = subst (λ (m : ℕ). Agrees text m any (λ x n. Before x n [])) (sym a) (record {
+      in_text = omega arith;
+      into = λ m rest v k sp. unbegin (depth_limit + m) rest v sp;
+      back = λ m rest v k b. begin (depth_limit + m) rest v b;
+      letters = λ s lt. absurd (omega arith);
+    });
+    laid = c;
+    top_is = t;
+    depth_is = d;
+    shallow = omega arith;
+    few = omega (arith, ap length c);
+  },
+)
 
 ended : (text : List ℕ) (r : Reader) (e : ℕ) → ReadsBehind text r → r.depth ≡ 0 → PassesBlanks text r.at e → (w : Json) × Blanked text r e [] w
 ended text r e (f ∷ fs, w, limit, h, c) z p = absurd (omega (arith, h.depth_is))

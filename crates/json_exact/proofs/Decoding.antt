@@ -1,12 +1,16 @@
 -- The cells of a value stand for the value.
-use Rattle.std.proofs.Common.{◌≡◌, ◌≢◌, ℕ, zero, suc, ◌+◌, ◌-◌, ◌<◌, ◌≤◌, List, [], ◌∷◌, ◌++◌, length, get_or, take, drop, refl, sym, ◌∙◌, ap, subst, arith, ◌⊎◌, inl, inr, append_assoc, length-append, Option, Some, None, min}
+use Rattle.std.proofs.Common.{◌≡◌, ◌≢◌, ℕ, zero, suc, ◌+◌, ◌-◌, ◌<◌, ◌≤◌, List, [], ◌∷◌, ◌++◌, length, get_or, take, drop, refl, sym, ◌∙◌, ap, subst, arith, ◌⊎◌, inl, inr, append_assoc, length-append, Option, Some, None, min, Bool, cond, true, false}
+use Rattle.std.proofs.lemmas.Bool.{both_ways}
+use denote.Enum.Bare.{sameb}
+use Rattle.json_exact.specs.contracts.cells.Kind.{the_type}
 use Rattle.std.proofs.lemmas.List.{take_at, drop_at, append-nil, length-take-le, length-drop, take_all, take-take, length-take}
 use Rattle.std.specs.Prelude.{slice_range}
-use Rattle.json_exact.specs.Json.{Word, null_word, true_word, false_word, Leaf, word, number, string, Bracket, square, curly, Name, Json, leaf, nest, Parts, no_parts, part}
+use Rattle.json_exact.specs.Json.{Word, null_word, true_word, false_word, Leaf, word, number, string, Bracket, square, curly, Name, Json, leaf, nest, Parts, no_parts, part, values, items, member, first_named}
 use Rattle.json_exact.specs.Characters.{decoded}
+use Rattle.json_exact.specs.Bytes.{same_bytes}
 use Rattle.json_exact.specs.JsonText.{Blanks, SpelledWithin, IsLeaf, SpellsLeaf, Spells, SpellsFirst, SpellsMore, SpellsPart, opening, closing}
 use Rattle.json_exact.specs.Reading.{kind_of, kind_of_bracket, cell, cells_of, cells_in, name_cells}
-use Rattle.json_exact.specs.Handles.{node, node_of, name_of, parts_of, all_parts, first_value, characters_of}
+use Rattle.json_exact.specs.Handles.{node, node_of, name_of, parts_of, all_parts, first_value, characters_of, own_cells, other_cells, first_kind, first_inside}
 use Rattle.json_exact.specs.declared.cells.Cell.{Cell}
 use Rattle.json_exact.specs.declared.cells.Kind.{Kind}
 use Rattle.json_exact.specs.declared.cells.Kind.TheVariants.{Null, True, False, Number, String, List as AList, Object}
@@ -254,3 +258,114 @@ decoded_value text d w (s, t, bl, sp, b) =
     let all : take (head_of w).inside (inner_of w) ≡ inner_of w = take_all (head_of w).inside (inner_of w) (omega (arith, head_inside w)) in
     ap (first_value text) (cells_split w) ∙ ap (λ (x : List Cell). node text (head_of w) (λ c. all_parts text c x)) all
     ∙ value_back text d w s t h sp (length (inner_of w)) (omega arith)
+
+-- ---- parts by their first
+
+value_own : (text : List ℕ) (c : Cell) (cs : List Cell) (n : ℕ) → length cs ≤ n → node text c (λ b. parts_of n text b (take c.inside cs)) ≡ first_value text (own_cells (c ∷ cs))
+value_own text c cs n h =
+    let again : take c.inside (take c.inside cs) ≡ take c.inside cs = take-take c.inside c.inside cs (omega arith) in
+    let same : (b : Bracket) → parts_of n text b (take c.inside cs) ≡ all_parts text b (take c.inside (take c.inside cs)) = λ b.
+    enough n (length (take c.inside cs)) text b (take c.inside cs) (shorter n c.inside cs h) (omega arith) ∙ ap (λ (x : List Cell). all_parts text b x) (sym again) in
+    node_same c.kind text c (λ b. parts_of n text b (take c.inside cs)) (λ b. all_parts text b (take c.inside (take c.inside cs))) (same square) (same curly)
+
+pub first_item : (text : List ℕ) (c : Cell) (cs : List Cell) → all_parts text square (c ∷ cs) ≡ part None (first_value text (own_cells (c ∷ cs))) (all_parts text square (other_cells (c ∷ cs)))
+unfolding parts_of
+first_item text c cs =
+    ap (λ (x : Json). part None x (parts_of (length cs) text square (drop c.inside cs))) (value_own text c cs (length cs) (omega arith))
+    ∙ ap (λ (x : Parts). part None (first_value text (own_cells (c ∷ cs))) x) (enough (length cs) (length (drop c.inside cs)) text square (drop c.inside cs) (left (length cs) c.inside cs (omega arith)) (omega arith))
+
+pub first_member : (text : List ℕ) (k c : Cell) (cs : List Cell)
+    → all_parts text curly (k ∷ c ∷ cs) ≡ part (Some (name_of text k)) (first_value text (own_cells (c ∷ cs))) (all_parts text curly (other_cells (c ∷ cs)))
+unfolding parts_of
+first_member text k c cs =
+    ap (λ (x : Json). part (Some (name_of text k)) x (parts_of (suc (length cs)) text curly (drop c.inside cs))) (value_own text c cs (suc (length cs)) (omega arith))
+    ∙ ap (λ (x : Parts). part (Some (name_of text k)) (first_value text (own_cells (c ∷ cs))) x)
+    (enough (suc (length cs)) (length (drop c.inside cs)) text curly (drop c.inside cs) (left (suc (length cs)) c.inside cs (omega arith)) (omega arith))
+
+-- ---- what is left of items and members
+
+pub none_left : (text : List ℕ) → values (all_parts text square []) ≡ []
+unfolding parts_of
+none_left text = refl
+
+pub one_left : (text : List ℕ) (cells : List Cell) → 0 < length cells
+    → values (all_parts text square cells) ≡ first_value text (own_cells cells) ∷ values (all_parts text square (other_cells cells))
+one_left text [] h = absurd (omega arith)
+one_left text (c ∷ cs) h = ap values (first_item text c cs)
+
+pub no_members : (text : List ℕ) (test : List ℕ → Bool) (cells : List Cell) → length cells < 2 → first_named test (all_parts text curly cells) ≡ None
+unfolding parts_of
+no_members text test [] h = refl
+no_members text test (k ∷ []) h = refl
+no_members text test (k ∷ c ∷ cs) h = absurd (omega arith)
+
+pub one_member : (text name : List ℕ) (cells : List Cell) (d : Cell) (r : List ℕ) → 2 ≤ length cells → r ≡ slice_range text ((get_or cells 0 d).at + 1) ((get_or cells 0 d).end - 1)
+    → first_named (λ t. same_bytes t name) (all_parts text curly cells)
+    ≡ cond (same_bytes (decoded r) name) (Some (first_value text (own_cells (drop 1 cells)))) (first_named (λ t. same_bytes t name) (all_parts text curly (other_cells (drop 1 cells))))
+one_member text name [] d r h e = absurd (omega arith)
+one_member text name (k ∷ []) d r h e = absurd (omega arith)
+one_member text name (k ∷ c ∷ cs) d r h e =
+    ap (first_named (λ t. same_bytes t name)) (first_member text k c cs)
+    ∙ ap (λ (x : List ℕ). cond (same_bytes (decoded x) name) (Some (first_value text (own_cells (c ∷ cs)))) (first_named (λ t. same_bytes t name) (all_parts text curly (other_cells (c ∷ cs))))) (sym e)
+
+if_true : {A : Type 0} (b : Bool) (x y : A) → b ≡ true → cond b x y ≡ x
+if_true true x y e = refl
+if_true false x y e = cc
+
+if_false : {A : Type 0} (b : Bool) (x y : A) → b ≡ false → cond b x y ≡ y
+if_false true x y e = cc
+if_false false x y e = refl
+
+pub member_found : (text name : List ℕ) (cells : List Cell) (d : Cell) (r : List ℕ) → 2 ≤ length cells → r ≡ slice_range text ((get_or cells 0 d).at + 1) ((get_or cells 0 d).end - 1)
+    → same_bytes (decoded r) name ≡ true → first_named (λ t. same_bytes t name) (all_parts text curly cells) ≡ Some (first_value text (own_cells (drop 1 cells)))
+member_found text name cells d r h e t = one_member text name cells d r h e ∙ if_true (same_bytes (decoded r) name) _ _ t
+
+pub member_passed : (text name : List ℕ) (cells : List Cell) (d : Cell) (r : List ℕ) → 2 ≤ length cells → r ≡ slice_range text ((get_or cells 0 d).at + 1) ((get_or cells 0 d).end - 1)
+    → same_bytes (decoded r) name ≡ false → first_named (λ t. same_bytes t name) (all_parts text curly cells) ≡ first_named (λ t. same_bytes t name) (all_parts text curly (other_cells (drop 1 cells)))
+member_passed text name cells d r h e t = one_member text name cells d r h e ∙ if_false (same_bytes (decoded r) name) _ _ t
+
+items_of : (k : Kind) (text : List ℕ) (c : Cell) (f : Bracket → Parts) → k ≢ AList → items (node_of k text c f) ≡ []
+items_of Null text c f h = refl
+items_of True text c f h = refl
+items_of False text c f h = refl
+items_of Number text c f h = refl
+items_of String text c f h = refl
+items_of AList text c f h = absurd (h refl)
+items_of Object text c f h = refl
+
+items_kind : (text : List ℕ) (cells : List Cell) → first_kind cells ≢ AList → items (first_value text cells) ≡ []
+items_kind text [] h = refl
+items_kind text (c ∷ cs) h = items_of c.kind text c (λ b. all_parts text b (take c.inside cs)) h
+
+pub items_none : (text : List ℕ) (cells : List Cell) → sameb the_type (first_kind cells) AList ≡ false → items (first_value text cells) ≡ []
+items_none text cells h = items_kind text cells (λ e. both_ways (sameb the_type (first_kind cells) AList) h (ap (λ (k : Kind). sameb the_type k AList) e ∙ refl))
+
+member_kind : (k : Kind) (text : List ℕ) (c : Cell) (f : Bracket → Parts) (test : List ℕ → Bool) → k ≡ Object → member test (node_of k text c f) ≡ first_named test (f curly)
+member_kind Null text c f test e = cc
+member_kind True text c f test e = cc
+member_kind False text c f test e = cc
+member_kind Number text c f test e = cc
+member_kind String text c f test e = cc
+member_kind AList text c f test e = cc
+member_kind Object text c f test e = refl
+
+pub members_begin : (text : List ℕ) (cells : List Cell) (test : List ℕ → Bool) → first_kind cells ≡ Object → member test (first_value text cells) ≡ first_named test (all_parts text curly (first_inside cells))
+members_begin text [] test e = cc
+members_begin text (c ∷ cs) test e = member_kind c.kind text c (λ b. all_parts text b (take c.inside cs)) test e
+
+member_not : (k : Kind) (text : List ℕ) (c : Cell) (f : Bracket → Parts) (test : List ℕ → Bool) → k ≢ Object → member test (node_of k text c f) ≡ None
+member_not Null text c f test e = refl
+member_not True text c f test e = refl
+member_not False text c f test e = refl
+member_not Number text c f test e = refl
+member_not String text c f test e = refl
+member_not AList text c f test e = refl
+member_not Object text c f test e = absurd (e refl)
+
+pub nothing_left : (text : List ℕ) (cells : List Cell) → length cells ≡ 0 → values (all_parts text square cells) ≡ []
+unfolding parts_of
+nothing_left text [] e = refl
+nothing_left text (c ∷ cs) e = absurd (omega arith)
+
+pub left_over : (xs ys : List Json) (x : Json) → xs ≡ x ∷ ys → length ys < length xs
+left_over xs ys x e = omega (arith, ap length e)

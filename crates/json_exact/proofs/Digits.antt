@@ -51,11 +51,13 @@ Marked t = (sign : List ℕ) × (d : ℕ) × (ds : List ℕ) × IsSign sign × (
 mark_rest : (t : List ℕ) → may_end (written Mark t) ≡ true → Marked t
 mark_rest [] h = absurd (both_ways false refl h)
 mark_rest (b ∷ t) h =
-    elim (is_digit b) as (λ v. is_digit b ≡ v → may_end (written (cond v Exponent (cond (is_sign b) Sign Misplaced)) t) ≡ true → Marked (b ∷ t))
-    [ true ↦ λ e k. ([], b, t, inl refl, e, exponent_rest t k, refl)
-    | false ↦ λ e k. elim (is_sign b) as (λ v. is_sign b ≡ v → may_end (written (cond v Sign Misplaced) t) ≡ true → Marked (b ∷ t))
-        [ true ↦ λ f l. (let s = sign_rest t l in (b ∷ [], s.0, s.1, a_sign b f, s.2, s.3, ap (λ (q : List ℕ). b ∷ q) s.4))
-        | false ↦ λ f l. absurd (misplaced_ends t l) ] refl k ] refl h
+    elim (is_digit b) as (λ v. is_digit b ≡ v → may_end (written (cond v Exponent (cond (is_sign b) Sign Misplaced)) t) ≡ true → Marked (b ∷ t)) [
+      | true ↦ λ e k. ([], b, t, inl refl, e, exponent_rest t k, refl)
+      | false ↦ λ e k. elim (is_sign b) as (λ v. is_sign b ≡ v → may_end (written (cond v Sign Misplaced) t) ≡ true → Marked (b ∷ t)) [
+        | true ↦ λ f l. (let s = sign_rest t l in (b ∷ [], s.0, s.1, a_sign b f, s.2, s.3, ap (λ (q : List ℕ). b ∷ q) s.4))
+        | false ↦ λ f l. absurd (misplaced_ends t l)
+      ] refl k
+    ] refl h
 
 an_exponent : (b : ℕ) (t : List ℕ) → is_mark b ≡ true → Marked t → IsExponent (b ∷ t)
 an_exponent b t m k = inr (b, k.0, k.1, k.2, m, k.3, k.4, k.5, ap (λ (q : List ℕ). b ∷ q) k.6)
@@ -66,11 +68,13 @@ Fractional t = (ds e : List ℕ) × AreDigits ds × IsExponent e × (t ≡ ds ++
 fraction_rest : (t : List ℕ) → may_end (written Fraction t) ≡ true → Fractional t
 fraction_rest [] h = ([], [], tt, inl refl, refl)
 fraction_rest (b ∷ t) h =
-    elim (is_digit b) as (λ v. is_digit b ≡ v → may_end (written (cond v Fraction (cond (is_mark b) Mark Misplaced)) t) ≡ true → Fractional (b ∷ t))
-    [ true ↦ λ e k. (let s = fraction_rest t k in (b ∷ s.0, s.1, (e, s.2), s.3, ap (λ (q : List ℕ). b ∷ q) s.4))
-    | false ↦ λ e k. elim (is_mark b) as (λ v. is_mark b ≡ v → may_end (written (cond v Mark Misplaced) t) ≡ true → Fractional (b ∷ t))
-        [ true ↦ λ f l. ([], b ∷ t, tt, an_exponent b t f (mark_rest t l), refl)
-        | false ↦ λ f l. absurd (misplaced_ends t l) ] refl k ] refl h
+    elim (is_digit b) as (λ v. is_digit b ≡ v → may_end (written (cond v Fraction (cond (is_mark b) Mark Misplaced)) t) ≡ true → Fractional (b ∷ t)) [
+      | true ↦ λ e k. (let s = fraction_rest t k in (b ∷ s.0, s.1, (e, s.2), s.3, ap (λ (q : List ℕ). b ∷ q) s.4))
+      | false ↦ λ e k. elim (is_mark b) as (λ v. is_mark b ≡ v → may_end (written (cond v Mark Misplaced) t) ≡ true → Fractional (b ∷ t)) [
+        | true ↦ λ f l. ([], b ∷ t, tt, an_exponent b t f (mark_rest t l), refl)
+        | false ↦ λ f l. absurd (misplaced_ends t l)
+      ] refl k
+    ] refl h
 
 abbrev Ended : List ℕ → Type 0
 Ended t = (f e : List ℕ) × IsFraction f × IsExponent e × (t ≡ f ++ e)
@@ -78,17 +82,20 @@ Ended t = (f e : List ℕ) × IsFraction f × IsExponent e × (t ≡ f ++ e)
 point_rest : (t : List ℕ) → may_end (written Point t) ≡ true → Ended (46 ∷ t)
 point_rest [] h = absurd (both_ways false refl h)
 point_rest (b ∷ t) h =
-    elim (is_digit b) as (λ v. is_digit b ≡ v → may_end (written (cond v Fraction Misplaced) t) ≡ true → Ended (46 ∷ b ∷ t))
-    [ true ↦ λ e k. (let s = fraction_rest t k in (46 ∷ b ∷ s.0, s.1, inr (b, s.0, e, s.2, refl), s.3, ap (λ (q : List ℕ). 46 ∷ b ∷ q) s.4))
-    | false ↦ λ e k. absurd (misplaced_ends t k) ] refl h
+    elim (is_digit b) as (λ v. is_digit b ≡ v → may_end (written (cond v Fraction Misplaced) t) ≡ true → Ended (46 ∷ b ∷ t)) [
+      | true ↦ λ e k. (let s = fraction_rest t k in (46 ∷ b ∷ s.0, s.1, inr (b, s.0, e, s.2, refl), s.3, ap (λ (q : List ℕ). 46 ∷ b ∷ q) s.4))
+      | false ↦ λ e k. absurd (misplaced_ends t k)
+    ] refl h
 
 point_or_mark : (b : ℕ) (t : List ℕ) → may_end (written (cond (b == 46) Point (cond (is_mark b) Mark Misplaced)) t) ≡ true → Ended (b ∷ t)
 point_or_mark b t h =
-    elim (b == 46) as (λ v. (b == 46) ≡ v → may_end (written (cond v Point (cond (is_mark b) Mark Misplaced)) t) ≡ true → Ended (b ∷ t))
-    [ true ↦ λ e k. subst (λ (x : ℕ). Ended (x ∷ t)) (sym (eqb-true b 46 e)) (point_rest t k)
-    | false ↦ λ e k. elim (is_mark b) as (λ v. is_mark b ≡ v → may_end (written (cond v Mark Misplaced) t) ≡ true → Ended (b ∷ t))
-        [ true ↦ λ f l. ([], b ∷ t, inl refl, an_exponent b t f (mark_rest t l), refl)
-        | false ↦ λ f l. absurd (misplaced_ends t l) ] refl k ] refl h
+    elim (b == 46) as (λ v. (b == 46) ≡ v → may_end (written (cond v Point (cond (is_mark b) Mark Misplaced)) t) ≡ true → Ended (b ∷ t)) [
+      | true ↦ λ e k. subst (λ (x : ℕ). Ended (x ∷ t)) (sym (eqb-true b 46 e)) (point_rest t k)
+      | false ↦ λ e k. elim (is_mark b) as (λ v. is_mark b ≡ v → may_end (written (cond v Mark Misplaced) t) ≡ true → Ended (b ∷ t)) [
+        | true ↦ λ f l. ([], b ∷ t, inl refl, an_exponent b t f (mark_rest t l), refl)
+        | false ↦ λ f l. absurd (misplaced_ends t l)
+      ] refl k
+    ] refl h
 
 zero_rest : (t : List ℕ) → may_end (written Zero t) ≡ true → Ended t
 zero_rest [] h = ([], [], inl refl, inl refl, refl)
@@ -100,9 +107,10 @@ Whole' t = (ds f e : List ℕ) × AreDigits ds × IsFraction f × IsExponent e �
 whole_rest : (t : List ℕ) → may_end (written Whole t) ≡ true → Whole' t
 whole_rest [] h = ([], [], [], tt, inl refl, inl refl, refl)
 whole_rest (b ∷ t) h =
-    elim (is_digit b) as (λ v. is_digit b ≡ v → may_end (written (cond v Whole (cond (b == 46) Point (cond (is_mark b) Mark Misplaced))) t) ≡ true → Whole' (b ∷ t))
-    [ true ↦ λ e k. (let s = whole_rest t k in (b ∷ s.0, s.1, s.2, (e, s.3), s.4, s.5, ap (λ (q : List ℕ). b ∷ q) s.6))
-    | false ↦ λ e k. (let s = point_or_mark b t k in ([], s.0, s.1, tt, s.2, s.3, s.4)) ] refl h
+    elim (is_digit b) as (λ v. is_digit b ≡ v → may_end (written (cond v Whole (cond (b == 46) Point (cond (is_mark b) Mark Misplaced))) t) ≡ true → Whole' (b ∷ t)) [
+      | true ↦ λ e k. (let s = whole_rest t k in (b ∷ s.0, s.1, s.2, (e, s.3), s.4, s.5, ap (λ (q : List ℕ). b ∷ q) s.6))
+      | false ↦ λ e k. (let s = point_or_mark b t k in ([], s.0, s.1, tt, s.2, s.3, s.4))
+    ] refl h
 
 not_zero : (b : ℕ) → (b == 48) ≡ false → is_digit b ≡ true → within 49 57 b ≡ true
 not_zero b e h =
@@ -117,11 +125,13 @@ Unsigned t = (w f e : List ℕ) × IsWhole w × IsFraction f × IsExponent e × 
 
 unsigned : (b : ℕ) (t : List ℕ) → may_end (written (cond (b == 48) Zero (cond (is_digit b) Whole Misplaced)) t) ≡ true → Unsigned (b ∷ t)
 unsigned b t h =
-    elim (b == 48) as (λ v. (b == 48) ≡ v → may_end (written (cond v Zero (cond (is_digit b) Whole Misplaced)) t) ≡ true → Unsigned (b ∷ t))
-    [ true ↦ λ e k. (let s = zero_rest t k in (b ∷ [], s.0, s.1, inl (ap (λ (x : ℕ). x ∷ []) (eqb-true b 48 e)), s.2, s.3, ap (λ (q : List ℕ). b ∷ q) s.4))
-    | false ↦ λ e k. elim (is_digit b) as (λ v. is_digit b ≡ v → may_end (written (cond v Whole Misplaced) t) ≡ true → Unsigned (b ∷ t))
-        [ true ↦ λ f l. (let s = whole_rest t l in (b ∷ s.0, s.1, s.2, inr (b, s.0, not_zero b e f, s.3, refl), s.4, s.5, ap (λ (q : List ℕ). b ∷ q) s.6))
-        | false ↦ λ f l. absurd (misplaced_ends t l) ] refl k ] refl h
+    elim (b == 48) as (λ v. (b == 48) ≡ v → may_end (written (cond v Zero (cond (is_digit b) Whole Misplaced)) t) ≡ true → Unsigned (b ∷ t)) [
+      | true ↦ λ e k. (let s = zero_rest t k in (b ∷ [], s.0, s.1, inl (ap (λ (x : ℕ). x ∷ []) (eqb-true b 48 e)), s.2, s.3, ap (λ (q : List ℕ). b ∷ q) s.4))
+      | false ↦ λ e k. elim (is_digit b) as (λ v. is_digit b ≡ v → may_end (written (cond v Whole Misplaced) t) ≡ true → Unsigned (b ∷ t)) [
+        | true ↦ λ f l. (let s = whole_rest t l in (b ∷ s.0, s.1, s.2, inr (b, s.0, not_zero b e f, s.3, refl), s.4, s.5, ap (λ (q : List ℕ). b ∷ q) s.6))
+        | false ↦ λ f l. absurd (misplaced_ends t l)
+      ] refl k
+    ] refl h
 
 minus_rest : (t : List ℕ) → may_end (written Minus t) ≡ true → Unsigned t
 minus_rest [] h = absurd (both_ways false refl h)
@@ -130,9 +140,10 @@ minus_rest (b ∷ t) h = unsigned b t h
 pub is_number : (t : List ℕ) → may_end (written Nothing t) ≡ true → IsNumber t
 is_number [] h = absurd (both_ways false refl h)
 is_number (b ∷ t) h =
-    elim (b == 45) as (λ v. (b == 45) ≡ v → may_end (written (cond v Minus (cond (b == 48) Zero (cond (is_digit b) Whole Misplaced))) t) ≡ true → IsNumber (b ∷ t))
-    [ true ↦ λ e k. (let s = minus_rest t k in (b ∷ [], s.0, s.1, s.2, inr (ap (λ (x : ℕ). x ∷ []) (eqb-true b 45 e)), s.3, s.4, s.5, ap (λ (q : List ℕ). b ∷ q) s.6))
-    | false ↦ λ e k. (let s = unsigned b t k in ([], s.0, s.1, s.2, inl refl, s.3, s.4, s.5, s.6)) ] refl h
+    elim (b == 45) as (λ v. (b == 45) ≡ v → may_end (written (cond v Minus (cond (b == 48) Zero (cond (is_digit b) Whole Misplaced))) t) ≡ true → IsNumber (b ∷ t)) [
+      | true ↦ λ e k. (let s = minus_rest t k in (b ∷ [], s.0, s.1, s.2, inr (ap (λ (x : ℕ). x ∷ []) (eqb-true b 45 e)), s.3, s.4, s.5, ap (λ (q : List ℕ). b ∷ q) s.6))
+      | false ↦ λ e k. (let s = unsigned b t k in ([], s.0, s.1, s.2, inl refl, s.3, s.4, s.5, s.6))
+    ] refl h
 
 -- ---- a number leads to what may end
 
@@ -143,12 +154,14 @@ digits_stay s stay (d ∷ ds) h = ap (λ (x : Last). written x ds) (stay d h.0) 
 marked : (t : List ℕ) → Marked t → written Mark t ≡ Exponent
 marked t m =
     let ends : (s : Last) → ((b : ℕ) → is_digit b ≡ true → then s b ≡ Exponent) → written s (m.1 ∷ m.2) ≡ Exponent
-        = λ s to. ap (λ (x : Last). written x m.2) (to m.1 m.4) ∙ digits_stay Exponent (λ b h. on (is_digit b) Exponent Misplaced h) m.2 m.5 in
-    elim m.3
-    [ inl e ↦ ap (written Mark) (m.6 ∙ ap (λ (q : List ℕ). q ++ m.1 ∷ m.2) e) ∙ ends Mark (λ b h. on (is_digit b) Exponent (cond (is_sign b) Sign Misplaced) h)
-    | inr f ↦ elim f
-        [ inl e ↦ ap (written Mark) (m.6 ∙ ap (λ (q : List ℕ). q ++ m.1 ∷ m.2) e) ∙ ends Sign (λ b h. on (is_digit b) Exponent Misplaced h)
-        | inr e ↦ ap (written Mark) (m.6 ∙ ap (λ (q : List ℕ). q ++ m.1 ∷ m.2) e) ∙ ends Sign (λ b h. on (is_digit b) Exponent Misplaced h) ] ]
+    = λ s to. ap (λ (x : Last). written x m.2) (to m.1 m.4) ∙ digits_stay Exponent (λ b h. on (is_digit b) Exponent Misplaced h) m.2 m.5 in
+    elim m.3 [
+      | inl e ↦ ap (written Mark) (m.6 ∙ ap (λ (q : List ℕ). q ++ m.1 ∷ m.2) e) ∙ ends Mark (λ b h. on (is_digit b) Exponent (cond (is_sign b) Sign Misplaced) h)
+      | inr f ↦ elim f [
+        | inl e ↦ ap (written Mark) (m.6 ∙ ap (λ (q : List ℕ). q ++ m.1 ∷ m.2) e) ∙ ends Sign (λ b h. on (is_digit b) Exponent Misplaced h)
+        | inr e ↦ ap (written Mark) (m.6 ∙ ap (λ (q : List ℕ). q ++ m.1 ∷ m.2) e) ∙ ends Sign (λ b h. on (is_digit b) Exponent Misplaced h)
+      ]
+    ]
 
 with_exponent : (s : Last) → then s 101 ≡ Mark → then s 69 ≡ Mark → may_end s ≡ true → (e : List ℕ) → IsExponent e → may_end (written s e) ≡ true
 with_exponent s l u h e (inl k) = subst (λ (q : List ℕ). may_end (written s q) ≡ true) (sym k) h
@@ -156,7 +169,7 @@ with_exponent s l u h e (inr k) =
     let m : ℕ = k.0 in
     let t : List ℕ = k.1 ++ k.2 ∷ k.3 in
     let to : then s m ≡ Mark = elim (or_cases (eqb m 101) (eqb m 69) k.4)
-        [ inl a ↦ ap (then s) (eqb-true m 101 a) ∙ l | inr a ↦ ap (then s) (eqb-true m 69 a) ∙ u ] in
+    [ inl a ↦ ap (then s) (eqb-true m 101 a) ∙ l | inr a ↦ ap (then s) (eqb-true m 69 a) ∙ u ] in
     let end : written Mark t ≡ Exponent = marked t (k.1, k.2, k.3, k.5, k.6, k.7, refl) in
     subst (λ (q : List ℕ). may_end (written s q) ≡ true) (sym k.8) (ap (λ (x : Last). may_end (written x t)) to ∙ ap may_end end)
 
@@ -165,7 +178,7 @@ with_fraction s l u p h f e (inl k) x = subst (λ (q : List ℕ). may_end (writt
 with_fraction s l u p h f e (inr k) x =
     let ds : List ℕ = k.1 in
     let first : written Point (k.0 ∷ ds) ≡ Fraction = ap (λ (y : Last). written y ds) (on (is_digit k.0) Fraction Misplaced k.2)
-        ∙ digits_stay Fraction (λ b j. on (is_digit b) Fraction (cond (is_mark b) Mark Misplaced) j) ds k.3 in
+    ∙ digits_stay Fraction (λ b j. on (is_digit b) Fraction (cond (is_mark b) Mark Misplaced) j) ds k.3 in
     let all : written s (46 ∷ k.0 ∷ ds) ≡ Fraction = ap (λ (y : Last). written y (k.0 ∷ ds)) p ∙ first in
     subst (λ (q : List ℕ). may_end (written s (q ++ e)) ≡ true) (sym k.4)
     (ap may_end (written-append s (46 ∷ k.0 ∷ ds) e ∙ ap (λ (y : Last). written y e) all) ∙ with_exponent Fraction refl refl refl e x)
@@ -188,18 +201,19 @@ with_whole s z d w f e (inl k) x y =
 with_whole s z d w f e (inr k) x y =
     let ds : List ℕ = k.1 in
     let all : written s (k.0 ∷ ds) ≡ Whole = ap (λ (l : Last). written l ds) (d k.0 k.2)
-        ∙ digits_stay Whole (λ b j. on (is_digit b) Whole (cond (b == 46) Point (cond (is_mark b) Mark Misplaced)) j) ds k.3 in
+    ∙ digits_stay Whole (λ b j. on (is_digit b) Whole (cond (b == 46) Point (cond (is_mark b) Mark Misplaced)) j) ds k.3 in
     subst (λ (q : List ℕ). may_end (written s (q ++ (f ++ e))) ≡ true) (sym k.4)
     (ap may_end (written-append s (k.0 ∷ ds) (f ++ e) ∙ ap (λ (l : Last). written l (f ++ e)) all) ∙ with_fraction Whole refl refl refl refl f e x y)
 
 pub number_ends : (t : List ℕ) → IsNumber t → may_end (written Nothing t) ≡ true
 number_ends t n =
     let rest : List ℕ = n.1 ++ (n.2 ++ n.3) in
-    elim n.4
-    [ inl k ↦ ap (λ (q : List ℕ). may_end (written Nothing q)) (n.8 ∙ ap (λ (q : List ℕ). q ++ rest) k)
-        ∙ with_whole Nothing refl (λ d h. off (d == 45) Minus (cond (d == 48) Zero (cond (is_digit d) Whole Misplaced)) Whole (digit_not 45 d h (omega arith)) (off (d == 48) Zero (cond (is_digit d) Whole Misplaced) Whole (digit_not 48 d h (omega arith)) (on (is_digit d) Whole Misplaced (whole_digit_is d h)))) n.1 n.2 n.3 n.5 n.6 n.7
-    | inr k ↦ ap (λ (q : List ℕ). may_end (written Nothing q)) (n.8 ∙ ap (λ (q : List ℕ). q ++ rest) k)
-        ∙ with_whole Minus refl (λ d h. off (d == 48) Zero (cond (is_digit d) Whole Misplaced) Whole (digit_not 48 d h (omega arith)) (on (is_digit d) Whole Misplaced (whole_digit_is d h))) n.1 n.2 n.3 n.5 n.6 n.7 ]
+    elim n.4 [
+      | inl k ↦ ap (λ (q : List ℕ). may_end (written Nothing q)) (n.8 ∙ ap (λ (q : List ℕ). q ++ rest) k)
+          ∙ with_whole Nothing refl (λ d h. off (d == 45) Minus (cond (d == 48) Zero (cond (is_digit d) Whole Misplaced)) Whole (digit_not 45 d h (omega arith)) (off (d == 48) Zero (cond (is_digit d) Whole Misplaced) Whole (digit_not 48 d h (omega arith)) (on (is_digit d) Whole Misplaced (whole_digit_is d h)))) n.1 n.2 n.3 n.5 n.6 n.7
+      | inr k ↦ ap (λ (q : List ℕ). may_end (written Nothing q)) (n.8 ∙ ap (λ (q : List ℕ). q ++ rest) k)
+          ∙ with_whole Minus refl (λ d h. off (d == 48) Zero (cond (is_digit d) Whole Misplaced) Whole (digit_not 48 d h (omega arith)) (on (is_digit d) Whole Misplaced (whole_digit_is d h))) n.1 n.2 n.3 n.5 n.6 n.7
+    ]
 
 -- ---- what may stand in a number
 
@@ -217,17 +231,18 @@ not_in_number s b h =
     let marks : cond (is_mark b) Mark Misplaced ≡ Misplaced = off (is_mark b) Mark Misplaced Misplaced p.1 refl in
     let points : cond (b == 46) Point (cond (is_mark b) Mark Misplaced) ≡ Misplaced = off (b == 46) Point (cond (is_mark b) Mark Misplaced) Misplaced p.0 marks in
     let exps : cond (is_digit b) Exponent Misplaced ≡ Misplaced = off (is_digit b) Exponent Misplaced Misplaced d.0 refl in
-    elim s as (λ l. then l b ≡ Misplaced)
-    [ Nothing ↦ off (b == 45) Minus (cond (b == 48) Zero (cond (is_digit b) Whole Misplaced)) Misplaced minus whole
-    | Minus ↦ whole
-    | Zero ↦ points
-    | Whole ↦ off (is_digit b) Whole (cond (b == 46) Point (cond (is_mark b) Mark Misplaced)) Misplaced d.0 points
-    | Point ↦ off (is_digit b) Fraction Misplaced Misplaced d.0 refl
-    | Fraction ↦ off (is_digit b) Fraction (cond (is_mark b) Mark Misplaced) Misplaced d.0 marks
-    | Mark ↦ off (is_digit b) Exponent (cond (is_sign b) Sign Misplaced) Misplaced d.0 (off (is_sign b) Sign Misplaced Misplaced g.0 refl)
-    | Sign ↦ exps
-    | Exponent ↦ exps
-    | Misplaced ↦ refl ]
+    elim s as (λ l. then l b ≡ Misplaced) [
+      | Nothing ↦ off (b == 45) Minus (cond (b == 48) Zero (cond (is_digit b) Whole Misplaced)) Misplaced minus whole
+      | Minus ↦ whole
+      | Zero ↦ points
+      | Whole ↦ off (is_digit b) Whole (cond (b == 46) Point (cond (is_mark b) Mark Misplaced)) Misplaced d.0 points
+      | Point ↦ off (is_digit b) Fraction Misplaced Misplaced d.0 refl
+      | Fraction ↦ off (is_digit b) Fraction (cond (is_mark b) Mark Misplaced) Misplaced d.0 marks
+      | Mark ↦ off (is_digit b) Exponent (cond (is_sign b) Sign Misplaced) Misplaced d.0 (off (is_sign b) Sign Misplaced Misplaced g.0 refl)
+      | Sign ↦ exps
+      | Exponent ↦ exps
+      | Misplaced ↦ refl
+    ]
 
 -- each begun number has an end
 pub has_digits : (s : Last) → s ≢ Misplaced → (q : List ℕ) × (may_end (written s q) ≡ true)
@@ -245,9 +260,10 @@ has_digits Misplaced h = absurd (h refl)
 -- a byte that stands in a begun number is one of a number's
 pub in_number : (s : Last) (p : List ℕ) (b : ℕ) (q : List ℕ) → written s (p ++ b ∷ q) ≢ Misplaced → is_in_number b ≡ true
 in_number s p b q h =
-    elim (is_in_number b) as (λ v. is_in_number b ≡ v → v ≡ true)
-    [ true ↦ λ e. refl
-    | false ↦ λ e. absurd (h (written-append s p (b ∷ q) ∙ ap (λ (l : Last). written l q) (not_in_number (written s p) b e) ∙ written-misplaced q)) ] refl
+    elim (is_in_number b) as (λ v. is_in_number b ≡ v → v ≡ true) [
+      | true ↦ λ e. refl
+      | false ↦ λ e. absurd (h (written-append s p (b ∷ q) ∙ ap (λ (l : Last). written l q) (not_in_number (written s p) b e) ∙ written-misplaced q))
+    ] refl
 
 pub ends_placed : (s : Last) → may_end s ≡ true → s ≢ Misplaced
 ends_placed s h e = both_ways (may_end s) (ap may_end e) h

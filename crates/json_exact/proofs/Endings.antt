@@ -31,9 +31,11 @@ behind_ends d at (f ∷ fs) w =
     let i = behind_ends d (suc at) fs (closed f (suc at) (part f.name w no_parts)) in
     let len : suc at + length i.rest ≡ at + length (closing f.kind ∷ i.rest) = omega arith in
     record {
-      rest = closing f.kind ∷ i.rest; value = i.value; clear = closing_clear f.kind;
+      rest = closing f.kind ∷ i.rest;
+      value = i.value;
+      clear = closing_clear f.kind;
       ends = close_back d (at + length (closing f.kind ∷ i.rest)) f fs w (suc at) i.rest i.value len
-          (subst (λ (n : ℕ). Behind d n fs (closed f (suc at) (part f.name w no_parts)) i.rest i.value) len i.ends)
+          (subst (λ (n : ℕ). Behind d n fs (closed f (suc at) (part f.name w no_parts)) i.rest i.value) len i.ends);
     }
 
 pub opened_ends : (d at : ℕ) (f : Frame) (fs : List Frame) → Ends d at (λ e n. Opened e n f fs)
@@ -41,9 +43,11 @@ opened_ends d at f fs =
     let i = behind_ends d (suc at) fs (closed f (suc at) no_parts) in
     let len : suc at + length i.rest ≡ at + length (closing f.kind ∷ i.rest) = omega arith in
     record {
-      rest = closing f.kind ∷ i.rest; value = i.value; clear = closing_clear f.kind;
+      rest = closing f.kind ∷ i.rest;
+      value = i.value;
+      clear = closing_clear f.kind;
       ends = first_close_back d (at + length (closing f.kind ∷ i.rest)) f fs (suc at) i.rest i.value len
-          (subst (λ (n : ℕ). Behind d n fs (closed f (suc at) no_parts) i.rest i.value) len i.ends)
+          (subst (λ (n : ℕ). Behind d n fs (closed f (suc at) no_parts) i.rest i.value) len i.ends);
     }
 
 -- behind a front that is begun
@@ -58,9 +62,10 @@ leaf_ends d at fs l bytes h =
     let i = behind_ends d (at + length bytes) fs (leaf l at (at + length bytes)) in
     let len : at + length bytes + length i.rest ≡ at + length (bytes ++ i.rest) = omega (arith, length-append bytes i.rest) in
     record {
-      rest = i.rest; value = i.value;
+      rest = i.rest;
+      value = i.value;
       ends = leaf_back d (at + length (bytes ++ i.rest)) fs l bytes at (at + length bytes) i.rest i.value h refl len
-          (subst (λ (n : ℕ). Behind d n fs (leaf l at (at + length bytes)) i.rest i.value) len i.ends)
+          (subst (λ (n : ℕ). Behind d n fs (leaf l at (at + length bytes)) i.rest i.value) len i.ends);
     }
 
 pub shifted : (d at : ℕ) (front more : List ℕ) (Rest : ℕ → ℕ → List ℕ → Json → Type 0) → EndsBehind d at (front ++ more) Rest → EndsBehind d at front Rest
@@ -118,8 +123,9 @@ name_ends d at f fs p alive =
     let i = colon_ends d to (record f { name = Some (record { from = at; to = to; text = decoded raw }) } ∷ fs) in
     let len : to + length i.rest ≡ at + length (bytes ++ i.rest) = omega (arith, length-append bytes i.rest) in
     let b : EndsBehind d at bytes (λ e n. BeforeName e n f fs) = record {
-      rest = i.rest; value = i.value;
+      rest = i.rest;
+      value = i.value;
       ends = name_back d (at + length (bytes ++ i.rest)) f fs raw at to i.rest i.value q.1 refl len
-          (subst (λ (n : ℕ). BeforeColon d n (record f { name = Some (record { from = at; to = to; text = decoded raw }) } ∷ fs) i.rest i.value) len i.ends)
+          (subst (λ (n : ℕ). BeforeColon d n (record f { name = Some (record { from = at; to = to; text = decoded raw }) } ∷ fs) i.rest i.value) len i.ends);
     } in
     shifted d at (34 ∷ p) (q.0 ++ 34 ∷ []) (λ e n. BeforeName e n f fs) (same_front d at bytes ((34 ∷ p) ++ (q.0 ++ 34 ∷ [])) (λ e n. BeforeName e n f fs) (quoted p q.0) b)

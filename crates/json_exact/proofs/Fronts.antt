@@ -109,8 +109,8 @@ front_pair raw h e f n =
     let size : length (drop 6 raw) ≡ length raw - 6 = length-drop 6 raw in
     let g : (i : ℕ) → get_or (drop 6 raw) i 0 ≡ get_or raw (6 + i) 0 = λ i. get_or-drop 6 raw i 0 in
     let low : code_unit (get_or (drop 6 raw) 2 0) (get_or (drop 6 raw) 3 0) (get_or (drop 6 raw) 4 0) (get_or (drop 6 raw) 5 0) ≡ code_unit (get_or raw 8 0) (get_or raw 9 0) (get_or raw 10 0) (get_or raw 11 0)
-        = ap (λ (x : ℕ). code_unit x (get_or (drop 6 raw) 3 0) (get_or (drop 6 raw) 4 0) (get_or (drop 6 raw) 5 0)) (g 2) ∙ ap (λ (x : ℕ). code_unit (get_or raw 8 0) x (get_or (drop 6 raw) 4 0) (get_or (drop 6 raw) 5 0)) (g 3)
-        ∙ ap (λ (x : ℕ). code_unit (get_or raw 8 0) (get_or raw 9 0) x (get_or (drop 6 raw) 5 0)) (g 4) ∙ ap (λ (x : ℕ). code_unit (get_or raw 8 0) (get_or raw 9 0) (get_or raw 10 0) x) (g 5) in
+    = ap (λ (x : ℕ). code_unit x (get_or (drop 6 raw) 3 0) (get_or (drop 6 raw) 4 0) (get_or (drop 6 raw) 5 0)) (g 2) ∙ ap (λ (x : ℕ). code_unit (get_or raw 8 0) x (get_or (drop 6 raw) 4 0) (get_or (drop 6 raw) 5 0)) (g 3)
+    ∙ ap (λ (x : ℕ). code_unit (get_or raw 8 0) (get_or raw 9 0) x (get_or (drop 6 raw) 5 0)) (g 4) ∙ ap (λ (x : ℕ). code_unit (get_or raw 8 0) (get_or raw 9 0) (get_or raw 10 0) x) (g 5) in
     high_on raw (omega arith) e f n ∙ half_whole u (drop 6 raw) (omega arith)
     ∙ ap (λ (x : ℕ). encode_utf8 (surrogate_pair u x) ++ decoded (drop 6 (drop 6 raw))) low
     ∙ ap (λ (x : List ℕ). encode_utf8 (surrogate_pair u (code_unit (get_or raw 8 0) (get_or raw 9 0) (get_or raw 10 0) (get_or raw 11 0))) ++ decoded x) (drop-drop 6 6 raw)
@@ -167,8 +167,11 @@ four_bytes c l =
 pub fronts_of : (raw : List ℕ) (p : Piece) (used : ℕ) (bytes : List ℕ) → p.used ≡ used → piece_bytes p ≡ bytes → p.len ≤ 4 → length (piece_bytes p) ≡ p.len → 0 < used → used ≤ length raw
     → decoded raw ≡ bytes ++ decoded (drop used raw) → Fronts raw p
 fronts_of raw p used bytes e f l z h k d = record {
-  some = omega (arith, e); in_raw = omega (arith, e); fits = l; size = z;
-  bytes = d ∙ ap (λ (x : List ℕ). x ++ decoded (drop used raw)) (sym f) ∙ ap (λ (n : ℕ). piece_bytes p ++ decoded (drop n raw)) (sym e)
+  some = omega (arith, e);
+  in_raw = omega (arith, e);
+  fits = l;
+  size = z;
+  bytes = d ∙ ap (λ (x : List ℕ). x ++ decoded (drop used raw)) (sym f) ∙ ap (λ (n : ℕ). piece_bytes p ++ decoded (drop n raw)) (sym e);
 }
 
 pub low_unit : (u : ℕ) → u < 55296 → is_high_surrogate u ≡ false
@@ -217,9 +220,10 @@ same_none [] = refl
 same_none (x ∷ xs) = sym (ne_eqb (suc (length xs)) 0 (λ e. omega arith))
 
 size_left : (j n : ℕ) → j ≤ n → eqb j n ≡ eqb (n - j) 0
-size_left j n h = elim (eqb j n) as (λ v. eqb j n ≡ v → v ≡ eqb (n - j) 0)
-    [ true ↦ λ e. sym (eq-eqb (n - j) 0 (omega (arith, eqb-true j n e)))
-    | false ↦ λ e. sym (ne_eqb (n - j) 0 (λ f. eqb-false j n e (omega arith))) ] refl
+size_left j n h = elim (eqb j n) as (λ v. eqb j n ≡ v → v ≡ eqb (n - j) 0) [
+  | true ↦ λ e. sym (eq-eqb (n - j) 0 (omega (arith, eqb-true j n e)))
+  | false ↦ λ e. sym (ne_eqb (n - j) 0 (λ f. eqb-false j n e (omega arith)))
+] refl
 
 pub all_spelled : (raw name : List ℕ) (i j : ℕ) → i ≤ length raw → length raw ≤ i → j ≤ length name
     → same_bytes (decoded raw) name ≡ same_bytes (decoded (drop i raw)) (drop j name) → eqb j (length name) ≡ same_bytes (decoded raw) name

@@ -110,7 +110,7 @@ leaf_same (string x) (word null_word) p m t r c h k free cl e = absurd (eqb-fals
 leaf_same (string x) (word true_word) p m t r c h k free cl e = absurd (eqb-false 4 1 refl c)
 leaf_same (string x) (word false_word) p m t r c h k free cl e = absurd (eqb-false 4 2 refl c)
 leaf_same (string x) (number y) p m t r c h k free cl e = absurd (eqb-false 4 3 refl c)
-leaf_same (string x) (string y) p m t r c h k free cl e = 
+leaf_same (string x) (string y) p m t r c h k free cl e =
     let e1 : (34 ∷ h.0 ++ 34 ∷ []) ++ t ≡ m ++ r = ap (λ (q : List ℕ). q ++ t) (sym h.2) ∙ e in
     let e2 : (34 ∷ h.0 ++ 34 ∷ []) ++ t ≡ (34 ∷ k.0 ++ 34 ∷ []) ++ r = e1 ∙ ap (λ (q : List ℕ). q ++ r) k.2 in
     let both = string_same h.0 k.0 t r h.1 k.1 e2 in
@@ -180,6 +180,13 @@ name_into d n f fs raw from to t v h p q (name, s, r, u, bl, sl, bc, bf) =
 pub name_back : (d n : ℕ) (f : Frame) (fs : List Frame) (raw : List ℕ) (from to : ℕ) (t : List ℕ) (v : Json) → AreCharacters raw
     → from + length ((34 ∷ raw ++ 34 ∷ []) ++ t) ≡ n → to + length t ≡ n
     → BeforeColon d n (record f { name = Some (record { from = from; to = to; text = decoded raw }) } ∷ fs) t v → BeforeName d n f fs ((34 ∷ raw ++ 34 ∷ []) ++ t) v
-name_back d n f fs raw from to t v h p q (u, bc, bf) =
-    (record { from = from; to = to; text = decoded raw }, (34 ∷ raw ++ 34 ∷ []) ++ t, t, u, no_blanks ((34 ∷ raw ++ 34 ∷ []) ++ t),
-    (34 ∷ raw ++ 34 ∷ [], (raw, h, refl, refl), refl, p, q), bc, bf)
+name_back d n f fs raw from to t v h p q (u, bc, bf) = (
+  record { from = from; to = to; text = decoded raw },
+  (34 ∷ raw ++ 34 ∷ []) ++ t,
+  t,
+  u,
+  no_blanks ((34 ∷ raw ++ 34 ∷ []) ++ t),
+  (34 ∷ raw ++ 34 ∷ [], (raw, h, refl, refl), refl, p, q),
+  bc,
+  bf,
+)

@@ -17,3 +17,4 @@ pub mod Calls
 pub mod Unique
 pub mod Decoding
 pub mod Fronts
+pub mod Whole

@@ -36,7 +36,6 @@ use Rattle.json_exact.proofs.Stuck as stuck
 use Rattle.json_exact.proofs.Endings.{EndsBehind, Ends, digit_ends, before_ends, word_ends, number_ends_so, string_ends, name_ends, colon_ends, behind_ends, opened_ends}
 use Rattle.json_exact.proofs.Agreeing.{Advances, advance, Halts, stops, bad_here, TakesString, string_stops, string_letters, string_bytes}
 use Rattle.json_exact.proofs.Tokens.{All92, blanks_plain, plain_part, within_word, number_plain, other_halts, end_halts, bad_at, leaf_bad, takes_value, takes_name, wide_before, wide_name, wide_here, token_counts, front_counts}
-
 use Rattle.json_exact.specs.Scans.{IsHalf}
 use Rattle.json_exact.proofs.Turns.{hold_blanks, advance_blanks, advance_one, one_on, here, here_counts, closing_plain, one_range}
 
@@ -60,9 +59,10 @@ leaf_advance text at e kind limit fs l a hr is lt le lets =
       back = λ m rest v c x. leaf_back (depth_limit + m) (e + length rest) fs l (slice_range text at e) at e rest v is
           (omega (arith, length-append (slice_range text at e) rest, length_range text at e le)) refl x;
       counts = λ rest c. front_counts limit text at e rest lt le hr;
-      letters = λ s h k b can. elim lets
-          [ inl plain ↦ absurd (plain s h k b)
-          | inr q ↦ string_letters text at e limit (λ d n. Before d n fs) a (takes_value fs) (here_counts text at 34 limit hr q.0) q.0 q.1 s h k b ]
+      letters = λ s h k b can. elim lets [
+        | inl plain ↦ absurd (plain s h k b)
+        | inr q ↦ string_letters text at e limit (λ d n. Before d n fs) a (takes_value fs) (here_counts text at 34 limit hr q.0) q.0 q.1 s h k b
+      ];
     })
 
 pub leaf_turn : (text : List ℕ) (r new : Reader) (kind : Kind) (e : ℕ) (res : Result (Unit {0}) JsonError) → ReadsValueHere text r → EndsLeaf text r.at kind e
@@ -75,7 +75,10 @@ leaf_turn text r new kind e (Ok x) (fs, limit, h, hr) (l, is, k, lt, le, clear, 
     let hold : Holds text new (limit_of l) fs (cells_of (leaf l r.at e)) (λ d n. Behind d n fs (leaf l r.at e)) = record {
       agrees = subst (λ (m : ℕ). Agrees text m (limit_of l) (λ d n. Behind d n fs (leaf l r.at e))) (sym p.1) a;
       laid = p.0 ∙ ap (λ (x : List Cell). x ++ cell kind r.at e 0 ∷ []) old ∙ ap (λ (x : Kind). open_cells fs ++ cell x r.at e 0 ∷ []) k;
-      top_is = p.2 ∙ h.top_is; depth_is = p.3 ∙ h.depth_is; shallow = h.shallow; few = omega (arith, n1, h.few, p.1)
+      top_is = p.2 ∙ h.top_is;
+      depth_is = p.3 ∙ h.depth_is;
+      shallow = h.shallow;
+      few = omega (arith, n1, h.few, p.1);
     } in
     let same : limit_of_kind kind ≡ limit_of l = ap limit_of_kind k ∙ same_limit l in
     let cl : IsClear (limit_of l) text e = subst (λ (x : Limit). IsClear x text e) same clear in
@@ -117,11 +120,11 @@ close_cells text r new limit f fs tail Rest ps h k inside =
     let open' : k.0 ≡ c = k.1 ∙ top_cell text r limit f fs tail Rest k.0 h in
     let count : length r.cells.items - r.top - 1 ≡ length (cells_in (onto f.done ps)) = omega (arith, h.top_is, ap length inside) in
     let made : cell k.0.kind k.0.at (r.at + 1) (length r.cells.items - r.top - 1) ≡ cell (kind_of_bracket f.kind) f.from (r.at + 1) (length (cells_in (onto f.done ps)))
-        = ap (λ (y : Cell). cell y.kind y.at (r.at + 1) (length r.cells.items - r.top - 1)) open' ∙ ap (λ (m : ℕ). cell (kind_of_bracket f.kind) f.from (r.at + 1) m) count in
+    = ap (λ (y : Cell). cell y.kind y.at (r.at + 1) (length r.cells.items - r.top - 1)) open' ∙ ap (λ (m : ℕ). cell (kind_of_bracket f.kind) f.from (r.at + 1) m) count in
     let new' : Cell = cell (kind_of_bracket f.kind) f.from (r.at + 1) (length (cells_in (onto f.done ps))) in
     let items : new.cells.items ≡ open_cells fs ++ (new' ∷ cells_in (onto f.done ps)) =
-        k.2 ∙ ap (λ (y : Cell). slice_set r.cells.items r.top y) made ∙ ap (λ (q : List Cell). slice_set q r.top new') e
-        ∙ set_at (open_cells fs) c x new' r.top (sym h.top_is) ∙ ap (λ (q : List Cell). open_cells fs ++ (new' ∷ q)) (sym inside) in
+    k.2 ∙ ap (λ (y : Cell). slice_set r.cells.items r.top y) made ∙ ap (λ (q : List Cell). slice_set q r.top new') e
+    ∙ set_at (open_cells fs) c x new' r.top (sym h.top_is) ∙ ap (λ (q : List Cell). open_cells fs ++ (new' ∷ q)) (sym inside) in
     let size : length new.cells.items ≡ length r.cells.items = ap length k.2 ∙ length-set r.cells.items r.top (cell k.0.kind k.0.at (r.at + 1) (length r.cells.items - r.top - 1)) in
     (items, k.4 ∙ ap (λ (y : Cell). y.end) open', omega (arith, k.5, h.depth_is), size)
 
@@ -149,43 +152,70 @@ first_close text r new e b from fs h lt q k =
     let f : Frame = frame b from [] None in
     let c = close_cells text (record r { at = e }) new any f fs [] (λ d n. Opened d n f fs) no_parts h k refl in
     let a : Agrees text (e + 1) any (λ d n. Behind d n fs (closed f (e + 1) no_parts)) =
-        advance_one text e (closing b) any (λ d n. Opened d n f fs) (λ d n. Behind d n fs (closed f (e + 1) no_parts)) h.agrees lt q (closing_plain b) (λ x. tt)
-        (λ m rest v x. first_close_into (depth_limit + m) (e + 1 + length rest) f fs (e + 1) rest v refl x)
-        (λ m rest v x. first_close_back (depth_limit + m) (e + 1 + length rest) f fs (e + 1) rest v refl x) in
-    (fs, closed f (e + 1) no_parts, any, record {
-      agrees = subst (λ (m : ℕ). Agrees text m any (λ d n. Behind d n fs (closed f (e + 1) no_parts))) (sym k.3) a;
-      laid = c.0; top_is = c.1; depth_is = c.2; shallow = omega (arith, h.shallow); few = omega (arith, c.3, h.few, k.3)
-    }, tt)
+    advance_one text e (closing b) any (λ d n. Opened d n f fs) (λ d n. Behind d n fs (closed f (e + 1) no_parts)) h.agrees lt q (closing_plain b) (λ x. tt)
+    (λ m rest v x. first_close_into (depth_limit + m) (e + 1 + length rest) f fs (e + 1) rest v refl x)
+    (λ m rest v x. first_close_back (depth_limit + m) (e + 1 + length rest) f fs (e + 1) rest v refl x) in (
+      fs,
+      closed f (e + 1) no_parts,
+      any,
+      record {
+        agrees = subst (λ (m : ℕ). Agrees text m any (λ d n. Behind d n fs (closed f (e + 1) no_parts))) (sym k.3) a;
+        laid = c.0;
+        top_is = c.1;
+        depth_is = c.2;
+        shallow = omega (arith, h.shallow);
+        few = omega (arith, c.3, h.few, k.3);
+      },
+      tt,
+    )
 
 -- the closing bracket is not there: then a part comes first
 pub first_item : (text : List ℕ) (r : Reader) (from : ℕ) (fs : List Frame)
     → Holds text r any (frame square from [] None ∷ fs) [] (λ d n. Opened d n (frame square from [] None) fs) → IsHere text r.at any → slice_index text r.at ≢ 93
     → ReadsValueHere text r
 first_item text r from fs h hr n =
-    let f : Frame = frame square from [] None in
-    (f ∷ fs, no_closing square, record {
-      agrees = record {
-        in_text = h.agrees.in_text;
-        into = λ m rest v c sp. first_item_into (depth_limit + m) (r.at + length rest) from [] fs rest v c (h.agrees.into m rest v tt sp);
-        back = λ m rest v c x. h.agrees.back m rest v tt (first_item_back (depth_limit + m) (r.at + length rest) from [] fs rest v x);
-        letters = h.agrees.letters
-      };
-      laid = h.laid; top_is = h.top_is; depth_is = h.depth_is; shallow = h.shallow; few = h.few
-    }, record { in_text = hr.in_text; firm = hr.firm; allowed = n })
+    let f : Frame = frame square from [] None in (
+      f ∷ fs,
+      no_closing square,
+      record {
+        agrees = record {
+          in_text = h.agrees.in_text;
+          into = λ m rest v c sp. first_item_into (depth_limit + m) (r.at + length rest) from [] fs rest v c (h.agrees.into m rest v tt sp);
+          back = λ m rest v c x. h.agrees.back m rest v tt (first_item_back (depth_limit + m) (r.at + length rest) from [] fs rest v x);
+          letters = h.agrees.letters;
+        };
+        laid = h.laid;
+        top_is = h.top_is;
+        depth_is = h.depth_is;
+        shallow = h.shallow;
+        few = h.few;
+      },
+      record { in_text = hr.in_text; firm = hr.firm; allowed = n },
+    )
 
 pub first_name : (text : List ℕ) (r : Reader) (from : ℕ) (fs : List Frame)
     → Holds text r any (frame curly from [] None ∷ fs) [] (λ d n. Opened d n (frame curly from [] None) fs) → IsHere text r.at any → slice_index text r.at ≢ 125
     → ReadsNameHere text r
-first_name text r from fs h hr n =
-    (from, [], fs, no_closing curly, record {
-      agrees = record {
-        in_text = h.agrees.in_text;
-        into = λ m rest v c sp. first_name_into (depth_limit + m) (r.at + length rest) from [] fs rest v c (h.agrees.into m rest v tt sp);
-        back = λ m rest v c x. h.agrees.back m rest v tt (first_name_back (depth_limit + m) (r.at + length rest) from [] fs rest v x);
-        letters = h.agrees.letters
-      };
-      laid = h.laid; top_is = h.top_is; depth_is = h.depth_is; shallow = h.shallow; few = h.few
-    }, record { in_text = hr.in_text; firm = hr.firm; allowed = n })
+first_name text r from fs h hr n = (
+  from,
+  [],
+  fs,
+  no_closing curly,
+  record {
+    agrees = record {
+      in_text = h.agrees.in_text;
+      into = λ m rest v c sp. first_name_into (depth_limit + m) (r.at + length rest) from [] fs rest v c (h.agrees.into m rest v tt sp);
+      back = λ m rest v c x. h.agrees.back m rest v tt (first_name_back (depth_limit + m) (r.at + length rest) from [] fs rest v x);
+      letters = h.agrees.letters;
+    };
+    laid = h.laid;
+    top_is = h.top_is;
+    depth_is = h.depth_is;
+    shallow = h.shallow;
+    few = h.few;
+  },
+  record { in_text = hr.in_text; firm = hr.firm; allowed = n },
+)
 
 -- ---- a name and its colon
 
@@ -201,7 +231,7 @@ pub name_over : (text : List ℕ) (r : Reader) (e : ℕ) → ReadsName text r �
 name_over text r e (from, done, fs, h) p n =
     let f : Frame = frame curly from done None in
     let h' : Holds text (record r { at = e }) any (f ∷ fs) [] (λ d m. BeforeName d m f fs)
-        = hold_blanks text r e (f ∷ fs) [] (λ d m. BeforeName d m f fs) h p (λ d m ws rest v b x. name_pass d m f fs ws rest v b x) (λ d m ws rest v b x. name_more d m f fs ws rest v b x) in
+    = hold_blanks text r e (f ∷ fs) [] (λ d m. BeforeName d m f fs) h p (λ d m ws rest v b x. name_pass d m f fs ws rest v b x) (λ d m ws rest v b x. name_more d m f fs ws rest v b x) in
     bad_at text e any (λ d m. BeforeName d m f fs) h'.agrees
     (end_halts text e any (λ d m. BeforeName d m f fs) n (λ m rest v x. tt) tt (empty_name e f fs) (λ more m v x. stuck.name_none (depth_limit + more) m f fs v x))
 
@@ -232,36 +262,41 @@ name_turn text r new e (Ok x) (from, done, fs, limit, h, hr) q s' p u o =
     let name : Name = record { from = at; to = e; text = decoded raw } in
     let g : Frame = frame curly from done (Some name) in
     let size : (rest : List ℕ) → at + length ((34 ∷ raw ++ 34 ∷ []) ++ rest) ≡ e + length rest = λ rest.
-        omega (arith, length-append (34 ∷ raw ++ 34 ∷ []) rest, ap length bytes, length_range text at e le) in
+    omega (arith, length-append (34 ∷ raw ++ 34 ∷ []) rest, ap length bytes, length_range text at e le) in
     let a : Agrees text e any (λ d n. BeforeColon d n (g ∷ fs)) = advance text at e limit any (λ d n. BeforeName d n f fs) (λ d n. BeforeColon d n (g ∷ fs)) h.agrees (omega arith) le (record {
       into = λ m rest v c y. name_into (depth_limit + m) (e + length rest) f fs raw at e rest v s.characters (size rest) refl
           (subst (λ (z : List ℕ). BeforeName (depth_limit + m) (e + length rest) f fs (z ++ rest) v) bytes y);
       back = λ m rest v c y. subst (λ (z : List ℕ). BeforeName (depth_limit + m) (e + length rest) f fs (z ++ rest) v) (sym bytes)
           (name_back (depth_limit + m) (e + length rest) f fs raw at e rest v s.characters (size rest) refl y);
       counts = λ rest c. front_counts limit text at e rest (omega arith) le hr;
-      letters = λ i b c d can. string_letters text at e limit (λ d n. BeforeName d n f fs) h.agrees (takes_name f fs) (here_counts text at 34 limit hr q) q s i b c d
+      letters = λ i b c d can. string_letters text at e limit (λ d n. BeforeName d n f fs) h.agrees (takes_name f fs) (here_counts text at 34 limit hr q) q s i b c d;
     }) in
     let ph : Cell = cell Object from (top_of fs) 0 in
     let nc : List Cell = cell String at e 0 ∷ [] in
     let n1 : length new.cells.items ≡ length r.cells.items + 1 = ap length p.0 ∙ length-append r.cells.items nc in
-    let old : r.cells.items ≡ (open_cells fs ++ (ph ∷ (cells_done done ++ []))) ++ [] = h.laid in
-    (g ∷ fs, record {
-      agrees = subst (λ (m : ℕ). Agrees text m any (λ d n. BeforeColon d n (g ∷ fs))) (sym p.1) a;
-      laid = p.0 ∙ ap (λ (x : List Cell). x ++ nc) old ∙ simp (append_assoc, append-nil);
-      top_is = p.2 ∙ h.top_is; depth_is = p.3 ∙ h.depth_is; shallow = h.shallow; few = omega (arith, n1, h.few, p.1)
-    })
+    let old : r.cells.items ≡ (open_cells fs ++ (ph ∷ (cells_done done ++ []))) ++ [] = h.laid in (
+      g ∷ fs,
+      record {
+        agrees = subst (λ (m : ℕ). Agrees text m any (λ d n. BeforeColon d n (g ∷ fs))) (sym p.1) a;
+        laid = p.0 ∙ ap (λ (x : List Cell). x ++ nc) old ∙ simp (append_assoc, append-nil);
+        top_is = p.2 ∙ h.top_is;
+        depth_is = p.3 ∙ h.depth_is;
+        shallow = h.shallow;
+        few = omega (arith, n1, h.few, p.1);
+      },
+    )
 
 pub colon_over : (text : List ℕ) (r : Reader) (e : ℕ) → ReadsColon text r → PassesBlanks text r.at e → e ≡ length text → IsBad text e
 colon_over text r e (fs, h) p n =
     let h' : Holds text (record r { at = e }) any fs [] (λ d m. BeforeColon d m fs)
-        = hold_blanks text r e fs [] (λ d m. BeforeColon d m fs) h p (λ d m ws rest v b x. colon_pass d m fs ws rest v b x) (λ d m ws rest v b x. colon_more d m fs ws rest v b x) in
+    = hold_blanks text r e fs [] (λ d m. BeforeColon d m fs) h p (λ d m ws rest v b x. colon_pass d m fs ws rest v b x) (λ d m ws rest v b x. colon_more d m fs ws rest v b x) in
     bad_at text e any (λ d m. BeforeColon d m fs) h'.agrees
     (end_halts text e any (λ d m. BeforeColon d m fs) n (λ m rest v x. tt) tt (colon_ends depth_limit e fs) (λ more m v x. stuck.colon_none (depth_limit + more) m fs v x))
 
 pub colon_bad : (text : List ℕ) (r : Reader) (e : ℕ) → ReadsColon text r → PassesBlanks text r.at e → e ≢ length text → slice_index text e ≢ 58 → IsBad text e
 colon_bad text r e (fs, h) p n ne =
     let h' : Holds text (record r { at = e }) any fs [] (λ d m. BeforeColon d m fs)
-        = hold_blanks text r e fs [] (λ d m. BeforeColon d m fs) h p (λ d m ws rest v b x. colon_pass d m fs ws rest v b x) (λ d m ws rest v b x. colon_more d m fs ws rest v b x) in
+    = hold_blanks text r e fs [] (λ d m. BeforeColon d m fs) h p (λ d m ws rest v b x. colon_pass d m fs ws rest v b x) (λ d m ws rest v b x. colon_more d m fs ws rest v b x) in
     let hr : IsHere text e any = here text r.at e p n in
     bad_at text e any (λ d m. BeforeColon d m fs) h'.agrees
     (other_halts text e any (λ d m. BeforeColon d m fs) hr.in_text (λ m rest v x. tt) (λ rest. tt) (colon_ends depth_limit e fs)
@@ -270,8 +305,8 @@ colon_bad text r e (fs, h) p n ne =
 pub colon_turn : (text : List ℕ) (r : Reader) (e : ℕ) → ReadsColon text r → PassesBlanks text r.at e → e ≢ length text → slice_index text e ≡ 58 → ReadsValue text (record r { at = e + 1 })
 colon_turn text r e (fs, h) p n q =
     let h' : Holds text (record r { at = e }) any fs [] (λ d m. BeforeColon d m fs)
-        = hold_blanks text r e fs [] (λ d m. BeforeColon d m fs) h p (λ d m ws rest v b x. colon_pass d m fs ws rest v b x) (λ d m ws rest v b x. colon_more d m fs ws rest v b x) in
+    = hold_blanks text r e fs [] (λ d m. BeforeColon d m fs) h p (λ d m ws rest v b x. colon_pass d m fs ws rest v b x) (λ d m ws rest v b x. colon_more d m fs ws rest v b x) in
     let hr : IsHere text e any = here text r.at e p n in
     let a : Agrees text (e + 1) any (λ d m. Before d m fs) = advance_one text e 58 any (λ d m. BeforeColon d m fs) (λ d m. Before d m fs) h'.agrees hr.in_text q (eqb-false 58 92 refl) (λ x. tt)
-        (λ m rest v x. colon_into (depth_limit + m) (e + 1 + length rest) fs rest v x) (λ m rest v x. colon_back (depth_limit + m) (e + 1 + length rest) fs rest v x) in
+    (λ m rest v x. colon_into (depth_limit + m) (e + 1 + length rest) fs rest v x) (λ m rest v x. colon_back (depth_limit + m) (e + 1 + length rest) fs rest v x) in
     (fs, record { agrees = a; laid = h'.laid; top_is = h'.top_is; depth_is = h'.depth_is; shallow = h'.shallow; few = omega (arith, h'.few) })

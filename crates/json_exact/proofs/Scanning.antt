@@ -64,10 +64,11 @@ stop_on w v t a k h n s p =
     let f : suc a ≤ k = p.forward in
     let l : k ≤ length t = p.in_text in
     record {
-      forward = omega arith; in_text = l;
+      forward = omega arith;
+      in_text = l;
       inside = λ j le m. inside_by w v t a k j l n s p.inside le m (cases_lt j (suc a));
       before = λ e. p.before (ap (λ (x : Way). steps x (slice_range t (suc a) k)) (sym s) ∙ sym (within_range t w a k (omega arith) l) ∙ e);
-      byte = λ in'. within_range t w a (suc k) (omega arith) (omega arith) ∙ ap (λ (x : Way). steps x (slice_range t (suc a) (suc k))) s ∙ p.byte in'
+      byte = λ in'. within_range t w a (suc k) (omega arith) (omega arith) ∙ ap (λ (x : Way). steps x (slice_range t (suc a) (suc k))) s ∙ p.byte in';
     }
 
 here_by : (w : Way) (t : List ℕ) (a j : ℕ) (x : Way) → a ≤ j → j ≤ a → w ≢ x → steps w (slice_range t a j) ≢ x
@@ -77,14 +78,20 @@ here_by w t a j x h k n e =
 
 pub stop_here : (w : Way) (t : List ℕ) (a : ℕ) → a < length t → w ≢ whole → w ≢ refused → step w (get_or t a 0) ≡ refused → StopsWay w t a a
 stop_here w t a h n m s = record {
-  forward = omega arith; in_text = omega arith; inside = λ j le l. here_by w t a j whole le l n;
-  before = here_by w t a a refused (omega arith) (omega arith) m; byte = λ in'. ap (steps w) (range_one t a h) ∙ s
+  forward = omega arith;
+  in_text = omega arith;
+  inside = λ j le l. here_by w t a j whole le l n;
+  before = here_by w t a a refused (omega arith) (omega arith) m;
+  byte = λ in'. ap (steps w) (range_one t a h) ∙ s;
 }
 
 pub stop_end : (w : Way) (t : List ℕ) (a : ℕ) → a ≡ length t → w ≢ whole → w ≢ refused → StopsWay w t a a
 stop_end w t a h n m = record {
-  forward = omega arith; in_text = omega arith; inside = λ j le l. here_by w t a j whole le l n;
-  before = here_by w t a a refused (omega arith) (omega arith) m; byte = λ in'. absurd (omega arith)
+  forward = omega arith;
+  in_text = omega arith;
+  inside = λ j le l. here_by w t a j whole le l n;
+  before = here_by w t a a refused (omega arith) (omega arith) m;
+  byte = λ in'. absurd (omega arith);
 }
 
 -- a character whose first byte leads to a way
@@ -98,16 +105,20 @@ character_stops v t a k h s p =
     let f : suc a ≤ k = p.forward in
     let l : k ≤ length t = p.in_text in
     record {
-      forward = omega arith; in_text = l;
+      forward = omega arith;
+      in_text = l;
       inside = λ j lt m e. p.inside j lt m (ap (λ (x : Way). steps x (slice_range t (suc a) j)) (sym s) ∙ sym (within_range t whole a j lt (omega arith)) ∙ e);
       before = λ e. p.before (ap (λ (x : Way). steps x (slice_range t (suc a) k)) (sym s) ∙ sym (within_range t whole a k f l) ∙ e);
-      byte = λ in'. within_range t whole a (suc k) (omega arith) (omega arith) ∙ ap (λ (x : Way). steps x (slice_range t (suc a) (suc k))) s ∙ p.byte in'
+      byte = λ in'. within_range t whole a (suc k) (omega arith) (omega arith) ∙ ap (λ (x : Way). steps x (slice_range t (suc a) (suc k))) s ∙ p.byte in';
     }
 
 pub character_stops_here : (t : List ℕ) (a : ℕ) → a < length t → character (get_or t a 0) ≡ refused → StopsCharacter t a a
 character_stops_here t a h s = record {
-  forward = omega arith; in_text = omega arith; inside = λ j lt m. absurd (omega arith);
-  before = here_by whole t a a refused (omega arith) (omega arith) (λ e. cc); byte = λ in'. ap (steps whole) (range_one t a h) ∙ s
+  forward = omega arith;
+  in_text = omega arith;
+  inside = λ j lt m. absurd (omega arith);
+  before = here_by whole t a a refused (omega arith) (omega arith) (λ e. cc);
+  byte = λ in'. ap (steps whole) (range_one t a h) ∙ s;
 }
 
 -- ---- a choice of ways
@@ -148,10 +159,11 @@ inside_more w t a i j below here h k (inr le) = (let e : j ≡ i = omega arith i
 pub row_stops : (row : List Class) (n : ℕ) (t : List ℕ) (a i : ℕ) → n < length row → a ≤ i → i ≤ length t → steps (way_of row) (slice_range t a i) ≡ way_of (drop n row)
     → ((j : ℕ) → a ≤ j → j < i → steps (way_of row) (slice_range t a j) ≢ whole) → (i < length t → step (way_of (drop n row)) (get_or t i 0) ≡ refused) → StopsWay (way_of row) t a i
 row_stops row n t a i h k l e below stuck = record {
-  forward = k; in_text = l;
+  forward = k;
+  in_text = l;
   inside = λ j le m. inside_more (way_of row) t a i j below (λ w. row_not_whole row n h (sym e ∙ w)) le m (cases_lt j i);
   before = λ w. row_not_refused row n h (sym e ∙ w);
-  byte = λ in'. ap (steps (way_of row)) (range_more t a i k in') ∙ steps-append (way_of row) (slice_range t a i) (get_or t i 0 ∷ []) ∙ ap (λ (x : Way). step x (get_or t i 0)) e ∙ stuck in'
+  byte = λ in'. ap (steps (way_of row)) (range_more t a i k in') ∙ steps-append (way_of row) (slice_range t a i) (get_or t i 0 ∷ []) ∙ ap (λ (x : Way). step x (get_or t i 0)) e ∙ stuck in';
 }
 
 pub row_inside : (row : List Class) (n : ℕ) (t : List ℕ) (a i j : ℕ) → n < length row → steps (way_of row) (slice_range t a i) ≡ way_of (drop n row)
@@ -180,18 +192,20 @@ half_if t a k in' h b u d l =
     let a3 : suc (suc (suc a)) ≡ a + 3 = omega arith in
     let r : List ℕ = slice_range t (suc (suc (suc (suc a)))) (suc k) in
     let e : slice_range t a (suc k) ≡ get_or t a 0 ∷ get_or t (suc a) 0 ∷ get_or t (suc (suc a)) 0 ∷ get_or t (suc (suc (suc a))) 0 ∷ r
-        = range_first t a (suc k) (omega arith) (omega arith) ∙ ap (λ (q : List ℕ). get_or t a 0 ∷ q) (range_first t (suc a) (suc k) (omega arith) (omega arith)
-        ∙ ap (λ (q : List ℕ). get_or t (suc a) 0 ∷ q) (range_first t (suc (suc a)) (suc k) (omega arith) (omega arith)
-        ∙ ap (λ (q : List ℕ). get_or t (suc (suc a)) 0 ∷ q) (range_first t (suc (suc (suc a))) (suc k) (omega arith) (omega arith)))) in
+    = range_first t a (suc k) (omega arith) (omega arith) ∙ ap (λ (q : List ℕ). get_or t a 0 ∷ q) (range_first t (suc a) (suc k) (omega arith) (omega arith)
+    ∙ ap (λ (q : List ℕ). get_or t (suc a) 0 ∷ q) (range_first t (suc (suc a)) (suc k) (omega arith) (omega arith)
+    ∙ ap (λ (q : List ℕ). get_or t (suc (suc a)) 0 ∷ q) (range_first t (suc (suc (suc a))) (suc k) (omega arith) (omega arith)))) in
     let u' : get_or t (suc a) 0 ≡ 117 = ap (λ (m : ℕ). get_or t m 0) a1 ∙ u in
     let d' : is_d (get_or t (suc (suc a)) 0) ≡ true = ap (λ (m : ℕ). is_d (get_or t m 0)) a2 ∙ d in
     let e' : slice_range t a (suc k) ≡ 92 ∷ 117 ∷ get_or t (suc (suc a)) 0 ∷ get_or t (suc (suc (suc a))) 0 ∷ r
-        = e ∙ ap (λ (x : ℕ). x ∷ get_or t (suc a) 0 ∷ get_or t (suc (suc a)) 0 ∷ get_or t (suc (suc (suc a))) 0 ∷ r) b
-        ∙ ap (λ (x : ℕ). 92 ∷ x ∷ get_or t (suc (suc a)) 0 ∷ get_or t (suc (suc (suc a))) 0 ∷ r) u' in
+    = e ∙ ap (λ (x : ℕ). x ∷ get_or t (suc a) 0 ∷ get_or t (suc (suc a)) 0 ∷ get_or t (suc (suc (suc a))) 0 ∷ r) b
+    ∙ ap (λ (x : ℕ). 92 ∷ x ∷ get_or t (suc (suc a)) 0 ∷ get_or t (suc (suc (suc a))) 0 ∷ r) u' in
     let len : length r ≡ suc k - suc (suc (suc (suc a))) = length_range t (suc (suc (suc (suc a)))) (suc k) (omega arith) in
     let last : (is_low_digit (get_or t (suc (suc (suc a))) 0) ≡ true) ⊎ ((is_high_digit (get_or t (suc (suc (suc a))) 0) ≡ true) × (2 < length r))
-        = elim l [ inl x ↦ inl (ap (λ (m : ℕ). is_low_digit (get_or t m 0)) a3 ∙ x)
-                 | inr x ↦ inr (ap (λ (m : ℕ). is_high_digit (get_or t m 0)) a3 ∙ x.0, omega (arith, x.1)) ] in
+    = elim l [
+      | inl x ↦ inl (ap (λ (m : ℕ). is_low_digit (get_or t m 0)) a3 ∙ x)
+      | inr x ↦ inr (ap (λ (m : ℕ). is_high_digit (get_or t m 0)) a3 ∙ x.0, omega (arith, x.1))
+    ] in
     record { stops_inside = in'; surrogate = (get_or t (suc (suc a)) 0, get_or t (suc (suc (suc a))) 0, r, e', d', last) }
 
 half_byte : (t : List ℕ) (a k j x : ℕ) (q : List ℕ) → slice_range t a (suc k) ≡ q → a + j < suc k → get_or q j 0 ≡ x → get_or t (a + j) 0 ≡ x
@@ -218,8 +232,12 @@ half_only t a k le h =
     let b2 : get_or t (a + 2) 0 ≡ s.0 = half_byte t a k 2 s.0 q s.3 (omega arith) refl in
     let b3 : get_or t (a + 3) 0 ≡ s.1 = half_byte t a k 3 s.1 q s.3 (omega arith) refl in
     record {
-      in_text = in'; long = long; backslash = subst (λ (m : ℕ). get_or t m 0 ≡ 92) z b0; u = b1; d = ap is_d b2 ∙ s.4;
-      digit = elim s.5 [ inl x ↦ inl (ap is_low_digit b3 ∙ x) | inr x ↦ inr (ap is_high_digit b3 ∙ x.0, omega (arith, x.1)) ]
+      in_text = in';
+      long = long;
+      backslash = subst (λ (m : ℕ). get_or t m 0 ≡ 92) z b0;
+      u = b1;
+      d = ap is_d b2 ∙ s.4;
+      digit = elim s.5 [ inl x ↦ inl (ap is_low_digit b3 ∙ x) | inr x ↦ inr (ap is_high_digit b3 ∙ x.0, omega (arith, x.1)) ];
     }
 
 -- ---- a string, character by character
@@ -242,15 +260,24 @@ string_stops_at t a i k h lt w q p =
     let f : i ≤ k = p.forward in
     let l : k ≤ length t = p.in_text in
     record {
-      forward = h; order = f; in_text = l; characters = w;
+      forward = h;
+      order = f;
+      in_text = l;
+      characters = w;
       inside = λ j m n e. p.inside j m n (sym (shift t a i j h (omega arith) (omega arith) w) ∙ e);
       before = λ e. p.before (sym (shift t a i k h f l w) ∙ e);
       quote = λ in' e x. q (ap (λ (m : ℕ). get_or t m 0) e ∙ x);
-      byte = λ in'. shift t a i (suc k) h (omega arith) (omega arith) w ∙ p.byte in'
+      byte = λ in'. shift t a i (suc k) h (omega arith) (omega arith) w ∙ p.byte in';
     }
 
 pub string_stops_end : (t : List ℕ) (a i : ℕ) → a ≤ i → i ≡ length t → AreCharacters (slice_range t a i) → StopsString t a i i
 string_stops_end t a i h e w = record {
-  forward = h; order = omega arith; in_text = omega arith; characters = w; inside = λ j m n. absurd (omega arith);
-  before = λ x. (let y : whole ≡ refused = sym w ∙ x in cc); quote = λ in'. absurd (omega arith); byte = λ in'. absurd (omega arith)
+  forward = h;
+  order = omega arith;
+  in_text = omega arith;
+  characters = w;
+  inside = λ j m n. absurd (omega arith);
+  before = λ x. (let y : whole ≡ refused = sym w ∙ x in cc);
+  quote = λ in'. absurd (omega arith);
+  byte = λ in'. absurd (omega arith);
 }

@@ -258,8 +258,17 @@ leaf_found d n fs c q v firm ne (leaf l a z, s, m, bl, sp, bh) =
     let e : c ∷ q ≡ (st.0 ∷ st.1) ++ m = sym at ∙ sp.2 ∙ ap (λ (r : List ℕ). r ++ m) st.2 in
     let first : st.0 ≡ c = cc in
     record {
-      leaf' = l; bytes = sp.0; from = a; to = z; rest = m; is_leaf = sp.1; front = sym at ∙ sp.2;
-      begins = subst (λ (r : List ℕ). a + length r ≡ n) at sp.3; ends = sp.4; starts = subst (Starts l) first st.3; behind = bh
+      leaf' = l;
+      bytes = sp.0;
+      from = a;
+      to = z;
+      rest = m;
+      is_leaf = sp.1;
+      front = sym at ∙ sp.2;
+      begins = subst (λ (r : List ℕ). a + length r ≡ n) at sp.3;
+      ends = sp.4;
+      starts = subst (Starts l) first st.3;
+      behind = bh;
     }
 leaf_found d n fs c q v firm ne (nest k a z ps, s, m, bl, sp, bh) =
     let at : s ≡ c ∷ q = firm_front c q s firm bl in

@@ -87,9 +87,12 @@ pub token_halts : (text : List ℕ) (at k : ℕ) (limit : Limit) (Rest : ℕ →
     → (k ≡ length text → (more n : ℕ) (v : Json) → Rest (depth_limit + more) n (slice_range text at k) v → ⊥)
     → Halts text at k limit Rest
 token_halts text at k limit Rest h j here rc alive dead over = record {
-  alive = alive; alive_counts = λ rest v r. rc _ (slice_range text at k ++ rest) v r;
-  dead = dead; dead_counts = λ in' rest. front_counts limit text at (suc k) rest (omega arith) (omega arith) here;
-  over = over; over_counts = λ e. (let in' : at < length text = here.in_text in front_counts' limit text at k (omega arith) j here)
+  alive = alive;
+  alive_counts = λ rest v r. rc _ (slice_range text at k ++ rest) v r;
+  dead = dead;
+  dead_counts = λ in' rest. front_counts limit text at (suc k) rest (omega arith) (omega arith) here;
+  over = over;
+  over_counts = λ e. (let in' : at < length text = here.in_text in front_counts' limit text at k (omega arith) j here);
 }
 
 -- no token stands there
@@ -99,10 +102,12 @@ pub other_halts : (text : List ℕ) (at : ℕ) (limit : Limit) (Rest : ℕ → �
     → ((more n : ℕ) (rest : List ℕ) (v : Json) → Rest (depth_limit + more) n (slice_index text at ∷ rest) v → ⊥)
     → Halts text at at limit Rest
 other_halts text at limit Rest h rc counts alive dead = record {
-  alive = same_front depth_limit at [] (slice_range text at at) Rest (sym (range_none text at)) alive; alive_counts = λ rest v r. rc _ (slice_range text at at ++ rest) v r;
+  alive = same_front depth_limit at [] (slice_range text at at) Rest (sym (range_none text at)) alive;
+  alive_counts = λ rest v r. rc _ (slice_range text at at ++ rest) v r;
   dead = λ in' more n rest v r. dead more n rest v (subst (λ (q : List ℕ). Rest (depth_limit + more) n (q ++ rest) v) (range_one text at h) r);
   dead_counts = λ in' rest. subst (λ (q : List ℕ). Counts limit (q ++ rest)) (sym (range_one text at h)) (counts rest);
-  over = λ e. absurd (omega arith); over_counts = λ e. absurd (omega arith)
+  over = λ e. absurd (omega arith);
+  over_counts = λ e. absurd (omega arith);
 }
 
 -- the text ends there
@@ -112,10 +117,12 @@ pub end_halts : (text : List ℕ) (at : ℕ) (limit : Limit) (Rest : ℕ → ℕ
     → ((more n : ℕ) (v : Json) → Rest (depth_limit + more) n [] v → ⊥)
     → Halts text at at limit Rest
 end_halts text at limit Rest h rc counts alive over = record {
-  alive = same_front depth_limit at [] (slice_range text at at) Rest (sym (range_none text at)) alive; alive_counts = λ rest v r. rc _ (slice_range text at at ++ rest) v r;
-  dead = λ in'. absurd (omega arith); dead_counts = λ in'. absurd (omega arith);
+  alive = same_front depth_limit at [] (slice_range text at at) Rest (sym (range_none text at)) alive;
+  alive_counts = λ rest v r. rc _ (slice_range text at at ++ rest) v r;
+  dead = λ in'. absurd (omega arith);
+  dead_counts = λ in'. absurd (omega arith);
   over = λ e more n v r. over more n v (subst (λ (q : List ℕ). Rest (depth_limit + more) n q v) (range_none text at) r);
-  over_counts = λ e. subst (λ (q : List ℕ). Counts limit q) (sym (range_none text at)) counts
+  over_counts = λ e. subst (λ (q : List ℕ). Counts limit q) (sym (range_none text at)) counts;
 }
 
 nothing_between : (text : List ℕ) (at : ℕ) (s : ℕ) → at ≤ s → s < at → slice_index text s ≢ 92
@@ -130,14 +137,14 @@ pub takes_value : (fs : List Frame) → TakesString (λ d n. Before d n fs)
 takes_value fs = record {
   dead = λ more n p b rest v s r. stuck.string_dead (depth_limit + more) n fs p b rest v s r;
   over = λ more n p v s r. stuck.string_end (depth_limit + more) n fs p v s r;
-  ends = λ at p s. string_ends depth_limit at fs p s
+  ends = λ at p s. string_ends depth_limit at fs p s;
 }
 
 pub takes_name : (f : Frame) (fs : List Frame) → TakesString (λ d n. BeforeName d n f fs)
 takes_name f fs = record {
   dead = λ more n p b rest v s r. stuck.name_dead (depth_limit + more) n f fs p b rest v s r;
   over = λ more n p v s r. stuck.name_end (depth_limit + more) n f fs p v s r;
-  ends = λ at p s. name_ends depth_limit at f fs p s
+  ends = λ at p s. name_ends depth_limit at f fs p s;
 }
 
 -- the bytes of a part that are those of a list below are none but backslashes if that has none
@@ -195,10 +202,11 @@ false_if false h = refl
 starts_placed : (c : ℕ) → ((c ≡ 45) ⊎ (is_digit c ≡ true)) → then Nothing c ≢ Misplaced
 starts_placed c (inl e) h = (let x : then Nothing 45 ≡ Misplaced = ap (then Nothing) (sym e) ∙ h in cc)
 starts_placed c (inr d) h =
-    elim (eqb c 48) as (λ v. eqb c 48 ≡ v → ⊥)
-    [ true ↦ λ e. (let x : then Nothing 48 ≡ Misplaced = ap (then Nothing) (sym (eqb-true c 48 e)) ∙ h in cc)
-    | false ↦ λ e. (let y : then Nothing c ≡ Whole = off (eqb c 45) Minus (cond (eqb c 48) Zero (cond (is_digit c) Whole Misplaced)) Whole (digit_is_no_minus c d)
-        (off (eqb c 48) Zero (cond (is_digit c) Whole Misplaced) Whole e (on (is_digit c) Whole Misplaced Whole d refl)) in let z : Whole ≡ Misplaced = sym y ∙ h in cc) ] refl
+    elim (eqb c 48) as (λ v. eqb c 48 ≡ v → ⊥) [
+      | true ↦ λ e. (let x : then Nothing 48 ≡ Misplaced = ap (then Nothing) (sym (eqb-true c 48 e)) ∙ h in cc)
+      | false ↦ λ e. (let y : then Nothing c ≡ Whole = off (eqb c 45) Minus (cond (eqb c 48) Zero (cond (is_digit c) Whole Misplaced)) Whole (digit_is_no_minus c d)
+          (off (eqb c 48) Zero (cond (is_digit c) Whole Misplaced) Whole e (on (is_digit c) Whole Misplaced Whole d refl)) in let z : Whole ≡ Misplaced = sym y ∙ h in cc)
+    ] refl
 
 word_bad : (text : List ℕ) (at k i : ℕ) (limit : Limit) (fs : List Frame) (w : Word) → Agrees text at limit (λ d n. Before d n fs) → IsHere text at limit → k ≡ at + suc i
     → StopsWord text at (letters w) k → IsBad text k
@@ -210,10 +218,10 @@ word_bad text at k i limit fs w a here e h =
     let byte : k < length text → slice_index text k ≢ get_or (letters w) (suc i) 0 = λ in' x. h.byte in' (x ∙ ap (λ (m : ℕ). get_or (letters w) m 0) (sym size)) in
     let alive : EndsBehind depth_limit at (slice_range text at k) (λ d n. Before d n fs) = same_front depth_limit at (take (suc i) (letters w)) (slice_range text at k) (λ d n. Before d n fs) (sym before) (word_ends depth_limit at fs w (suc i)) in
     let t : Halts text at k limit (λ d n. Before d n fs) = token_halts text at k limit (λ d n. Before d n fs) (omega arith) f here (λ n rest v r. wide_before limit depth_limit n fs rest v (wide_here limit _ here.allowed) r) alive
-        (λ in' more n rest v r. stuck.word_dead (depth_limit + more) n fs w i (slice_index text k) rest v lt (byte in')
-            (subst (λ (q : List ℕ). Before (depth_limit + more) n fs q v)
-            (ap (λ (q : List ℕ). q ++ rest) (range_more text at k (omega arith) in' ∙ ap (λ (q : List ℕ). q ++ slice_index text k ∷ []) before) ∙ append_assoc (take (suc i) (letters w)) (slice_index text k ∷ []) rest) r))
-        (λ j more n v r. stuck.word_end (depth_limit + more) n fs w i v lt (subst (λ (q : List ℕ). Before (depth_limit + more) n fs q v) before r)) in
+    (λ in' more n rest v r. stuck.word_dead (depth_limit + more) n fs w i (slice_index text k) rest v lt (byte in')
+    (subst (λ (q : List ℕ). Before (depth_limit + more) n fs q v)
+    (ap (λ (q : List ℕ). q ++ rest) (range_more text at k (omega arith) in' ∙ ap (λ (q : List ℕ). q ++ slice_index text k ∷ []) before) ∙ append_assoc (take (suc i) (letters w)) (slice_index text k ∷ []) rest) r))
+    (λ j more n v r. stuck.word_end (depth_limit + more) n fs w i v lt (subst (λ (q : List ℕ). Before (depth_limit + more) n fs q v) before r)) in
     bad_here text at k limit (λ d n. Before d n fs) a (omega arith) f t (plain_part text at k (take (suc i) (letters w)) f before (all_take (letters w) (suc i) (within_word w)))
 
 number_bad : (text : List ℕ) (at k : ℕ) (limit : Limit) (fs : List Frame) → Agrees text at limit (λ d n. Before d n fs) → IsHere text at limit → at < k
@@ -226,14 +234,14 @@ number_bad text at k limit fs a here lt st h =
     let placed : written Nothing (c ∷ p) ≢ Misplaced = subst (λ (q : List ℕ). written Nothing q ≢ Misplaced) all h.before in
     let alive : EndsBehind depth_limit at (slice_range text at k) (λ d n. Before d n fs) = number_ends_so depth_limit at fs (slice_range text at k) h.before in
     let t : Halts text at k limit (λ d n. Before d n fs) = token_halts text at k limit (λ d n. Before d n fs) (omega arith) f here (λ n rest v r. wide_before limit depth_limit n fs rest v (wide_here limit _ here.allowed) r) alive
-        (λ in' more n rest v r. stuck.number_dead (depth_limit + more) n fs c p (slice_index text k) rest v st placed
-            (subst (λ (q : List ℕ). then (written Nothing q) (slice_index text k) ≡ Misplaced) all (h.byte in'))
-            (λ e. (h.whole (ap (λ (q : List ℕ). may_end (written Nothing q)) all ∙ e)).1)
-            (subst (λ (q : List ℕ). Before (depth_limit + more) n fs q v)
-            (ap (λ (q : List ℕ). q ++ rest) (range_more text at k (omega arith) in' ∙ ap (λ (q : List ℕ). q ++ slice_index text k ∷ []) all) ∙ append_assoc (c ∷ p) (slice_index text k ∷ []) rest) r))
-        (λ j more n v r. stuck.number_end (depth_limit + more) n fs c p v st placed
-            (false_if (may_end (written Nothing (c ∷ p))) (λ e. (let w = h.whole (ap (λ (q : List ℕ). may_end (written Nothing q)) all ∙ e) in let in' : k < length text = w.0 in omega arith)))
-            (subst (λ (q : List ℕ). Before (depth_limit + more) n fs q v) all r)) in
+    (λ in' more n rest v r. stuck.number_dead (depth_limit + more) n fs c p (slice_index text k) rest v st placed
+    (subst (λ (q : List ℕ). then (written Nothing q) (slice_index text k) ≡ Misplaced) all (h.byte in'))
+    (λ e. (h.whole (ap (λ (q : List ℕ). may_end (written Nothing q)) all ∙ e)).1)
+    (subst (λ (q : List ℕ). Before (depth_limit + more) n fs q v)
+    (ap (λ (q : List ℕ). q ++ rest) (range_more text at k (omega arith) in' ∙ ap (λ (q : List ℕ). q ++ slice_index text k ∷ []) all) ∙ append_assoc (c ∷ p) (slice_index text k ∷ []) rest) r))
+    (λ j more n v r. stuck.number_end (depth_limit + more) n fs c p v st placed
+    (false_if (may_end (written Nothing (c ∷ p))) (λ e. (let w = h.whole (ap (λ (q : List ℕ). may_end (written Nothing q)) all ∙ e) in let in' : k < length text = w.0 in omega arith)))
+    (subst (λ (q : List ℕ). Before (depth_limit + more) n fs q v) all r)) in
     bad_here text at k limit (λ d n. Before d n fs) a (omega arith) f t (plain_part text at k (slice_range text at k) f refl (number_plain Nothing (slice_range text at k) h.before))
 
 number_bad_at : (text : List ℕ) (at k : ℕ) → ((slice_index text at ≡ 45) ⊎ (is_digit (slice_index text at) ≡ true)) → at < length text → StopsNumber text at k → ((at < k) ⊎ (k ≤ at)) → at < k

@@ -63,9 +63,15 @@ longer text at e h (inr x) =
 pub leaf_number : (text : List ℕ) (at : ℕ) (r : Result ℕ ℕ) (y : Result (Kind × ℕ) ℕ) → y ≡ with_kind Number r → (slice_index text at ≡ 45) ⊎ (is_digit (slice_index text at) ≡ true)
     → MatchResult r (PassesNumber text at) (StopsNumber text at) → MatchResult y (λ x. EndsLeaf text at x.0 x.1) (StopsLeaf text at)
 leaf_number text at (Ok e) y f q h =
-    subst (λ (z : Result (Kind × ℕ) ℕ). MatchResult z (λ x. EndsLeaf text at x.0 x.1) (StopsLeaf text at)) (sym f)
-    (number (slice_range text at e), (is_number (slice_range text at e) h.number, refl), refl, longer text at e h (cases_lt at e), h.in_text, h.next,
-    inl (plain_part text at e (slice_range text at e) h.in_text refl (number_plain Nothing (slice_range text at e) (ends_placed (written Nothing (slice_range text at e)) h.number))))
+    subst (λ (z : Result (Kind × ℕ) ℕ). MatchResult z (λ x. EndsLeaf text at x.0 x.1) (StopsLeaf text at)) (sym f) (
+      number (slice_range text at e),
+      (is_number (slice_range text at e) h.number, refl),
+      refl,
+      longer text at e h (cases_lt at e),
+      h.in_text,
+      h.next,
+      inl (plain_part text at e (slice_range text at e) h.in_text refl (number_plain Nothing (slice_range text at e) (ends_placed (written Nothing (slice_range text at e)) h.number))),
+    )
 leaf_number text at (Err k) y f q h =
     subst (λ (z : Result (Kind × ℕ) ℕ). MatchResult z (λ x. EndsLeaf text at x.0 x.1) (StopsLeaf text at)) (sym f) (stops_number q h)
 
@@ -99,7 +105,7 @@ advance_blanks text at e Rest a p pass more =
       into = λ m rest v c r. pass (depth_limit + m) _ (slice_range text at e) rest v p.blanks r;
       back = λ m rest v c r. more (depth_limit + m) _ (slice_range text at e) rest v p.blanks r;
       counts = λ rest c. tt;
-      letters = λ s h k b can. absurd (plain_part text at e (slice_range text at e) p.in_text refl (blanks_plain (slice_range text at e) p.blanks) s h k b)
+      letters = λ s h k b can. absurd (plain_part text at e (slice_range text at e) p.in_text refl (blanks_plain (slice_range text at e) p.blanks) s h k b);
     })
 
 pub hold_blanks : (text : List ℕ) (r : Reader) (e : ℕ) (fs : List Frame) (tail : List Cell) (Rest : ℕ → ℕ → List ℕ → Json → Type 0) → Holds text r any fs tail Rest → PassesBlanks text r.at e
@@ -107,8 +113,12 @@ pub hold_blanks : (text : List ℕ) (r : Reader) (e : ℕ) (fs : List Frame) (ta
     → ((d n : ℕ) (ws rest : List ℕ) (v : Json) → AreBlanks ws → Rest d n rest v → Rest d n (ws ++ rest) v)
     → Holds text (record r { at = e }) any fs tail Rest
 hold_blanks text r e fs tail Rest h p pass more = record {
-  agrees = advance_blanks text r.at e Rest h.agrees p pass more; laid = h.laid; top_is = h.top_is; depth_is = h.depth_is; shallow = h.shallow;
-  few = (let f : r.at ≤ e = p.forward in omega (arith, h.few))
+  agrees = advance_blanks text r.at e Rest h.agrees p pass more;
+  laid = h.laid;
+  top_is = h.top_is;
+  depth_is = h.depth_is;
+  shallow = h.shallow;
+  few = (let f : r.at ≤ e = p.forward in omega (arith, h.few));
 }
 
 pub here : (text : List ℕ) (at e : ℕ) → PassesBlanks text at e → e ≢ length text → IsHere text e any
@@ -123,7 +133,7 @@ value_on text r e (fs, h) p n =
 pub value_over : (text : List ℕ) (r : Reader) (e : ℕ) → ReadsValue text r → PassesBlanks text r.at e → e ≡ length text → IsBad text e
 value_over text r e (fs, h) p n =
     let h' : Holds text (record r { at = e }) any fs [] (λ d m. Before d m fs)
-        = hold_blanks text r e fs [] (λ d m. Before d m fs) h p (λ d m ws rest v b x. before_pass d m fs ws rest v b x) (λ d m ws rest v b x. before_more d m fs ws rest v b x) in
+    = hold_blanks text r e fs [] (λ d m. Before d m fs) h p (λ d m ws rest v b x. before_pass d m fs ws rest v b x) (λ d m ws rest v b x. before_more d m fs ws rest v b x) in
     bad_at text e any (λ d m. Before d m fs) h'.agrees
     (end_halts text e any (λ d m. Before d m fs) n (λ m rest v x. tt) tt (before_ends depth_limit e fs) (λ more m v x. stuck.before_end (depth_limit + more) m fs v x))
 
@@ -146,7 +156,7 @@ advance_one text at c limit Rest Next' a lt e n counts into back =
       into = λ m rest v k r. into m rest v (subst (λ (q : List ℕ). Rest (depth_limit + m) (at + 1 + length rest) q v) (one_range text at c rest lt e) r);
       back = λ m rest v k r. subst (λ (q : List ℕ). Rest (depth_limit + m) (at + 1 + length rest) q v) (sym (one_range text at c rest lt e)) (back m rest v r);
       counts = λ rest k. subst (λ (q : List ℕ). Counts limit q) (sym (one_range text at c rest lt e)) (counts rest);
-      letters = λ s h k b can. absurd (one_letter text at c e n s h k b)
+      letters = λ s h k b can. absurd (one_letter text at c e n s h k b);
     })
 
 opening_plain : (b : Bracket) → opening b ≢ 92
@@ -172,17 +182,20 @@ open_turn text r new b kind (Ok next) (fs, limit, h, hr) q k o =
     let f : Frame = frame b r.at [] None in
     let old : r.cells.items ≡ open_cells fs = h.laid ∙ append-nil (open_cells fs) in
     let items : new.cells.items ≡ open_cells (f ∷ fs) ++ [] =
-        o.2 ∙ ap (λ (x : List Cell). x ++ cell kind r.at r.top 0 ∷ []) old ∙ ap (λ (x : Kind). open_cells fs ++ cell x r.at r.top 0 ∷ []) k
-        ∙ ap (λ (x : ℕ). open_cells fs ++ cell (kind_of_bracket b) r.at x 0 ∷ []) h.top_is ∙ sym (append-nil (open_cells (f ∷ fs))) in
+    o.2 ∙ ap (λ (x : List Cell). x ++ cell kind r.at r.top 0 ∷ []) old ∙ ap (λ (x : Kind). open_cells fs ++ cell x r.at r.top 0 ∷ []) k
+    ∙ ap (λ (x : ℕ). open_cells fs ++ cell (kind_of_bracket b) r.at x 0 ∷ []) h.top_is ∙ sym (append-nil (open_cells (f ∷ fs))) in
     let a1 : Agrees text (r.at + 1) any (λ d n. Opened d n f fs) = advance_one text r.at (opening b) limit (λ d n. Before d n fs) (λ d n. Opened d n f fs) h.agrees hr.in_text q (opening_plain b)
-        (here_counts text r.at (opening b) limit hr q)
-        (λ m rest v x. open_into (depth_limit + m) (r.at + 1 + length rest) fs b r.at rest v (omega arith) x)
-        (λ m rest v x. open_back (depth_limit + m) (r.at + 1 + length rest) fs b r.at rest v (omega arith) (omega arith) x) in
+    (here_counts text r.at (opening b) limit hr q)
+    (λ m rest v x. open_into (depth_limit + m) (r.at + 1 + length rest) fs b r.at rest v (omega arith) x)
+    (λ m rest v x. open_back (depth_limit + m) (r.at + 1 + length rest) fs b r.at rest v (omega arith) (omega arith) x) in
     let n1 : length new.cells.items ≡ length r.cells.items + 1 = ap length o.2 ∙ length-append r.cells.items (cell kind r.at r.top 0 ∷ []) in
     let hold : Holds text new any (f ∷ fs) [] (λ d n. Opened d n f fs) = record {
       agrees = subst (λ (m : ℕ). Agrees text m any (λ d n. Opened d n f fs)) (sym o.3) a1;
-      laid = items; top_is = o.4 ∙ ap length old; depth_is = omega (arith, o.5, h.depth_is); shallow = omega arith;
-      few = omega (arith, n1, h.few, o.3)
+      laid = items;
+      top_is = o.4 ∙ ap length old;
+      depth_is = omega (arith, o.5, h.depth_is);
+      shallow = omega arith;
+      few = omega (arith, n1, h.few, o.3);
     } in
     subst (λ (x : Next). Reads text new x) (sym o.0) (b, r.at, fs, hold)
 open_turn text r new b kind (Err e) (fs, limit, h, hr) q k (inr o) = subst (IsRefused text) (sym o) tt
@@ -196,15 +209,15 @@ open_turn text r new b kind (Err e) (fs, limit, h, hr) q k (inl o) =
     let j : Ends 65 (suc at) (λ d n. Opened d n f fs) = opened_ends 65 (suc at) f fs in
     let len : suc at + length j.rest ≡ at + length (opening b ∷ j.rest) = omega arith in
     let opened : Before 65 (at + length (opening b ∷ j.rest)) fs (opening b ∷ j.rest) j.value = open_back 65 (at + length (opening b ∷ j.rest)) fs b at j.rest j.value refl (omega arith)
-        (subst (λ (n : ℕ). Opened 65 n f fs j.rest j.value) len j.ends) in
+    (subst (λ (n : ℕ). Opened 65 n f fs j.rest j.value) len j.ends) in
     let seam : (rest : List ℕ) → take (suc at) text ++ rest ≡ take at text ++ (opening b ∷ rest) = λ rest. up_to_with text rest at (suc at) (omega arith) (omega arith)
-        ∙ ap (λ (x : List ℕ). take at text ++ (x ++ rest)) (range_one text at in') ∙ ap (λ (x : ℕ). take at text ++ (x ∷ rest)) q in
+    ∙ ap (λ (x : List ℕ). take at text ++ (x ++ rest)) (range_one text at in') ∙ ap (λ (x : ℕ). take at text ++ (x ∷ rest)) q in
     let t : IsTooDeep text at = record {
       in_text = in';
       bracket = elim (bracket_of b) [ inl x ↦ inl (q ∙ x) | inr x ↦ inr (q ∙ x) ];
       before = (i.rest, i.value, h.agrees.back 0 i.rest i.value (wide_before limit depth_limit _ fs i.rest i.value w i.ends) i.ends);
       too_deep = λ can. open_too_deep depth_limit _ fs b can.0 can.1 (omega arith) (h.agrees.into 0 (opening b ∷ can.0) can.1 (here_counts text at (opening b) limit hr q can.0) (subst (λ (x : List ℕ). SpelledWithin depth_limit x can.1) (seam can.0) can.2));
-      deeper = (j.rest, j.value, subst (λ (x : List ℕ). SpelledWithin 65 x j.value) (sym (seam j.rest)) (h.agrees.back 1 (opening b ∷ j.rest) j.value (here_counts text at (opening b) limit hr q j.rest) opened))
+      deeper = (j.rest, j.value, subst (λ (x : List ℕ). SpelledWithin 65 x j.value) (sym (seam j.rest)) (h.agrees.back 1 (opening b ∷ j.rest) j.value (here_counts text at (opening b) limit hr q j.rest) opened));
     } in
     subst (IsRefused text) (sym o.1) t
 

@@ -55,14 +55,20 @@ tidy_high : Tidy (two_digits low_half)
 tidy_high = ((48 ∷ 48 ∷ 92 ∷ 117 ∷ 68 ∷ 67 ∷ 48 ∷ 48 ∷ [], refl), refl, λ b. either (is_hex b) (one is_hex low_half) refused tidy_high1 tt)
 
 tidy_surrogate : Tidy surrogate
-tidy_surrogate =
-    ((48 ∷ 48 ∷ 48 ∷ [], refl), refl, λ b. either (within 48 55 b) (two_digits whole) (cond (is_high_digit b) (two_digits low_half) refused) tidy_two
-    (either (is_high_digit b) (two_digits low_half) refused tidy_high tt))
+tidy_surrogate = (
+  (48 ∷ 48 ∷ 48 ∷ [], refl),
+  refl,
+  λ b. either (within 48 55 b) (two_digits whole) (cond (is_high_digit b) (two_digits low_half) refused) tidy_two
+      (either (is_high_digit b) (two_digits low_half) refused tidy_high tt),
+)
 
 tidy_digits : Tidy digits
-tidy_digits =
-    ((48 ∷ 48 ∷ 48 ∷ 48 ∷ [], refl), refl, λ b. either (is_d b) surrogate (cond (is_hex b) (one is_hex (two_digits whole)) refused) tidy_surrogate
-    (either (is_hex b) (one is_hex (two_digits whole)) refused tidy_three tt))
+tidy_digits = (
+  (48 ∷ 48 ∷ 48 ∷ 48 ∷ [], refl),
+  refl,
+  λ b. either (is_d b) surrogate (cond (is_hex b) (one is_hex (two_digits whole)) refused) tidy_surrogate
+      (either (is_hex b) (one is_hex (two_digits whole)) refused tidy_three tt),
+)
 
 tidy_escape : Tidy escape
 tidy_escape = ((110 ∷ [], refl), refl, λ b. either (is_short b) whole (cond (b == 117) digits refused) tt (either (b == 117) digits refused tidy_digits tt))

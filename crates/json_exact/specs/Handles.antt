@@ -69,6 +69,11 @@ abbrev pub first_inside : List Cell → List Cell
 first_inside [] = []
 first_inside (c ∷ cells) = take c.inside cells
 
--- the value that the first cell and those within it stand for
-abbrev pub cell_value : List ℕ → Cell → List Cell → Value'
-cell_value text c inside = first_value text (c ∷ inside)
+-- the first cell with those within it, and the cells behind them
+abbrev pub own_cells : List Cell → List Cell
+own_cells [] = []
+own_cells (c ∷ cells) = c ∷ take c.inside cells
+
+abbrev pub other_cells : List Cell → List Cell
+other_cells [] = []
+other_cells (c ∷ cells) = drop c.inside cells

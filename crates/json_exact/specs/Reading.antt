@@ -157,20 +157,20 @@ abbrev pub ReadsName : List ℕ → Reader → Type 0
 ReadsName text r =
     (from : ℕ) × (done : List (Option Name × Json)) × (fs : List Frame)
     × Holds text r any (record { kind = curly; from = from; done = done; name = None } ∷ fs) []
-        (λ levels n. BeforeName levels n (record { kind = curly; from = from; done = done; name = None }) fs)
+    (λ levels n. BeforeName levels n (record { kind = curly; from = from; done = done; name = None }) fs)
 
 abbrev pub ReadsNameHere : List ℕ → Reader → Type 0
 ReadsNameHere text r =
     (from : ℕ) × (done : List (Option Name × Json)) × (fs : List Frame) × (limit : Limit)
     × Holds text r limit (record { kind = curly; from = from; done = done; name = None } ∷ fs) []
-        (λ levels n. BeforeName levels n (record { kind = curly; from = from; done = done; name = None }) fs)
+    (λ levels n. BeforeName levels n (record { kind = curly; from = from; done = done; name = None }) fs)
     × IsHere text r.at limit
 
 abbrev pub ReadsFirst : List ℕ → Reader → Type 0
 ReadsFirst text r =
     (kind : Bracket) × (from : ℕ) × (fs : List Frame)
     × Holds text r any (record { kind = kind; from = from; done = []; name = None } ∷ fs) []
-        (λ levels n. Opened levels n (record { kind = kind; from = from; done = []; name = None }) fs)
+    (λ levels n. Opened levels n (record { kind = kind; from = from; done = []; name = None }) fs)
 
 -- behind a number no byte of a number stands
 abbrev pub IsClear : Limit → List ℕ → ℕ → Type 0

@@ -1,15 +1,15 @@
 // A text that was read, and handles on its values.
-ghost use Rattle.std.specs.Prelude.{◌≡◌, ◌≢◌, ◌⊎◌, ◌+◌, ◌-◌, ◌≤◌, ◌++◌, length, take, true, false, None, Some, IfOk, IfErr, MatchOption, MatchResult, option_map, slice_range};
+ghost use Rattle.std.specs.Prelude.{◌≡◌, ◌≢◌, ◌⊎◌, ◌+◌, ◌-◌, ◌≤◌, ◌++◌, length, drop, true, false, None, Some, IfOk, IfErr, OnErr, MatchOption, MatchResult, slice_range};
+ghost use Rattle.std.specs.Option.{option_map};
 ghost use Rattle.json_exact.specs.Json.{Json as JsonValue, begins_at, ends_at, items, member, number_of, text_of, is_null, is_list, is_object};
 ghost use Rattle.json_exact.specs.JsonText.{SpelledWithin};
 ghost use Rattle.json_exact.specs.Refusals.{IsRefused, depth_limit};
 ghost use Rattle.json_exact.specs.Bytes.{same_bytes};
-ghost use Rattle.json_exact.specs.Handles.{json_of, value_of, items_left, first_kind, first_inside, characters_of, cell_value};
+ghost use Rattle.json_exact.specs.Handles.{json_of, value_of, items_left, first_kind, first_inside, own_cells, other_cells};
 
 use crate::cells::{Cell, Kind};
-use crate::decode;
 use crate::error::JsonError;
-use crate::reader;
+use crate::{decode, reader};
 use std::alloc::{AllocError, Global};
 
 /// A text that was read.
@@ -173,5 +173,100 @@ impl<'j, 't> Value<'j, 't> {
                 text: self.text,
             }
         }
+    }
+
+    /// The first member of an object that has this name. None where there is none, and in any other value.
+    pub fn get(self, name: &[u8]) -> Option<Value<'j, 't>>
+        ensures { option_map json_of result ≡ member (λ text. same_bytes text name.now) (json_of self.entry) }
+    {
+        if self.kind() != Kind::Object {
+            return None;
+        }
+        let mut rest = self.inside();
+        'members: while rest.len() >= 2 {
+            let values = behind_first(rest);
+            if decode::spells(characters(self.text, rest[0]), name) {
+                return Some(Value {
+                    cells: own(values),
+                    text: self.text,
+                });
+            }
+            rest = others(values);
+        }
+        None
+    }
+
+    /// Appends the characters of a string, in UTF-8, and answers true. For any other value it answers
+    /// false. After false, and where memory runs out, nothing was appended.
+    pub fn text(self, out: &mut Vec<u8>) -> Result<bool, AllocError>
+        ensures ok { IfOk result (λ said. MatchOption (text_of (json_of self.entry))
+            ((said ≡ false) × (out.new.items ≡ out.old.items)) (λ text. (said ≡ true) × (out.new.items ≡ out.old.items ++ text))) }
+        ensures err { OnErr result (out.new.items ≡ out.old.items) }
+    {
+        if self.kind() != Kind::String {
+            return Ok(false);
+        }
+        let cell = self.cells[0];
+        let before = out.len();
+        match decode::append(characters(self.text, cell), out) {
+            Ok(()) => Ok(true),
+            Err(refused) => {
+                out.truncate(before);
+                Err(refused)
+            }
+        }
+    }
+}
+
+/// The cells behind the first.
+fn behind_first(cells: &[Cell]) -> &[Cell]
+    requires { 1 ≤ length cells.now }
+    ensures { result.now ≡ drop 1 cells.now }
+{
+    &cells[1..]
+}
+
+/// The first cell and those within it.
+fn own(cells: &[Cell]) -> &[Cell]
+    ensures { result.now ≡ own_cells cells.now }
+{
+    if cells.is_empty() {
+        return cells;
+    }
+    let n = (cells[0].inside as usize).min(cells.len() - 1);
+    &cells[..1 + n]
+}
+
+/// The cells behind them.
+fn others(cells: &[Cell]) -> &[Cell]
+    ensures { result.now ≡ other_cells cells.now }
+{
+    if cells.is_empty() {
+        return cells;
+    }
+    let n = (cells[0].inside as usize).min(cells.len() - 1);
+    &cells[1 + n..]
+}
+
+impl<'j, 't> Iterator for Items<'j, 't> {
+    type Item = Value<'j, 't>;
+
+    ghost use Rattle.std.specs.Iterator.{YieldsFirstBy, item_count};
+    ghost use Rattle.json_exact.specs.Handles.{json_of, items_left};
+
+    ghost next_gives = { YieldsFirstBy json_of items_left };
+
+    ghost remaining = { item_count items_left };
+
+    fn next(&mut self) -> Option<Value<'j, 't>> {
+        if self.cells.is_empty() {
+            return None;
+        }
+        let value = Value {
+            cells: own(self.cells),
+            text: self.text,
+        };
+        self.cells = others(self.cells);
+        Some(value)
     }
 }

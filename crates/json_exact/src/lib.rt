@@ -4,20 +4,14 @@
 
 mod cells;
 mod decode;
-
 mod error;
+mod handles;
 mod reader;
 mod scan;
 mod strings;
-mod handles;
 
 pub use error::JsonError;
+pub use handles::{Items, Json, Span, Value, parse};
 
-pub use handles::Items;
-pub use handles::Json;
-pub use handles::Span;
-pub use handles::Value;
-pub use handles::parse;
-
-
-
+#[cfg(test)]
+mod tests;

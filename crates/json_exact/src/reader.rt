@@ -6,8 +6,7 @@ ghost use Rattle.json_exact.specs.Reading.{EndsLeaf, StopsLeaf, ReadsValue, Read
 
 use crate::cells::{Cell, Kind};
 use crate::error::JsonError;
-use crate::scan;
-use crate::strings;
+use crate::{scan, strings};
 use std::alloc::Global;
 
 /// How deep brackets may nest.
@@ -148,9 +147,7 @@ impl Reader {
         ensures { Opens self.old kind self.new result }
     {
         if self.depth == DEPTH_LIMIT {
-            return Err(JsonError::TooDeep {
-                at: self.at as u32,
-            });
+            return Err(JsonError::TooDeep { at: self.at as u32 });
         }
         let cell = self.cells.len();
         self.cells.push(Cell {

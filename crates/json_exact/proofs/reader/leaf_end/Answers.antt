@@ -12,7 +12,7 @@ pub returns-then-is_digit-clause-leaf : goal.returns-then-is_digit-clause-leaf
 returns-then-is_digit-clause-leaf c =
     let b = get_or c.args.text.now c.args.at 0 in
     let first : (b ≡ 45) ⊎ (is_digit b ≡ true) = elim c.if-b-eq45.branch
-        [ then-b-eq45 w ↦ inl w.if-b-eq45.true | else-b-eq45 w ↦ inr (sym w.is_digit.ensures ∙ sym w.value-is ∙ c.if-is_digit.true) ] in
+    [ then-b-eq45 w ↦ inl w.if-b-eq45.true | else-b-eq45 w ↦ inr (sym w.is_digit.ensures ∙ sym w.value-is ∙ c.if-is_digit.true) ] in
     leaf_number c.args.text.now c.args.at c.number_end.result c.with_kind-then-is_digit.result c.with_kind-then-is_digit.ensures first c.number_end.ensures
 
 pub returns-then-b-eq110-clause-leaf : goal.returns-then-b-eq110-clause-leaf

@@ -22,9 +22,10 @@ returns-then-b c =
 pub returns-then-within-3 : goal.returns-then-within-3
 returns-then-within-3 c =
     let b = get_or c.args.text.now c.args.at 0 in
-    let both : within 225 236 b || within 238 239 b ≡ true = elim c.if-within-2.branch
-        [ then-within-2 w ↦ or_left (within 225 236 b) (within 238 239 b) (sym c.within-else-b.ensures ∙ w.if-within-2.true)
-        | else-within-2 w ↦ or_right (within 225 236 b) (within 238 239 b) (sym w.within-else-within-2.ensures ∙ sym w.value-is ∙ c.if-within-3.true) ] in
+    let both : within 225 236 b || within 238 239 b ≡ true = elim c.if-within-2.branch [
+      | then-within-2 w ↦ or_left (within 225 236 b) (within 238 239 b) (sym c.within-else-b.ensures ∙ w.if-within-2.true)
+      | else-within-2 w ↦ or_right (within 225 236 b) (within 238 239 b) (sym w.within-else-within-2.ensures ∙ sym w.value-is ∙ c.if-within-3.true)
+    ] in
     character_on (tail (tail whole)) c.args.text.now c.args.at c.row_end-then-within-3.result c.requires.here
     (off (is_plain b) _ _ _ c.requires.not_plain (off (eqb b 92) _ _ _ (ne_eqb b 92 c.if-b-eq92.false) (off (within 194 223 b) _ _ _ (sym c.within.ensures ∙ c.if-within.false)
     (off (eqb b 224) _ _ _ (ne_eqb b 224 c.if-b.false) (on (within 225 236 b || within 238 239 b) (tail (tail whole)) _ _ both refl))))) c.row_end-then-within-3.ensures

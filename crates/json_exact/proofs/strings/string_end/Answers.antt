@@ -13,11 +13,17 @@ characters-preserved c =
     (omega (arith, p.forward), p.in_text, characters_on c.args.text.now c.args.at c.characters.i c.in-Ok.end c.characters.invariant.0 c.characters.invariant.2 p)
 
 pub returns-then-is_half-clause-string : goal.returns-then-is_half-clause-string
-returns-then-is_half-clause-string c =
-    (c.characters.i, _, string_stops_at c.args.text.now c.args.at c.characters.i _ c.characters.invariant.0 c.characters-test.true c.characters.invariant.2 c.if-b-eq34.false c.in-Err.ensures,
-    inl (c.is_half.ensures.0 c.if-is_half.true, refl))
+returns-then-is_half-clause-string c = (
+  c.characters.i,
+  _,
+  string_stops_at c.args.text.now c.args.at c.characters.i _ c.characters.invariant.0 c.characters-test.true c.characters.invariant.2 c.if-b-eq34.false c.in-Err.ensures,
+  inl (c.is_half.ensures.0 c.if-is_half.true, refl),
+)
 
 pub returns-else-is_half-clause-string : goal.returns-else-is_half-clause-string
-returns-else-is_half-clause-string c =
-    (c.characters.i, _, string_stops_at c.args.text.now c.args.at c.characters.i _ c.characters.invariant.0 c.characters-test.true c.characters.invariant.2 c.if-b-eq34.false c.in-Err.ensures,
-    inr (λ h. both_ways _ c.if-is_half.false (c.is_half.ensures.1 h), refl))
+returns-else-is_half-clause-string c = (
+  c.characters.i,
+  _,
+  string_stops_at c.args.text.now c.args.at c.characters.i _ c.characters.invariant.0 c.characters-test.true c.characters.invariant.2 c.if-b-eq34.false c.in-Err.ensures,
+  inr (λ h. both_ways _ c.if-is_half.false (c.is_half.ensures.1 h), refl),
+)
