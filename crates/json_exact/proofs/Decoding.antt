@@ -70,16 +70,16 @@ after_front : (text q s t : List ℕ) → Suffix text s → s ≡ q ++ t → Suf
 unfolding Suffix
 after_front text q s t (p, e) f = (p ++ q, e ∙ ap (λ (x : List ℕ). p ++ x) f ∙ sym (append_assoc p q t))
 
-after_blanks : (text s t : List ℕ) → Suffix text s → Blanks s t → Suffix text t
+pub after_blanks : (text s t : List ℕ) → Suffix text s → Blanks s t → Suffix text t
 after_blanks text s t h b = after_front text b.0 s t h b.2
 
-after_byte : (text s t : List ℕ) (c : ℕ) → Suffix text s → s ≡ c ∷ t → Suffix text t
+pub after_byte : (text s t : List ℕ) (c : ℕ) → Suffix text s → s ≡ c ∷ t → Suffix text t
 after_byte text s t c h e = after_front text (c ∷ []) s t h e
 
-after_leaf : (text : List ℕ) (n : ℕ) (l : Leaf) (from to : ℕ) (s t : List ℕ) → Suffix text s → SpellsLeaf n l from to s t → Suffix text t
+pub after_leaf : (text : List ℕ) (n : ℕ) (l : Leaf) (from to : ℕ) (s t : List ℕ) → Suffix text s → SpellsLeaf n l from to s t → Suffix text t
 after_leaf text n l from to s t h sp = after_front text sp.0 s t h sp.2
 
-after_part : (text : List ℕ) (n : ℕ) (b : Bracket) (name : Option Name) (spells : List ℕ → List ℕ → Type 0) → ((s t : List ℕ) → spells s t → Suffix text s → Suffix text t)
+pub after_part : (text : List ℕ) (n : ℕ) (b : Bracket) (name : Option Name) (spells : List ℕ → List ℕ → Type 0) → ((s t : List ℕ) → spells s t → Suffix text s → Suffix text t)
     → (s t : List ℕ) → Suffix text s → SpellsPart n b name spells s t → Suffix text t
 after_part text n square None spells f s t h p = f p.0 t p.2 (after_blanks text s p.0 h p.1)
 after_part text n square (Some name) spells f s t h p = absurd p
@@ -90,7 +90,7 @@ after_part text n curly (Some name) spells f s t h p =
     f p.4.2.0 t p.4.2.2 (after_blanks text p.4.0 p.4.2.0 c p.4.2.1)
 
 mutual
-  after_value : (text : List ℕ) (n d : ℕ) (v : Json) (s t : List ℕ) → Spells n d v s t → Suffix text s → Suffix text t
+  pub after_value : (text : List ℕ) (n d : ℕ) (v : Json) (s t : List ℕ) → Spells n d v s t → Suffix text s → Suffix text t
   after_value text n d (leaf l from to) s t sp h = after_leaf text n l from to s t h sp
   after_value text n d (nest b from to ps) s t sp h = after_first text n sp.0 b ps to sp.3.0 t sp.3.2 (after_byte text s sp.3.0 (opening b) h sp.3.1)
 
@@ -113,7 +113,7 @@ slice_at p bytes t from to e f =
     let n : to - from ≡ length bytes = omega arith in
     ap (λ (q : List ℕ). take (to - from) q) d ∙ take_at bytes t (to - from) (sym n)
 
-leaf_slice : (text : List ℕ) (l : Leaf) (from to : ℕ) (s t : List ℕ) → Suffix text s → (sp : SpellsLeaf (length text) l from to s t) → slice_range text from to ≡ sp.0
+pub leaf_slice : (text : List ℕ) (l : Leaf) (from to : ℕ) (s t : List ℕ) → Suffix text s → (sp : SpellsLeaf (length text) l from to s t) → slice_range text from to ≡ sp.0
 unfolding Suffix
 leaf_slice text l from to s t (p, e) sp =
     let all : text ≡ p ++ (sp.0 ++ t) = e ∙ ap (λ (x : List ℕ). p ++ x) sp.2 in
@@ -248,7 +248,7 @@ mutual
       let r : Suffix text sp.1 = after_part text (length text) b name (Spells (length text) d v) (λ x y q i. after_value text (length text) d v x y q i) sp.0 sp.1 i sp.3 in
       part_step k d text b name v ps sp.0 sp.1 i sp.3 le (λ x y j q m l. value_back text d v x y j q m l) (λ m l. more_back text d b ps to sp.1 t r sp.4 m l)
 
-whole_suffix : (text s : List ℕ) → Blanks text s → Suffix text s
+pub whole_suffix : (text s : List ℕ) → Blanks text s → Suffix text s
 unfolding Suffix
 whole_suffix text s b = (b.0, b.2)
 

@@ -18,3 +18,4 @@ pub mod Unique
 pub mod Decoding
 pub mod Fronts
 pub mod Whole
+pub mod Placed

@@ -1,5 +1,5 @@
 -- What parsing answers, of the cells that were read.
-use Rattle.std.proofs.Common.{◌≡◌, ◌≢◌, ℕ, List, refl, sym, ◌∙◌, ap, subst, ◌⊎◌}
+use Rattle.std.proofs.Common.{◌≡◌, ◌≢◌, ℕ, List, length, refl, sym, ◌∙◌, ap, subst, ◌⊎◌}
 use Rattle.json_exact.specs.Json.{Json}
 use Rattle.json_exact.specs.JsonText.{SpelledWithin}
 use Rattle.json_exact.specs.Refusals.{depth_limit, IsRefused}
@@ -9,6 +9,8 @@ use Rattle.json_exact.specs.declared.cells.Cell.{Cell}
 use Rattle.json_exact.specs.declared.error.JsonError.{JsonError}
 use Rattle.json_exact.specs.declared.error.JsonError.TheVariants.{OutOfMemory}
 use Rattle.json_exact.proofs.Decoding.{decoded_value}
+use Rattle.json_exact.specs.Spans.{IsPlaced}
+use Rattle.json_exact.proofs.Placed.{spelled_placed}
 use Rattle.json_exact.proofs.Unique.{only_memory, one_refusal}
 
 value_read : (text : List ℕ) (cells : List Cell) (r : IsRead text cells) → first_value text cells ≡ r.0
@@ -22,3 +24,6 @@ read_only text cells r v sp = value_read text cells r ∙ sym (r.3 v sp)
 
 pub read_not_refused : (text : List ℕ) (cells : List Cell) → IsRead text cells → (e : JsonError) → IsRefused text e → e ≢ OutOfMemory → ⊥
 read_not_refused text cells r e h n = n (only_memory text r.0 e r.2 h)
+
+pub read_placed : (text : List ℕ) (cells : List Cell) → IsRead text cells → IsPlaced text 0 (first_value text cells) (length text)
+read_placed text cells r = spelled_placed text depth_limit (first_value text cells) (read_spelled text cells r)

@@ -3,6 +3,7 @@ pub mod Characters
 pub mod Numbers
 pub mod JsonText
 pub mod Refusals
+pub mod Spans
 pub mod Bytes
 pub mod Handles
 pub mod Scans

@@ -4,6 +4,7 @@ ghost use Rattle.std.specs.Option.{option_map};
 ghost use Rattle.json_exact.specs.Json.{Json as JsonValue, begins_at, ends_at, items, member, number_of, text_of, is_null, is_list, is_object};
 ghost use Rattle.json_exact.specs.JsonText.{SpelledWithin};
 ghost use Rattle.json_exact.specs.Refusals.{IsRefused, depth_limit};
+ghost use Rattle.json_exact.specs.Spans.{IsPlaced};
 ghost use Rattle.json_exact.specs.Bytes.{same_bytes};
 ghost use Rattle.json_exact.specs.Handles.{json_of, value_of, items_left, first_kind, first_inside, own_cells, other_cells};
 
@@ -47,6 +48,8 @@ pub fn parse<'t>(alloc: Global, text: &'t [u8]) -> Result<Json<'t>, JsonError>
     ensures value { IfOk result (λ j. SpelledWithin depth_limit text.now (value_of j)) }
     // what the text spells is read, and there is no other value,
     ensures only { (v : JsonValue) → SpelledWithin depth_limit text.now v → MatchResult result (λ j. value_of j ≡ v) (λ e. e ≡ JsonError.OutOfMemory) }
+    // spans are in order and inside those around them, and a number is the slice of its span,
+    ensures spans { IfOk result (λ j. IsPlaced text.now 0 (value_of j) (length text.now)) }
     // a refusal is that of the text,
     ensures refusal { IfErr result (λ e. IsRefused text.now e) }
     // and a text that is to be refused so is refused so.

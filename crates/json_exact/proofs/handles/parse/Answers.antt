@@ -1,4 +1,4 @@
-use Rattle.json_exact.proofs.Whole.{read_spelled, read_only, read_not_refused}
+use Rattle.json_exact.proofs.Whole.{read_spelled, read_only, read_not_refused, read_placed}
 use Rattle.json_exact.proofs.Unique.{only_memory, one_refusal}
 use Rattle.json_exact.proofs.handles.parse.Goals as goal
 
@@ -16,3 +16,6 @@ returns-in-Err-clause-only c = λ v sp. only_memory c.args.text.now v c.in-Err.r
 
 pub returns-in-Err-clause-refused : goal.returns-in-Err-clause-refused
 returns-in-Err-clause-refused c = λ e h n. one_refusal c.args.text.now e c.in-Err.refused h c.in-Err.ensures n
+
+pub returns-in-Ok-clause-spans : goal.returns-in-Ok-clause-spans
+returns-in-Ok-clause-spans c = read_placed c.args.text.now c.in-Ok.cells.items c.in-Ok.ensures
