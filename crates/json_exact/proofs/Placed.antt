@@ -77,9 +77,10 @@ part_placed text d curly (Some name) v low high s t h p k m f =
     let c : Suffix text p.4.0 = after_byte text (58 ∷ p.4.0) p.4.0 58 (after_blanks text p.1 (58 ∷ p.4.0) a p.4.1) refl in
     let lf : length p.1 < length p.0 = leaf_shorter (length text) (string name.text) name.from name.to p.0 p.1 p.3 in
     let begins : name.from + length p.0 ≡ length text = p.3.3 in
-    let ends : name.to + length p.1 ≡ length text = p.3.4 in
-    ((omega (arith, blanks_shorter s p.0 p.2), omega arith),
-    f p.4.2.0 name.to (after_blanks text p.4.0 p.4.2.0 c p.4.2.1) p.4.2.2 (omega (arith, blanks_shorter p.1 (58 ∷ p.4.0) p.4.1, blanks_shorter p.4.0 p.4.2.0 p.4.2.1)))
+    let ends : name.to + length p.1 ≡ length text = p.3.4 in (
+      (omega (arith, blanks_shorter s p.0 p.2), omega arith),
+      f p.4.2.0 name.to (after_blanks text p.4.0 p.4.2.0 c p.4.2.1) p.4.2.2 (omega (arith, blanks_shorter p.1 (58 ∷ p.4.0) p.4.1, blanks_shorter p.4.0 p.4.2.0 p.4.2.1)),
+    )
 
 mutual
   value_placed : (text : List ℕ) (d : ℕ) (v : Json) (low high : ℕ) (s t : List ℕ) → Suffix text s → Spells (length text) d v s t → low + length s ≤ length text → length text ≤ high + length t → IsPlaced text low v high

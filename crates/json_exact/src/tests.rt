@@ -1,5 +1,6 @@
 use crate::{JsonError, Value, parse};
 use std::alloc::Global;
+use std::process::Abort;
 use std::test::Fail;
 
 /// What parsing answers: nothing wrong, or the number and the place of the refusal.
@@ -15,147 +16,178 @@ fn answer(alloc: Global, text: &[u8]) -> (u8, u32) {
     }
 }
 
-/// Texts, and the place at which no JSON text goes on so.
-const BAD: [(&[u8], u32); 99] = [
-    (b"", 0),
-    (b" \t\r\n", 4),
-    (b"\xef\xbb\xbf1", 0),
-    (b"\x0c1", 0),
-    (b"1 2", 2),
-    (b"1,", 1),
-    (b"nul", 3),
-    (b"nulL", 3),
-    (b"nullx", 4),
-    (b"True", 0),
-    (b"truE", 3),
-    (b"fals", 4),
-    (b"NaN", 0),
-    (b"-", 1),
-    (b"-x", 1),
-    (b"--1", 1),
-    (b"+1", 0),
-    (b"01", 1),
-    (b"-01", 2),
-    (b"1.", 2),
-    (b"1.e1", 2),
-    (b".5", 0),
-    (b"1.5.", 3),
-    (b"1.5-", 3),
-    (b"1e", 2),
-    (b"1e+", 3),
-    (b"1e+-1", 3),
-    (b"1e5.", 3),
-    (b"1e5e", 3),
-    (b"1-", 1),
-    (b"0x1", 1),
-    (b"12x", 2),
-    (b"[1", 2),
-    (b"[1 ", 3),
-    (b"[", 1),
-    (b"[,1]", 1),
-    (b"[1,]", 3),
-    (b"[1,,2]", 3),
-    (b"[1 2]", 3),
-    (b"[1}", 2),
-    (b"]", 0),
-    (b"[1]]", 3),
-    (b"[-]", 2),
-    (b"{", 1),
-    (b"{\"a\":", 5),
-    (b"{\"a\"}", 4),
-    (b"{\"a\" 1}", 5),
-    (b"{\"a\":1,}", 7),
-    (b"{\"a\":1 \"b\":2}", 7),
-    (b"{a:1}", 1),
-    (b"{1:1}", 1),
-    (b"{,}", 1),
-    (b"{\"a\":1]", 6),
-    (b"{\"a\"::1}", 5),
-    (b"{]", 1),
-    (b"\"", 1),
-    (b"\"a", 2),
-    (b"\"a\nb\"", 2),
-    (b"\"\x00\"", 1),
-    (b"\"\x1f\"", 1),
-    (b"'a'", 0),
-    (b"\"\\", 2),
-    (b"\"\\q\"", 2),
-    (b"\"\\'\"", 2),
-    (b"\"\\U0041\"", 2),
-    (b"\"\\u", 3),
-    (b"\"\\u00g0\"", 5),
-    (b"\"\\u12", 5),
-    (b"\"\\uD8g0\"", 5),
-    (b"\"\\uDg00\"", 4),
-    (b"\"\\uD800\"", 1),
-    (b"\"\\uD800", 7),
-    (b"\"a\\uD800x\"", 2),
-    (b"\"\\uD800\\n\"", 1),
-    (b"\"\\uD800\\u0041\"", 1),
-    (b"\"\\uD800\\uD800\"", 1),
-    (b"\"\\uD800\\uDC0g\"", 1),
-    (b"\"\\uD800\\uDC", 11),
-    (b"\"\\uDC00\"", 1),
-    (b"\"\\udfff\"", 1),
-    (b"\"\\\\\\uDC00\"", 3),
-    (b"\"\\uD800\\uDC00\\uDC00\"", 13),
-    (b"{\"\\uD800\":1}", 2),
-    (b"\"\x80\"", 1),
-    (b"\"\xc0\x80\"", 1),
-    (b"\"\xc1\xbf\"", 1),
-    (b"\"\xc3\"", 2),
-    (b"\"\xc3", 2),
-    (b"\"\xe0\x9f\xbf\"", 2),
-    (b"\"\xe2\x82\"", 3),
-    (b"\"\xed\xa0\x80\"", 2),
-    (b"\"\xf0\x8f\xbf\xbf\"", 2),
-    (b"\"\xf0\x9f\x98\"", 4),
-    (b"\"\xf4\x90\x80\x80\"", 2),
-    (b"\"\xf5\x80\x80\x80\"", 1),
-    (b"\"\xff\"", 1),
-    (b"\"a\"x", 3),
-    (b"[\"a\\uD800\", 1", 3),
-    (b"\xc3\xa9", 0),
-];
+/// Each text is refused as Bad at its place.
+fn refuses(rt: &impl Abort, alloc: Global, cases: &[(&[u8], u32)]) {
+    for (text, at) in cases {
+        assert_eq!(rt; answer(alloc, text), (1, *at));
+    }
+}
 
-const GOOD: [&[u8]; 26] = [
-    b"null",
-    b" true ",
-    b"\tfalse\r\n",
-    b"0",
-    b"-0",
-    b"-0.0e-0",
-    b"10",
-    b"1.25",
-    b"1E+05",
-    b"1e5",
-    b"123456789012345678901234567890",
-    b"[]",
-    b"[ ]",
-    b"[1]",
-    b"[ 1 , 2 ]",
-    b"{}",
-    b"{ }",
-    b"{\"a\":1}",
-    b"{ \"a\" : [ ] , \"a\" : { \"\" : null } }",
-    b"\"\"",
-    b"\"\\\"\\\\\\/\\b\\f\\n\\r\\t\"",
-    b"\"\\u0041\\ud83d\\uDe00\\uD7ff\\uE000\"",
-    b"\"\x7f\xc2\x80\xdf\xbf\xe0\xa0\x80\xed\x9f\xbf\xee\x80\x80\xef\xbf\xbf\"",
-    b"\"\xf0\x90\x80\x80\xf3\xbf\xbf\xbf\xf4\x8f\xbf\xbf\"",
-    b"[\"\\\\\", \"\\\"]\"]",
-    b"[[[1,[2]],{}],-1.5e3]",
-];
+/// Each text has a value.
+fn accepts(rt: &impl Abort, alloc: Global, cases: &[&[u8]]) {
+    for text in cases {
+        assert_eq!(rt; answer(alloc, text), (0, 0));
+    }
+}
 
 #[test]
-fn answers(rt: HostRuntime) -> Result<(), Fail> {
-    for (text, at) in BAD {
-        assert_eq!(rt; answer(rt.alloc(), text), (1, at), "{text:?}");
-    }
-    for text in GOOD {
-        assert_eq!(rt; answer(rt.alloc(), text), (0, 0), "{text:?}");
-    }
-    Ok(())
+fn refused_words_and_numbers(rt: HostRuntime) {
+    let cases: [(&[u8], u32); 32] = [
+        (b"", 0),
+        (b" \t\r\n", 4),
+        (b"\xef\xbb\xbf1", 0),
+        (b"\x0c1", 0),
+        (b"1 2", 2),
+        (b"1,", 1),
+        (b"nul", 3),
+        (b"nulL", 3),
+        (b"nullx", 4),
+        (b"True", 0),
+        (b"truE", 3),
+        (b"fals", 4),
+        (b"NaN", 0),
+        (b"-", 1),
+        (b"-x", 1),
+        (b"--1", 1),
+        (b"+1", 0),
+        (b"01", 1),
+        (b"-01", 2),
+        (b"1.", 2),
+        (b"1.e1", 2),
+        (b".5", 0),
+        (b"1.5.", 3),
+        (b"1.5-", 3),
+        (b"1e", 2),
+        (b"1e+", 3),
+        (b"1e+-1", 3),
+        (b"1e5.", 3),
+        (b"1e5e", 3),
+        (b"1-", 1),
+        (b"0x1", 1),
+        (b"12x", 2),
+    ];
+    refuses(&rt, rt.alloc(), &cases);
+}
+
+#[test]
+fn refused_brackets(rt: HostRuntime) {
+    let cases: [(&[u8], u32); 23] = [
+        (b"[1", 2),
+        (b"[1 ", 3),
+        (b"[", 1),
+        (b"[,1]", 1),
+        (b"[1,]", 3),
+        (b"[1,,2]", 3),
+        (b"[1 2]", 3),
+        (b"[1}", 2),
+        (b"]", 0),
+        (b"[1]]", 3),
+        (b"[-]", 2),
+        (b"{", 1),
+        (b"{\"a\":", 5),
+        (b"{\"a\"}", 4),
+        (b"{\"a\" 1}", 5),
+        (b"{\"a\":1,}", 7),
+        (b"{\"a\":1 \"b\":2}", 7),
+        (b"{a:1}", 1),
+        (b"{1:1}", 1),
+        (b"{,}", 1),
+        (b"{\"a\":1]", 6),
+        (b"{\"a\"::1}", 5),
+        (b"{]", 1),
+    ];
+    refuses(&rt, rt.alloc(), &cases);
+}
+
+#[test]
+fn refused_escapes(rt: HostRuntime) {
+    let cases: [(&[u8], u32); 28] = [
+        (b"\"", 1),
+        (b"\"a", 2),
+        (b"\"a\nb\"", 2),
+        (b"\"\x00\"", 1),
+        (b"\"\x1f\"", 1),
+        (b"'a'", 0),
+        (b"\"\\", 2),
+        (b"\"\\q\"", 2),
+        (b"\"\\'\"", 2),
+        (b"\"\\U0041\"", 2),
+        (b"\"\\u", 3),
+        (b"\"\\u00g0\"", 5),
+        (b"\"\\u12", 5),
+        (b"\"\\uD8g0\"", 5),
+        (b"\"\\uDg00\"", 4),
+        (b"\"\\uD800\"", 1),
+        (b"\"\\uD800", 7),
+        (b"\"a\\uD800x\"", 2),
+        (b"\"\\uD800\\n\"", 1),
+        (b"\"\\uD800\\u0041\"", 1),
+        (b"\"\\uD800\\uD800\"", 1),
+        (b"\"\\uD800\\uDC0g\"", 1),
+        (b"\"\\uD800\\uDC", 11),
+        (b"\"\\uDC00\"", 1),
+        (b"\"\\udfff\"", 1),
+        (b"\"\\\\\\uDC00\"", 3),
+        (b"\"\\uD800\\uDC00\\uDC00\"", 13),
+        (b"{\"\\uD800\":1}", 2),
+    ];
+    refuses(&rt, rt.alloc(), &cases);
+}
+
+#[test]
+fn refused_utf8(rt: HostRuntime) {
+    let cases: [(&[u8], u32); 16] = [
+        (b"\"\x80\"", 1),
+        (b"\"\xc0\x80\"", 1),
+        (b"\"\xc1\xbf\"", 1),
+        (b"\"\xc3\"", 2),
+        (b"\"\xc3", 2),
+        (b"\"\xe0\x9f\xbf\"", 2),
+        (b"\"\xe2\x82\"", 3),
+        (b"\"\xed\xa0\x80\"", 2),
+        (b"\"\xf0\x8f\xbf\xbf\"", 2),
+        (b"\"\xf0\x9f\x98\"", 4),
+        (b"\"\xf4\x90\x80\x80\"", 2),
+        (b"\"\xf5\x80\x80\x80\"", 1),
+        (b"\"\xff\"", 1),
+        (b"\"a\"x", 3),
+        (b"[\"a\\uD800\", 1", 3),
+        (b"\xc3\xa9", 0),
+    ];
+    refuses(&rt, rt.alloc(), &cases);
+}
+
+#[test]
+fn accepted(rt: HostRuntime) {
+    let cases: [&[u8]; 26] = [
+        b"null",
+        b" true ",
+        b"\tfalse\r\n",
+        b"0",
+        b"-0",
+        b"-0.0e-0",
+        b"10",
+        b"1.25",
+        b"1E+05",
+        b"1e5",
+        b"123456789012345678901234567890",
+        b"[]",
+        b"[ ]",
+        b"[1]",
+        b"[ 1 , 2 ]",
+        b"{}",
+        b"{ }",
+        b"{\"a\":1}",
+        b"{ \"a\" : [ ] , \"a\" : { \"\" : null } }",
+        b"\"\"",
+        b"\"\\\"\\\\\\/\\b\\f\\n\\r\\t\"",
+        b"\"\\u0041\\ud83d\\uDe00\\uD7ff\\uE000\"",
+        b"\"\x7f\xc2\x80\xdf\xbf\xe0\xa0\x80\xed\x9f\xbf\xee\x80\x80\xef\xbf\xbf\"",
+        b"\"\xf0\x90\x80\x80\xf3\xbf\xbf\xbf\xf4\x8f\xbf\xbf\"",
+        b"[\"\\\\\", \"\\\"]\"]",
+        b"[[[1,[2]],{}],-1.5e3]",
+    ];
+    accepts(&rt, rt.alloc(), &cases);
 }
 
 /// Brackets that open so often, with what is to stand in the innermost, and close again.
