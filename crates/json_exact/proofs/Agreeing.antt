@@ -1,28 +1,18 @@
 -- From point to point of a text, and where it stops.
-use Rattle.std.proofs.Common.{◌≡◌, ◌≢◌, ℕ, zero, suc, ◌+◌, ◌-◌, ◌<◌, ◌≤◌, List, [], ◌∷◌, ◌++◌, length, get_or, take, drop, Bool, true, false, cond, refl, sym, ◌∙◌, ap, subst, arith, ◌⊎◌, inl, inr, Option, Some, None, eqb, leb, ◌||◌, ◌&&◌, append_assoc, length-append}
-use Rattle.std.proofs.lemmas.Bool.{both_ways, eqb-false, cases_eq, cases_lt}
-use Rattle.std.proofs.lemmas.List.{append-nil, get_or_at, get_or_append_left, length-take-le}
-use Rattle.json_exact.specs.Json.{Word, null_word, true_word, false_word, Leaf, word, number, string, Bracket, square, curly, Name, Json, leaf, nest, Parts, no_parts, part}
-use Rattle.json_exact.specs.Characters.{Way, refused, whole, step, steps, AreCharacters, decoded}
-use Rattle.json_exact.specs.Numbers.{is_digit, IsNumber}
-use Rattle.json_exact.specs.Scans.{is_in_number, then, written, may_end}
-use Rattle.json_exact.specs.JsonText.{is_blank, AreBlanks, Blanks, letters, IsLeaf, SpellsLeaf, opening, closing, SpellsPart, Spells, SpellsFirst, SpellsMore}
-use Rattle.json_exact.specs.Reading.{Frame, Behind, Before, Opened, BeforeName, BeforeColon, levels_left, closed, onto, Limit, any, no_number, no_closing, Counts}
-use Rattle.json_exact.specs.declared.scan.Last.{Last}
-use Rattle.json_exact.specs.declared.scan.Last.TheVariants.{Nothing, Misplaced}
-use Rattle.json_exact.proofs.Walks.{characters_unique, string_stuck, string_open, steps-append, steps-refused}
-use Rattle.json_exact.proofs.Digits.{number_ends, in_number, ends_placed, number_stuck, not_in_number, is_number, written-append, has_digits}
-use Rattle.json_exact.proofs.Blanks.{Firm, no_blanks, firm_front, nothing_front, Starts, leaf_starts, start_firm, closing_firm}
-use Rattle.json_exact.proofs.Steps.{frame, LeafFound, leaf_found, leaf_back, behind_clear, closing_clear, heads}
+use Rattle.std.proofs.Common.{◌≡◌, ◌≢◌, ℕ, suc, ◌+◌, ◌-◌, ◌<◌, ◌≤◌, List, [], ◌∷◌, ◌++◌, length, get_or, take, refl, sym, ◌∙◌, ap, subst, arith, ◌⊎◌, inl, inr, append_assoc, length-append}
+use Rattle.std.proofs.lemmas.Bool.{eqb-false, cases_lt}
+use Rattle.json_exact.specs.Json.{Json}
+use Rattle.json_exact.specs.Characters.{Way, refused, whole, steps, AreCharacters}
+use Rattle.json_exact.specs.Reading.{Limit, Counts}
+use Rattle.json_exact.proofs.Walks.{steps-append, steps-refused}
 use Rattle.std.specs.Prelude.{slice_range, slice_index}
 use Rattle.std.proofs.lemmas.List.{take_all}
-use Rattle.json_exact.specs.Characters.{is_d, is_high_digit, is_low_digit}
 use Rattle.json_exact.specs.JsonText.{SpelledWithin}
 use Rattle.json_exact.specs.Refusals.{depth_limit, CanGoOn, Stops, IsSurrogate, IsAlone, IsBad}
 use Rattle.json_exact.specs.Reading.{Agrees}
 use Rattle.json_exact.specs.Scans.{IsHalf, StopsString, CountsString, EndsString}
 use Rattle.json_exact.proofs.Ways.{tidy_steps, no_letter_inside}
-use Rattle.json_exact.proofs.Ranges.{up_to_with, up_to, length_range, range_one, range_more, range_first, range_split, range_byte, range_none}
+use Rattle.json_exact.proofs.Ranges.{up_to_with, up_to, length_range, range_more, range_first, range_split, range_byte}
 use Rattle.json_exact.proofs.Stuck.{Stuck}
 use Rattle.json_exact.proofs.Endings.{EndsBehind}
 

@@ -1,47 +1,32 @@
 -- Steps of the reader behind a value, and at the end.
-use Rattle.std.proofs.Common.{◌≡◌, ◌≢◌, ℕ, zero, suc, ◌+◌, ◌-◌, ◌<◌, ◌≤◌, List, [], ◌∷◌, ◌++◌, length, get_or, take, drop, Bool, true, false, cond, refl, sym, ◌∙◌, ap, subst, arith, ◌⊎◌, inl, inr, Option, Some, None, eqb, leb, ◌||◌, ◌&&◌, append_assoc, length-append}
-use Rattle.std.proofs.lemmas.Bool.{both_ways, eqb-false, eqb-true, cases_eq, cases_lt}
-use Rattle.std.proofs.lemmas.List.{append-nil, get_or_at, get_or_append_left, length-take-le, set_at, length-set}
-use Rattle.json_exact.specs.Json.{Word, null_word, true_word, false_word, Leaf, word, number, string, Bracket, square, curly, Name, Json, leaf, nest, Parts, no_parts, part}
-use Rattle.json_exact.specs.Characters.{Way, refused, whole, step, steps, AreCharacters, decoded}
-use Rattle.json_exact.specs.Numbers.{is_digit, IsNumber}
-use Rattle.json_exact.specs.Scans.{is_in_number, then, written, may_end}
-use Rattle.json_exact.specs.JsonText.{is_blank, AreBlanks, Blanks, letters, IsLeaf, SpellsLeaf, opening, closing, SpellsPart, Spells, SpellsFirst, SpellsMore}
-use Rattle.json_exact.specs.Reading.{Frame, Behind, Before, Opened, BeforeName, BeforeColon, levels_left, closed, onto, Limit, any, no_number, no_closing, Counts}
-use Rattle.json_exact.specs.declared.scan.Last.{Last}
-use Rattle.json_exact.specs.declared.scan.Last.TheVariants.{Nothing, Misplaced}
-use Rattle.json_exact.proofs.Walks.{characters_unique, string_stuck, string_open, steps-append}
-use Rattle.json_exact.proofs.Digits.{number_ends, in_number, ends_placed, number_stuck, not_in_number, is_number, written-append, has_digits}
-use Rattle.json_exact.proofs.Blanks.{Firm, no_blanks, firm_front, nothing_front, Starts, leaf_starts, start_firm, closing_firm}
-use Rattle.json_exact.proofs.Steps.{frame, LeafFound, leaf_found, leaf_back, behind_clear, heads}
-use Rattle.std.proofs.Common.{Result, Ok, Err}
-use Rattle.std.specs.Prelude.{slice_range, slice_index, slice_index_or, slice_set, MatchResult}
+use Rattle.std.proofs.Common.{◌≡◌, ◌≢◌, ℕ, suc, ◌+◌, ◌<◌, ◌≤◌, List, [], ◌∷◌, ◌++◌, length, take, false, refl, sym, ◌∙◌, ap, subst, arith, ◌⊎◌, inl, inr, Option, None, append_assoc}
+use Rattle.std.proofs.lemmas.Bool.{eqb-false, cases_lt}
+use Rattle.std.proofs.lemmas.List.{append-nil}
+use Rattle.json_exact.specs.Json.{Bracket, square, curly, Name, Json, Parts, no_parts, part}
+use Rattle.json_exact.specs.Scans.{is_in_number}
+use Rattle.json_exact.specs.JsonText.{is_blank, AreBlanks, closing}
+use Rattle.json_exact.specs.Reading.{Frame, Behind, Before, BeforeName, closed, onto, Limit, any, no_number, no_closing, Counts}
+use Rattle.json_exact.proofs.Blanks.{no_blanks}
+use Rattle.json_exact.proofs.Steps.{frame, behind_clear}
+use Rattle.std.specs.Prelude.{slice_range, slice_index}
 use Rattle.json_exact.specs.JsonText.{SpelledWithin}
-use Rattle.json_exact.specs.Refusals.{depth_limit, CanGoOn, Stops, IsAlone, IsBad, IsTooDeep, IsRefused}
-use Rattle.json_exact.specs.Scans.{StopsWord, StopsNumber, CountsString, EndsString, PassesBlanks, PassesWord, PassesNumber}
-use Rattle.json_exact.specs.Reading.{Agrees, IsOpenFor, IsHere, IsClear, Holds, ReadsValue, ReadsValueHere, ReadsName, ReadsNameHere, ReadsColon, ReadsFirst, ReadsBehind, Reads, Puts, Opens, Closes, with_kind, StopsLeaf, no_leaf, in_word, in_number as stops_number, in_string, EndsLeaf, kind_of, kind_of_bracket, limit_of_kind, cell, cells_of, cells_in, cells_done, name_cells, open_cells, top_of, closing_of}
-use Rattle.json_exact.specs.declared.error.JsonError.{JsonError}
-use Rattle.json_exact.specs.declared.error.JsonError.TheVariants.{Bad, TooDeep, OutOfMemory}
+use Rattle.json_exact.specs.Refusals.{depth_limit, IsBad}
+use Rattle.json_exact.specs.Scans.{PassesBlanks}
+use Rattle.json_exact.specs.Reading.{Agrees, IsClear, Holds, ReadsValue, ReadsName, ReadsBehind, Closes, kind_of_bracket, cell, cells_of, cells_in, cells_done, name_cells, open_cells, top_of}
 use Rattle.json_exact.specs.declared.reader.Reader.{Reader}
-use Rattle.json_exact.specs.declared.reader.Next.{Next}
-use Rattle.json_exact.specs.declared.reader.Next.TheVariants.{Value, First, After}
 use Rattle.json_exact.specs.declared.cells.Cell.{Cell}
-use Rattle.json_exact.specs.declared.cells.Kind.{Kind}
-use Rattle.json_exact.specs.declared.cells.Kind.TheVariants.{Null, True, False, Number, String, List as AList, Object}
-use Rattle.json_exact.proofs.Ranges.{up_to_with, range_first, range_none, range_more, range_one, range_byte, length_range}
-use Rattle.json_exact.proofs.Blanks.{before_pass, before_more, behind_pass, behind_more, opened_pass, opened_more, name_pass, name_more, colon_pass, colon_more, in_number_firm}
-use Rattle.json_exact.proofs.Steps.{open_into, open_back, open_too_deep, first_close_into, first_close_back, close_into, close_back, first_item_into, first_item_back, first_name_into, first_name_back, comma_item_into, comma_item_back, comma_name_into, comma_name_back, colon_into, colon_back}
-use Rattle.json_exact.proofs.Leaves.{limit_of, leaf_into, name_into, name_back}
+use Rattle.json_exact.proofs.Ranges.{range_first}
+use Rattle.json_exact.proofs.Blanks.{behind_pass, behind_more, in_number_firm}
+use Rattle.json_exact.proofs.Steps.{close_into, close_back, comma_item_into, comma_item_back, comma_name_into, comma_name_back}
 use Rattle.json_exact.proofs.Stuck as stuck
-use Rattle.json_exact.proofs.Endings.{EndsBehind, Ends, digit_ends, before_ends, word_ends, number_ends_so, string_ends, name_ends, colon_ends, behind_ends, opened_ends}
-use Rattle.json_exact.proofs.Agreeing.{Advances, advance, Halts, stops, bad_here, TakesString, string_stops, string_letters, string_bytes}
-use Rattle.json_exact.proofs.Tokens.{All92, blanks_plain, plain_part, within_word, number_plain, other_halts, end_halts, bad_at, leaf_bad, takes_value, takes_name, wide_before, wide_name, wide_here, token_counts, front_counts}
-use Rattle.json_exact.specs.Scans.{IsHalf}
+use Rattle.json_exact.proofs.Endings.{Ends, behind_ends}
+use Rattle.json_exact.proofs.Agreeing.{advance}
+use Rattle.json_exact.proofs.Tokens.{blanks_plain, plain_part, other_halts, end_halts, bad_at}
 use Rattle.json_exact.proofs.Steps.{closing_clear}
-use Rattle.json_exact.proofs.Onward.{close_cells, cells_onto, top_cell, top_in}
+use Rattle.json_exact.proofs.Onward.{close_cells, cells_onto}
 use Rattle.json_exact.specs.Reading.{IsRead}
 use Rattle.std.proofs.lemmas.List.{take_all}
-use Rattle.json_exact.proofs.Turns.{hold_blanks, advance_blanks, advance_one, one_on, here, here_counts, closing_plain, one_range}
+use Rattle.json_exact.proofs.Turns.{advance_one, closing_plain}
 
 -- which rests count behind a value
 behind_counts : (limit : Limit) (text : List ℕ) (at d n : ℕ) (fs : List Frame) (w : Json) (rest : List ℕ) (v : Json) → IsClear limit text at → Behind d n fs w rest v → Counts limit rest

@@ -1,16 +1,14 @@
 -- The steps of the reader in the words of its own calls.
-use Rattle.std.proofs.Common.{◌≡◌, ◌≢◌, ℕ, zero, suc, ◌+◌, ◌-◌, ◌<◌, ◌≤◌, List, [], ◌∷◌, ◌++◌, length, get_or, take, drop, Bool, true, false, cond, refl, sym, ◌∙◌, ap, subst, arith, ◌⊎◌, inl, inr, Option, Some, None, eqb, append_assoc, length-append}
-use Rattle.std.proofs.lemmas.Bool.{both_ways, eqb-false, eqb-true}
-use Rattle.std.proofs.lemmas.List.{append-nil}
+use Rattle.std.proofs.Common.{◌≡◌, ◌≢◌, ℕ, ◌+◌, ◌<◌, ◌≤◌, List, [], ◌∷◌, length, get_or, true, false, refl, sym, ◌∙◌, ap, subst, arith, Option, None}
+use Rattle.std.proofs.lemmas.Bool.{both_ways, eqb-true}
 use denote.Enum.Bare.{sameb}
 use Rattle.json_exact.specs.contracts.cells.Kind.{the_type}
 use Rattle.std.specs.Prelude.{slice_index}
 use Rattle.json_exact.specs.Json.{Bracket, square, curly, Name, Json}
-use Rattle.json_exact.specs.JsonText.{is_blank, closing, SpelledWithin, Blanks, Spells}
-use Rattle.json_exact.specs.Refusals.{depth_limit, IsBad, IsRefused}
+use Rattle.json_exact.specs.JsonText.{closing, SpelledWithin, Spells}
+use Rattle.json_exact.specs.Refusals.{depth_limit, IsBad}
 use Rattle.json_exact.specs.Scans.{PassesBlanks}
-use Rattle.json_exact.specs.Reading.{Frame, levels_left, Agrees, Holds, HasOpen, ReadsValue, ReadsValueHere, ReadsName, ReadsNameHere, ReadsFirst, ReadsBehind, Reads, Closes, Limit, any, closing_of, kind_of_bracket, top_of, cell, cells_of, Before, Opened, Behind, IsRead, finished, IsHere}
-use Rattle.json_exact.specs.declared.error.JsonError.{JsonError}
+use Rattle.json_exact.specs.Reading.{Frame, levels_left, Agrees, ReadsValue, ReadsValueHere, ReadsName, ReadsNameHere, ReadsFirst, ReadsBehind, Reads, Closes, any, closing_of, kind_of_bracket, cells_of, Before, Opened, Behind, IsRead, finished}
 use Rattle.json_exact.specs.declared.reader.Reader.{Reader}
 use Rattle.json_exact.specs.declared.reader.Next.{Next}
 use Rattle.json_exact.specs.declared.reader.Next.TheVariants.{Value, First, After}

@@ -1,16 +1,16 @@
 -- The cells of a value stand for the value.
-use Rattle.std.proofs.Common.{◌≡◌, ◌≢◌, ℕ, zero, suc, ◌+◌, ◌-◌, ◌<◌, ◌≤◌, List, [], ◌∷◌, ◌++◌, length, get_or, take, drop, refl, sym, ◌∙◌, ap, subst, arith, ◌⊎◌, inl, inr, append_assoc, length-append, Option, Some, None, min, Bool, cond, true, false}
+use Rattle.std.proofs.Common.{◌≡◌, ◌≢◌, ℕ, zero, suc, ◌+◌, ◌-◌, ◌<◌, ◌≤◌, List, [], ◌∷◌, ◌++◌, length, get_or, take, drop, refl, sym, ◌∙◌, ap, arith, append_assoc, length-append, Option, Some, None, Bool, cond, true, false}
 use Rattle.std.proofs.lemmas.Bool.{both_ways}
 use denote.Enum.Bare.{sameb}
 use Rattle.json_exact.specs.contracts.cells.Kind.{the_type}
-use Rattle.std.proofs.lemmas.List.{take_at, drop_at, append-nil, length-take-le, length-drop, take_all, take-take, length-take}
+use Rattle.std.proofs.lemmas.List.{take_at, drop_at, length-drop, take_all, take-take, length-take}
 use Rattle.std.specs.Prelude.{slice_range}
-use Rattle.json_exact.specs.Json.{Word, null_word, true_word, false_word, Leaf, word, number, string, Bracket, square, curly, Name, Json, leaf, nest, Parts, no_parts, part, values, items, member, first_named}
+use Rattle.json_exact.specs.Json.{null_word, true_word, false_word, Leaf, word, number, string, Bracket, square, curly, Name, Json, leaf, nest, Parts, no_parts, part, values, items, member, first_named}
 use Rattle.json_exact.specs.Characters.{decoded}
 use Rattle.json_exact.specs.Bytes.{same_bytes}
-use Rattle.json_exact.specs.JsonText.{Blanks, SpelledWithin, IsLeaf, SpellsLeaf, Spells, SpellsFirst, SpellsMore, SpellsPart, opening, closing}
-use Rattle.json_exact.specs.Reading.{kind_of, kind_of_bracket, cell, cells_of, cells_in, name_cells}
-use Rattle.json_exact.specs.Handles.{node, node_of, name_of, parts_of, all_parts, first_value, characters_of, own_cells, other_cells, first_kind, first_inside}
+use Rattle.json_exact.specs.JsonText.{Blanks, SpelledWithin, SpellsLeaf, Spells, SpellsFirst, SpellsMore, SpellsPart, opening, closing}
+use Rattle.json_exact.specs.Reading.{kind_of, kind_of_bracket, cell, cells_of, cells_in}
+use Rattle.json_exact.specs.Handles.{node, node_of, name_of, parts_of, all_parts, first_value, own_cells, other_cells, first_kind, first_inside}
 use Rattle.json_exact.specs.declared.cells.Cell.{Cell}
 use Rattle.json_exact.specs.declared.cells.Kind.{Kind}
 use Rattle.json_exact.specs.declared.cells.Kind.TheVariants.{Null, True, False, Number, String, List as AList, Object}

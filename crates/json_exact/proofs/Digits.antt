@@ -1,9 +1,9 @@
 -- A number by its grammar is a number by what was written last, both ways.
-use Rattle.std.proofs.Common.{◌≡◌, ◌≢◌, ℕ, zero, suc, ◌+◌, ◌<◌, ◌≤◌, List, [], ◌∷◌, ◌++◌, length, Bool, true, false, cond, refl, sym, ◌∙◌, ap, subst, arith, ◌⊎◌, inl, inr, append_assoc, eqb, leb, ◌||◌, ◌&&◌}
-use Rattle.std.proofs.lemmas.Bool.{or_cases, or_parts, and_parts, and_from, eqb-true, eqb-false, leb-true, le-leb, leb-false, lt-leb, ne_eqb, or_from, or_left, or_right, both_ways, false_from_ne_true}
+use Rattle.std.proofs.Common.{◌≡◌, ◌≢◌, ℕ, ◌<◌, ◌≤◌, List, [], ◌∷◌, ◌++◌, Bool, true, false, cond, refl, sym, ◌∙◌, ap, subst, arith, inl, inr, eqb, leb, ◌||◌}
+use Rattle.std.proofs.lemmas.Bool.{or_cases, or_parts, and_parts, and_from, eqb-true, eqb-false, leb-true, le-leb, ne_eqb, both_ways}
 use Rattle.std.specs.Prelude.{◌==◌}
 use Rattle.json_exact.specs.Characters.{within}
-use Rattle.json_exact.specs.Numbers.{is_digit, AreDigits, IsMinus, IsWhole, IsFraction, is_mark, IsSign, IsExponent, IsNumber}
+use Rattle.json_exact.specs.Numbers.{is_digit, AreDigits, IsWhole, IsFraction, is_mark, IsSign, IsExponent, IsNumber}
 use Rattle.json_exact.specs.Scans.{is_sign, is_in_number, then, written, may_end}
 use Rattle.json_exact.specs.declared.scan.Last.{Last}
 use Rattle.json_exact.specs.declared.scan.Last.TheVariants.{Nothing, Minus, Zero, Whole, Point, Fraction, Mark, Sign, Exponent, Misplaced}

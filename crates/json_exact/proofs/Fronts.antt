@@ -1,10 +1,10 @@
 -- What the first character of a string's content stands for.
-use Rattle.std.proofs.Common.{◌≡◌, ◌≢◌, ℕ, zero, suc, ◌+◌, ◌-◌, ◌*◌, ◌<◌, ◌≤◌, List, [], ◌∷◌, ◌++◌, length, get_or, take, drop, Bool, true, false, cond, refl, sym, ◌∙◌, ap, subst, arith, append_assoc, eqb, ltb, leb, ◌&&◌, ◌/◌, ◌%◌}
-use Rattle.std.proofs.lemmas.Bool.{eq-eqb, ne_eqb, eqb-true, eqb-false, both_ways, lt-ltb, le-ltb, and_left, and_right, and_from, lt-leb, le-leb}
+use Rattle.std.proofs.Common.{◌≡◌, ◌≢◌, ℕ, suc, ◌+◌, ◌-◌, ◌*◌, ◌<◌, ◌≤◌, List, [], ◌∷◌, ◌++◌, length, get_or, drop, Bool, true, false, refl, sym, ◌∙◌, ap, arith, append_assoc, eqb, ltb, leb, ◌&&◌, ◌/◌, ◌%◌}
+use Rattle.std.proofs.lemmas.Bool.{eq-eqb, ne_eqb, eqb-true, eqb-false, lt-ltb, le-ltb, and_left, and_right, and_from, lt-leb, le-leb}
 use lib.Utf8.{encode}
-use Rattle.std.proofs.lemmas.List.{length-take-le, drop_all, append-nil, length-drop, get_or-drop, drop-drop}
+use Rattle.std.proofs.lemmas.List.{drop_all, append-nil, length-drop, get_or-drop, drop-drop}
 use Rattle.std.specs.Char.{encode_utf8}
-use Rattle.json_exact.specs.Characters.{decoded, decoded_behind, between, backslash, backslash_u, high_half, code_unit, is_high_surrogate, surrogate_pair, short_value}
+use Rattle.json_exact.specs.Characters.{decoded, decoded_behind, backslash_u, high_half, code_unit, is_high_surrogate, surrogate_pair, short_value}
 use Rattle.json_exact.specs.Bytes.{same_bytes, begins_with, piece_bytes, Fronts}
 use Rattle.json_exact.specs.declared.decode.Piece.{Piece}
 use Rattle.json_exact.proofs.Scanning.{on, off}

@@ -1,8 +1,8 @@
 -- Parts of a text from one place to another.
-use Rattle.std.proofs.Common.{◌≡◌, ℕ, zero, suc, ◌+◌, ◌-◌, ◌<◌, ◌≤◌, List, [], ◌∷◌, ◌++◌, length, get_or, take, drop, refl, sym, ◌∙◌, ap, subst, append_assoc, add-one, add-zero, arith, length-append}
+use Rattle.std.proofs.Common.{◌≡◌, ℕ, zero, suc, ◌+◌, ◌-◌, ◌<◌, ◌≤◌, List, [], ◌∷◌, ◌++◌, length, get_or, take, sym, ◌∙◌, ap, subst, append_assoc, arith}
 use Rattle.std.specs.Prelude.{slice_range}
-use Rattle.std.proofs.lemmas.List.{take_more, drop_more, take_all, length-take-le, append-nil}
-use Rattle.std.proofs.lemmas.List.Edits.{between_none, between_more, length-between, split_between, get_or-between}
+use Rattle.std.proofs.lemmas.List.{take_more, append-nil}
+use Rattle.std.proofs.lemmas.List.Edits.{between_none, between_more, length-between, get_or-between}
 
 pub range_none : (t : List ℕ) (a : ℕ) → slice_range t a a ≡ []
 range_none t a = between_none t a

@@ -1,11 +1,11 @@
 -- One byte more in a scan.
-use Rattle.std.proofs.Common.{◌≡◌, ◌≢◌, ℕ, zero, suc, ◌+◌, ◌-◌, ◌<◌, ◌≤◌, List, [], ◌∷◌, ◌++◌, length, get_or, take, drop, Bool, true, false, cond, refl, sym, ◌∙◌, ap, subst, arith, ◌⊎◌, inl, inr, Result, Ok, Err}
-use Rattle.std.specs.Prelude.{slice_range, slice_index, MatchResult}
+use Rattle.std.proofs.Common.{◌≡◌, ◌≢◌, ℕ, zero, suc, ◌+◌, ◌-◌, ◌<◌, ◌≤◌, List, [], ◌∷◌, ◌++◌, length, get_or, drop, Bool, true, false, cond, refl, sym, ◌∙◌, ap, subst, arith, ◌⊎◌, inl, inr, Result, Ok, Err}
+use Rattle.std.specs.Prelude.{slice_range, MatchResult}
 use denote.Enum.Bare.{sameb}
 use Rattle.json_exact.specs.contracts.scan.Last.{the_type}
 use Rattle.std.proofs.lemmas.Bool.{both_ways, cases_lt}
 use Rattle.std.proofs.lemmas.List.{drop_more}
-use Rattle.json_exact.specs.Characters.{Way, refused, whole, next, one, step, steps, character, AreCharacters, is_d, is_low_digit, is_high_digit, is_plain}
+use Rattle.json_exact.specs.Characters.{Way, refused, whole, step, steps, character, AreCharacters, is_d, is_low_digit, is_high_digit, is_plain}
 use Rattle.json_exact.specs.Scans.{then, written, way_of, accepts, PassesWay, StopsWay, PassesCharacter, StopsCharacter, StopsString, IsHalf}
 use Rattle.json_exact.specs.declared.strings.Class.{Class}
 use Rattle.json_exact.specs.JsonText.{is_blank, AreBlanks}

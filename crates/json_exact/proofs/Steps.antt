@@ -1,17 +1,11 @@
 -- What a token does to what is left to be read, both ways.
-use Rattle.std.proofs.Common.{◌≡◌, ◌≢◌, ℕ, zero, suc, ◌+◌, ◌-◌, ◌<◌, ◌≤◌, List, [], ◌∷◌, ◌++◌, length, get_or, Bool, true, false, cond, refl, sym, ◌∙◌, ap, subst, arith, ◌⊎◌, inl, inr, Option, Some, None, eqb, ◌||◌, append_assoc}
+use Rattle.std.proofs.Common.{◌≡◌, ◌≢◌, ℕ, suc, ◌+◌, ◌<◌, ◌≤◌, List, [], ◌∷◌, ◌++◌, length, get_or, false, refl, sym, ◌∙◌, ap, subst, arith, inl, inr, Option, Some, None}
 use Rattle.std.proofs.lemmas.Bool.{both_ways, eqb-false}
-use Rattle.json_exact.specs.Json.{Word, null_word, true_word, false_word, Leaf, word, number, string, Bracket, square, curly, Name, Json, leaf, nest, Parts, no_parts, part}
-use Rattle.json_exact.specs.Characters.{whole, steps, AreCharacters, decoded}
-use Rattle.json_exact.specs.Numbers.{is_digit, IsNumber}
-use Rattle.json_exact.specs.Scans.{is_in_number, then, written, may_end}
-use Rattle.json_exact.specs.JsonText.{is_blank, AreBlanks, Blanks, letters, IsLeaf, SpellsLeaf, opening, closing, SpellsPart, Spells, SpellsFirst, SpellsMore}
-use Rattle.json_exact.specs.Reading.{Frame, Behind, Before, Opened, BeforeName, BeforeColon, levels_left, closed, onto, Limit, any, no_number, no_closing, Counts}
-use Rattle.json_exact.specs.declared.scan.Last.{Last}
-use Rattle.json_exact.specs.declared.scan.Last.TheVariants.{Nothing, Misplaced}
-use Rattle.json_exact.proofs.Walks.{characters_unique}
-use Rattle.json_exact.proofs.Digits.{number_ends, in_number, ends_placed, number_stuck, not_in_number}
-use Rattle.json_exact.proofs.Blanks.{Firm, no_blanks, firm_front, nothing_front, Starts, leaf_starts, start_firm, closing_firm, in_number_firm}
+use Rattle.json_exact.specs.Json.{null_word, true_word, false_word, Leaf, word, number, string, Bracket, square, curly, Name, Json, leaf, nest, no_parts, part}
+use Rattle.json_exact.specs.Scans.{is_in_number}
+use Rattle.json_exact.specs.JsonText.{is_blank, AreBlanks, Blanks, IsLeaf, SpellsLeaf, opening, closing, SpellsPart, Spells, SpellsFirst}
+use Rattle.json_exact.specs.Reading.{Frame, Behind, Before, Opened, BeforeName, BeforeColon, levels_left, closed, no_number, no_closing, Counts}
+use Rattle.json_exact.proofs.Blanks.{no_blanks, firm_front, Starts, leaf_starts, closing_firm, in_number_firm}
 
 abbrev pub frame : Bracket → ℕ → List (Option Name × Json) → Option Name → Frame
 frame k from done name = record { kind = k; from = from; done = done; name = name }

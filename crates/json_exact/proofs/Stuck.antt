@@ -1,20 +1,19 @@
 -- Where nothing goes on.
-use Rattle.std.proofs.Common.{◌≡◌, ◌≢◌, ℕ, zero, suc, ◌+◌, ◌-◌, ◌<◌, ◌≤◌, List, [], ◌∷◌, ◌++◌, length, get_or, take, drop, Bool, true, false, cond, refl, sym, ◌∙◌, ap, subst, arith, ◌⊎◌, inl, inr, Option, Some, None, eqb, leb, ◌||◌, ◌&&◌, append_assoc, length-append}
-use Rattle.std.proofs.lemmas.Bool.{both_ways, eqb-false, eqb-true, cases_eq}
+use Rattle.std.proofs.Common.{◌≡◌, ◌≢◌, ℕ, suc, ◌+◌, ◌<◌, List, [], ◌∷◌, ◌++◌, length, get_or, take, drop, true, false, refl, sym, ◌∙◌, ap, subst, arith, inl, inr, Option, Some, None, append_assoc, length-append}
+use Rattle.std.proofs.lemmas.Bool.{both_ways, eqb-false}
 use Rattle.std.proofs.lemmas.List.{append-nil, get_or_at, get_or_append_left, length-take-le}
-use Rattle.json_exact.specs.Json.{Word, null_word, true_word, false_word, Leaf, word, number, string, Bracket, square, curly, Name, Json, leaf, nest, Parts, no_parts, part}
-use Rattle.json_exact.specs.Characters.{Way, refused, whole, step, steps, AreCharacters, decoded}
+use Rattle.json_exact.specs.Json.{Word, null_word, true_word, false_word, Leaf, word, number, string, Bracket, square, curly, Name, Json, leaf, nest, no_parts, part}
+use Rattle.json_exact.specs.Characters.{refused, whole, step, steps, AreCharacters}
 use Rattle.json_exact.specs.Numbers.{is_digit, IsNumber}
 use Rattle.json_exact.specs.Scans.{is_in_number, then, written, may_end}
-use Rattle.json_exact.specs.JsonText.{is_blank, AreBlanks, Blanks, letters, IsLeaf, SpellsLeaf, opening, closing, SpellsPart, Spells, SpellsFirst, SpellsMore}
-use Rattle.json_exact.specs.Reading.{Frame, Behind, Before, Opened, BeforeName, BeforeColon, levels_left, closed, onto, Limit, any, no_number, no_closing, Counts}
-use Rattle.json_exact.specs.declared.scan.Last.{Last}
+use Rattle.json_exact.specs.JsonText.{is_blank, letters, IsLeaf, opening, closing, SpellsPart, Spells}
+use Rattle.json_exact.specs.Reading.{Frame, Behind, Before, Opened, BeforeName, BeforeColon, no_number, Counts}
 use Rattle.json_exact.specs.declared.scan.Last.TheVariants.{Nothing, Misplaced}
-use Rattle.json_exact.proofs.Walks.{characters_unique, string_stuck, string_open, steps-append}
-use Rattle.json_exact.proofs.Digits.{number_ends, in_number, ends_placed, number_stuck, not_in_number, is_number, written-append, has_digits}
-use Rattle.json_exact.proofs.Blanks.{Firm, no_blanks, firm_front, nothing_front, Starts, leaf_starts, start_firm, closing_firm}
-use Rattle.json_exact.proofs.Steps.{frame, LeafFound, leaf_found, leaf_back, behind_clear, heads}
-use Rattle.json_exact.proofs.Leaves.{class, class_at, class_starts, leaf_not_opening, cancel}
+use Rattle.json_exact.proofs.Walks.{string_stuck, string_open}
+use Rattle.json_exact.proofs.Digits.{number_ends, in_number, number_stuck}
+use Rattle.json_exact.proofs.Blanks.{firm_front, nothing_front, Starts, leaf_starts, start_firm}
+use Rattle.json_exact.proofs.Steps.{LeafFound, leaf_found, behind_clear, heads}
+use Rattle.json_exact.proofs.Leaves.{class, class_at, class_starts, leaf_not_opening}
 
 -- ---- before a value
 

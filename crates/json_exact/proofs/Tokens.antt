@@ -1,31 +1,28 @@
 -- Where the tokens stop, as a refusal of the text.
-use Rattle.std.proofs.Common.{◌≡◌, ◌≢◌, ℕ, zero, suc, ◌+◌, ◌-◌, ◌<◌, ◌≤◌, List, [], ◌∷◌, ◌++◌, length, get_or, take, drop, Bool, true, false, cond, refl, sym, ◌∙◌, ap, subst, arith, ◌⊎◌, inl, inr, Option, Some, None, eqb, leb, ◌||◌, ◌&&◌, append_assoc, length-append}
-use Rattle.std.proofs.lemmas.Bool.{both_ways, eqb-false, eqb-true, cases_eq}
-use Rattle.std.proofs.lemmas.List.{append-nil, get_or_at, get_or_append_left, length-take-le}
-use Rattle.json_exact.specs.Json.{Word, null_word, true_word, false_word, Leaf, word, number, string, Bracket, square, curly, Name, Json, leaf, nest, Parts, no_parts, part}
-use Rattle.json_exact.specs.Characters.{Way, refused, whole, step, steps, AreCharacters, decoded}
-use Rattle.json_exact.specs.Numbers.{is_digit, IsNumber}
+use Rattle.std.proofs.Common.{◌≡◌, ◌≢◌, ℕ, zero, suc, ◌+◌, ◌-◌, ◌<◌, ◌≤◌, List, [], ◌∷◌, ◌++◌, length, get_or, take, Bool, true, false, cond, refl, sym, ◌∙◌, ap, subst, arith, ◌⊎◌, inl, inr, eqb, append_assoc}
+use Rattle.std.proofs.lemmas.Bool.{both_ways, eqb-false, eqb-true}
+use Rattle.json_exact.specs.Json.{Word, null_word, true_word, false_word, string, Bracket, square, curly, Json}
+use Rattle.json_exact.specs.Numbers.{is_digit}
 use Rattle.json_exact.specs.Scans.{is_in_number, then, written, may_end}
-use Rattle.json_exact.specs.JsonText.{is_blank, AreBlanks, Blanks, letters, IsLeaf, SpellsLeaf, opening, closing, SpellsPart, Spells, SpellsFirst, SpellsMore}
-use Rattle.json_exact.specs.Reading.{Frame, Behind, Before, Opened, BeforeName, BeforeColon, levels_left, closed, onto, Limit, any, no_number, no_closing, Counts}
+use Rattle.json_exact.specs.JsonText.{is_blank, AreBlanks, Blanks, letters, opening, closing}
+use Rattle.json_exact.specs.Reading.{Frame, Before, BeforeName, Limit, any, no_number, no_closing, Counts}
 use Rattle.json_exact.specs.declared.scan.Last.{Last}
 use Rattle.json_exact.specs.declared.scan.Last.TheVariants.{Nothing, Minus, Zero, Whole, Misplaced}
-use Rattle.json_exact.proofs.Walks.{characters_unique, string_stuck, string_open, steps-append}
-use Rattle.json_exact.proofs.Digits.{number_ends, in_number, ends_placed, number_stuck, not_in_number, is_number, written-append, has_digits}
-use Rattle.json_exact.proofs.Blanks.{Firm, no_blanks, firm_front, nothing_front, Starts, leaf_starts, start_firm, closing_firm}
-use Rattle.json_exact.proofs.Steps.{frame, LeafFound, leaf_found, leaf_back, behind_clear, heads}
+use Rattle.json_exact.proofs.Digits.{in_number}
+use Rattle.json_exact.proofs.Blanks.{Firm, firm_front, closing_firm}
+use Rattle.json_exact.proofs.Steps.{heads}
 use Rattle.std.proofs.lemmas.Bool.{cases_lt}
 use Rattle.std.specs.Prelude.{slice_range, slice_index}
-use Rattle.json_exact.specs.Refusals.{depth_limit, CanGoOn, Stops, IsAlone, IsBad}
-use Rattle.json_exact.specs.Scans.{StopsWord, StopsNumber, CountsString, EndsString, PassesBlanks}
-use Rattle.json_exact.specs.Reading.{Agrees, IsOpenFor, IsHere, IsClear, StopsLeaf, no_leaf, in_word, in_number as stops_number, in_string}
+use Rattle.json_exact.specs.Refusals.{depth_limit, IsBad}
+use Rattle.json_exact.specs.Scans.{StopsWord, StopsNumber}
+use Rattle.json_exact.specs.Reading.{Agrees, IsOpenFor, IsHere, StopsLeaf, no_leaf, in_word, in_number as stops_number, in_string}
 use Rattle.json_exact.proofs.Ranges.{range_first, range_none, range_more, range_one, range_byte, length_range}
-use Rattle.json_exact.proofs.Blanks.{blanks_pass, spells_firm, spells_leaf_firm, before_pass, before_more, behind_pass, behind_more, opened_pass, opened_more, name_pass, name_more, colon_pass, colon_more, in_number_firm}
+use Rattle.json_exact.proofs.Blanks.{blanks_pass, spells_firm, spells_leaf_firm}
 use Rattle.json_exact.proofs.Steps.{value_not_closing, leaf_not_closing}
 use Rattle.json_exact.proofs.Scanning.{on, off}
 use Rattle.json_exact.proofs.Stuck as stuck
-use Rattle.json_exact.proofs.Endings.{EndsBehind, Ends, digit_ends, before_ends, word_ends, number_ends_so, string_ends, name_ends, colon_ends, behind_ends, opened_ends, shifted, same_front}
-use Rattle.json_exact.proofs.Agreeing.{Advances, advance, Halts, stops, bad_here, TakesString, string_stops}
+use Rattle.json_exact.proofs.Endings.{EndsBehind, before_ends, word_ends, number_ends_so, string_ends, name_ends, same_front}
+use Rattle.json_exact.proofs.Agreeing.{Halts, bad_here, TakesString, string_stops}
 
 -- ---- which rests count
 

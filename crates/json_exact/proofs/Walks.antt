@@ -1,6 +1,6 @@
 -- Walks along the ways of characters.
-use Rattle.std.proofs.Common.{◌≡◌, ◌≢◌, ℕ, zero, suc, ◌+◌, ◌<◌, ◌≤◌, List, [], ◌∷◌, ◌++◌, length, Bool, true, false, cond, refl, sym, ◌∙◌, ap, subst, arith, ◌⊎◌, inl, inr}
-use Rattle.json_exact.specs.Characters.{Way, refused, whole, next, step, steps, character, AreCharacters}
+use Rattle.std.proofs.Common.{◌≡◌, ◌≢◌, ℕ, List, [], ◌∷◌, ◌++◌, refl, sym, subst}
+use Rattle.json_exact.specs.Characters.{Way, refused, whole, step, steps}
 
 pub steps-append : (w : Way) (p q : List ℕ) → steps w (p ++ q) ≡ steps (steps w p) q
 steps-append w [] q = refl

@@ -1,5 +1,5 @@
 -- Each begun character has an end, and a letter that is no hexadecimal digit stands in none but alone.
-use Rattle.std.proofs.Common.{◌≡◌, ◌≢◌, ℕ, List, [], ◌∷◌, ◌++◌, Bool, true, false, cond, refl, sym, ◌∙◌, ap, subst, ◌⊎◌, inl, inr, ◌||◌}
+use Rattle.std.proofs.Common.{◌≡◌, ◌≢◌, ℕ, List, [], ◌∷◌, Bool, true, false, cond, refl, ◌||◌}
 use Rattle.std.specs.Prelude.{◌==◌}
 use Rattle.json_exact.specs.Characters.{Way, refused, whole, next, one, tail, two_digits, low_half, surrogate, digits, escape, character, step, steps, within, is_plain, is_d, is_hex, is_high_digit, is_low_digit, is_short}
 

@@ -1,9 +1,9 @@
 -- What parsing answers, of the cells that were read.
-use Rattle.std.proofs.Common.{◌≡◌, ◌≢◌, ℕ, List, length, refl, sym, ◌∙◌, ap, subst, ◌⊎◌}
+use Rattle.std.proofs.Common.{◌≡◌, ◌≢◌, ℕ, List, length, sym, ◌∙◌, ap, subst}
 use Rattle.json_exact.specs.Json.{Json}
 use Rattle.json_exact.specs.JsonText.{SpelledWithin}
 use Rattle.json_exact.specs.Refusals.{depth_limit, IsRefused}
-use Rattle.json_exact.specs.Reading.{IsRead, cells_of}
+use Rattle.json_exact.specs.Reading.{IsRead}
 use Rattle.json_exact.specs.Handles.{first_value}
 use Rattle.json_exact.specs.declared.cells.Cell.{Cell}
 use Rattle.json_exact.specs.declared.error.JsonError.{JsonError}
@@ -11,7 +11,7 @@ use Rattle.json_exact.specs.declared.error.JsonError.TheVariants.{OutOfMemory}
 use Rattle.json_exact.proofs.Decoding.{decoded_value}
 use Rattle.json_exact.specs.Spans.{IsPlaced}
 use Rattle.json_exact.proofs.Placed.{spelled_placed}
-use Rattle.json_exact.proofs.Unique.{only_memory, one_refusal}
+use Rattle.json_exact.proofs.Unique.{only_memory}
 
 value_read : (text : List ℕ) (cells : List Cell) (r : IsRead text cells) → first_value text cells ≡ r.0
 value_read text cells r = ap (first_value text) r.1 ∙ decoded_value text depth_limit r.0 r.2

@@ -1,5 +1,5 @@
 -- Bytes compared, and the bytes of a piece of up to four.
-use Rattle.std.specs.Prelude.{◌≡◌, ℕ, ◌+◌, ◌<◌, ◌≤◌, List, [], ◌∷◌, ◌++◌, length, take, drop, Bool, true, false, ◌&&◌, ◌==◌}
+use Rattle.std.specs.Prelude.{◌≡◌, ℕ, ◌<◌, ◌≤◌, List, [], ◌∷◌, ◌++◌, length, take, drop, Bool, true, false, ◌&&◌, ◌==◌}
 use Rattle.json_exact.specs.Characters.{decoded}
 use Rattle.json_exact.specs.declared.decode.Piece.{Piece}
 

@@ -1,6 +1,6 @@
 -- How the characters of a string are written (RFC 8259, section 7, over the UTF-8 of RFC 3629, section 4).
 -- A surrogate stands only in a pair, since alone it is no character.
-use Rattle.std.specs.Prelude.{◌≡◌, ℕ, ◌+◌, ◌-◌, ◌*◌, List, [], ◌∷◌, ◌++◌, Bool, cond, ◌&&◌, ◌||◌, ◌==◌, nat_le, nat_lt, not}
+use Rattle.std.specs.Prelude.{◌≡◌, ℕ, ◌+◌, ◌-◌, ◌*◌, List, [], ◌∷◌, ◌++◌, Bool, cond, ◌&&◌, ◌||◌, ◌==◌, nat_le, nat_lt}
 use Rattle.std.specs.Char.{encode_utf8}
 
 abbrev pub within : ℕ → ℕ → ℕ → Bool

@@ -1,7 +1,7 @@
 -- The JSON value that a handle stands for. The cells of a text stand in the order in which their values begin,
 -- and a cell counts the cells of what its brackets hold; in an object the cell of each name stands before that
 -- of its value.
-use Rattle.std.specs.Prelude.{ℕ, zero, suc, ◌+◌, ◌-◌, List, [], ◌∷◌, length, take, drop, slice_range, Option, Some, None}
+use Rattle.std.specs.Prelude.{ℕ, zero, suc, ◌+◌, ◌-◌, List, [], ◌∷◌, length, take, drop, slice_range, Some, None}
 use Rattle.json_exact.specs.Json.{null_word, true_word, false_word, word, number, string, Bracket, square, curly, Name, Json as Value', leaf, nest, Parts, no_parts, part, values}
 use Rattle.json_exact.specs.Characters.{decoded}
 use Rattle.json_exact.specs.declared.cells.Kind.{Kind}

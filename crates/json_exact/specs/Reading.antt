@@ -1,13 +1,13 @@
 -- What is left to be read at each point of a text: which rests complete it, and to which value.
 -- This is what the reader keeps, and no caller needs it.
-use Rattle.std.specs.Prelude.{◌≡◌, ◌≢◌, ℕ, suc, ◌+◌, ◌-◌, ◌<◌, ◌≤◌, ◌⊎◌, List, [], ◌∷◌, ◌++◌, length, take, slice_index, slice_range, Bool, true, false, IsTrue, Option, Some, None, Result, Ok, Err, slice_index_or, slice_set, ◌==◌}
+use Rattle.std.specs.Prelude.{◌≡◌, ◌≢◌, ℕ, suc, ◌+◌, ◌-◌, ◌<◌, ◌≤◌, ◌⊎◌, List, [], ◌∷◌, ◌++◌, length, take, slice_index, slice_range, Bool, true, false, Option, Some, None, Result, Ok, Err, slice_index_or, slice_set, ◌==◌}
 use Rattle.json_exact.specs.Json.{Leaf, word, number, string, Word, null_word, true_word, false_word, Bracket, square, curly, Name, Json, leaf, nest, Parts, no_parts, part}
 use Rattle.json_exact.specs.Numbers.{is_digit}
 use Rattle.json_exact.specs.Scans.{is_in_number, StopsWord, StopsNumber, CountsString, EndsString}
 use Rattle.json_exact.specs.declared.reader.Reader.{Reader}
 use Rattle.json_exact.specs.declared.reader.Next.{Next}
 use Rattle.json_exact.specs.declared.reader.Next.TheVariants.{Value, First, After}
-use Rattle.json_exact.specs.JsonText.{is_blank, letters, IsLeaf, Blanks, closing, Spells, SpellsLeaf, SpellsFirst, SpellsMore, SpellsPart, SpelledWithin}
+use Rattle.json_exact.specs.JsonText.{is_blank, letters, IsLeaf, Blanks, closing, Spells, SpellsLeaf, SpellsFirst, SpellsMore, SpelledWithin}
 use Rattle.json_exact.specs.Refusals.{depth_limit, CanGoOn}
 use Rattle.json_exact.specs.declared.error.JsonError.{JsonError}
 use Rattle.json_exact.specs.declared.error.JsonError.TheVariants.{TooDeep, OutOfMemory}

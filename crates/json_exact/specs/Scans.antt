@@ -1,7 +1,7 @@
 -- What the readers of blanks, words, numbers and strings say of the bytes that they pass.
 -- This is what the reader keeps, and no caller needs it.
-use Rattle.std.specs.Prelude.{◌≡◌, ◌≢◌, ℕ, suc, ◌+◌, ◌-◌, ◌<◌, ◌≤◌, ◌⊎◌, List, [], ◌∷◌, ◌++◌, length, take, drop, slice_range, slice_index, Bool, true, false, cond, ◌||◌, ◌==◌, IsTrue, IsFalse}
-use Rattle.json_exact.specs.Characters.{Way, refused, whole, one, tail, step, steps, character, within, is_hex, is_d, is_low_digit, AreCharacters}
+use Rattle.std.specs.Prelude.{◌≡◌, ◌≢◌, ℕ, suc, ◌+◌, ◌-◌, ◌<◌, ◌≤◌, ◌⊎◌, List, [], ◌∷◌, length, take, slice_range, slice_index, Bool, true, false, cond, ◌||◌, ◌==◌}
+use Rattle.json_exact.specs.Characters.{Way, refused, whole, one, tail, steps, within, is_hex, is_d, is_low_digit, AreCharacters}
 use Rattle.json_exact.specs.Numbers.{is_digit, is_mark}
 use Rattle.json_exact.specs.JsonText.{is_blank, AreBlanks}
 use Rattle.json_exact.specs.Refusals.{IsSurrogate}

@@ -1,6 +1,6 @@
 -- The spans of what stands in brackets are in order and inside those of the brackets, and a number is the slice of its span.
 use Rattle.std.specs.Prelude.{◌≡◌, ℕ, suc, ◌<◌, ◌≤◌, List, Option, Some, None, slice_range}
-use Rattle.json_exact.specs.Json.{Leaf, word, number, string, Bracket, Name, Json, leaf, nest, Parts, no_parts, part, ends_at}
+use Rattle.json_exact.specs.Json.{Leaf, word, number, string, Name, Json, leaf, nest, Parts, no_parts, part, ends_at}
 
 abbrev pub IsSlice : List ℕ → Leaf → ℕ → ℕ → Type 0
 IsSlice text (word w) from to = Unit {0}

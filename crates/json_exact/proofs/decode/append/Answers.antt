@@ -1,4 +1,3 @@
-use Rattle.std.proofs.Common.{arith, ◌∙◌, sym, ap, refl, ◌++◌, drop, List, ℕ}
 use Rattle.json_exact.proofs.Fronts.{all_appended}
 use Rattle.json_exact.proofs.decode.append.Goals as goal
 

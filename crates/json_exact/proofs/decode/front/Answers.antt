@@ -1,7 +1,6 @@
-use Rattle.std.proofs.Common.{arith, ◌∙◌, sym, ap, refl, ◌++◌, ◌∷◌, [], ℕ, drop, false, true, ◌≡◌, get_or}
-use Rattle.std.proofs.lemmas.Bool.{and_left, and_right, and_from, lt-leb, le-leb}
+use Rattle.std.proofs.Common.{arith, ◌∙◌, sym, ap, refl, ◌++◌, ◌∷◌, [], ℕ, drop, false, ◌≡◌, get_or}
 use Rattle.std.specs.Char.{encode_utf8}
-use Rattle.json_exact.specs.Characters.{decoded, code_unit, is_high_surrogate, short_value, surrogate_pair}
+use Rattle.json_exact.specs.Characters.{decoded, code_unit, is_high_surrogate, surrogate_pair}
 use Rattle.json_exact.proofs.Fronts.{fronts_of, front_plain, front_cut, front_short, front_u_cut, front_unit, front_half_cut, front_pair, low_unit, high_unit, is_high, pair_is}
 use Rattle.json_exact.proofs.decode.front.Goals as goal
 use Rattle.json_exact.proofs.decode.front.Goals.{then-unit-lt55296-via-then-unit-lt55296, then-unit-lt55296-via-else-unit-lt55296+then-unit-gt56319}

@@ -1,4 +1,4 @@
-use Rattle.std.proofs.Common.{arith, ◌∙◌, sym, ap, refl, subst, ◌≡◌, ℕ, List, drop, true, false, length, ◌≤◌}
+use Rattle.std.proofs.Common.{arith, ◌∙◌, sym, ap, subst, ◌≡◌, ℕ, List, drop, true, false, length, ◌≤◌}
 use Rattle.std.proofs.lemmas.List.{length-drop}
 use Rattle.json_exact.specs.Bytes.{Fronts, begins_with, piece_bytes}
 use Rattle.json_exact.proofs.Fronts.{spelled_on, not_spelled, all_spelled}

@@ -1,4 +1,4 @@
-use Rattle.std.proofs.Common.{arith, sym, subst, refl, ◌∙◌, inl, inr, ◌⊎◌, ◌≡◌, true, get_or}
+use Rattle.std.proofs.Common.{sym, ◌∙◌, inl, inr, ◌⊎◌, ◌≡◌, true, get_or}
 use Rattle.json_exact.specs.Json.{null_word, true_word, false_word}
 use Rattle.json_exact.specs.Numbers.{is_digit}
 use Rattle.json_exact.proofs.Turns.{leaf_string, leaf_number, leaf_word}

@@ -1,5 +1,4 @@
-use Rattle.std.proofs.Common.{arith, sym, ◌∙◌, ap, refl}
-use Rattle.std.proofs.lemmas.Bool.{both_ways}
+use Rattle.std.proofs.Common.{arith, sym, ◌∙◌}
 use Rattle.json_exact.proofs.Scanning.{written_step, not_misplaced}
 use Rattle.json_exact.proofs.scan.number_end.Goals as goal
 

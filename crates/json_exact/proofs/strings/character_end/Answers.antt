@@ -1,6 +1,6 @@
-use Rattle.std.proofs.Common.{arith, ◌∙◌, sym, ap, refl, get_or, cond, eqb, true, ◌≡◌, ◌||◌}
-use Rattle.std.proofs.lemmas.Bool.{eq-eqb, ne_eqb, or_left, or_right}
-use Rattle.json_exact.specs.Characters.{character, escape, one, tail, within, is_plain, whole, refused}
+use Rattle.std.proofs.Common.{◌∙◌, sym, ap, refl, get_or, eqb, true, ◌≡◌, ◌||◌}
+use Rattle.std.proofs.lemmas.Bool.{ne_eqb, or_left, or_right}
+use Rattle.json_exact.specs.Characters.{character, escape, one, tail, within, is_plain, whole}
 use Rattle.json_exact.proofs.Scanning.{character_on, on, off}
 use Rattle.json_exact.proofs.strings.character_end.Goals as goal
 use Rattle.json_exact.proofs.strings.character_end.Goals.{then-within-2, else-within-2}

@@ -1,4 +1,4 @@
-use Rattle.std.proofs.Common.{arith, ◌∙◌, sym, ap, refl, get_or, cond}
+use Rattle.std.proofs.Common.{arith, ◌∙◌, sym, refl, get_or, cond}
 use Rattle.json_exact.specs.Characters.{digits, surrogate, one, two_digits, whole, refused, is_d, is_hex}
 use Rattle.json_exact.proofs.Scanning.{way_on, stop_here, on, off}
 use Rattle.json_exact.proofs.strings.digits_end.Goals as goal

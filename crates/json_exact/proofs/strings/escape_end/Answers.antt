@@ -1,4 +1,4 @@
-use Rattle.std.proofs.Common.{arith, ◌∙◌, sym, ap, refl, get_or, ◌<◌, length, eqb}
+use Rattle.std.proofs.Common.{arith, ◌∙◌, sym, refl, get_or, eqb}
 use Rattle.std.proofs.lemmas.Bool.{eq-eqb, ne_eqb}
 use Rattle.json_exact.specs.Characters.{escape, digits, whole, refused, is_short}
 use Rattle.std.proofs.Common.{cond}

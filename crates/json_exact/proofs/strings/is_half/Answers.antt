@@ -1,7 +1,5 @@
-use Rattle.std.proofs.Common.{arith, ◌∙◌, sym, ap, refl, get_or, cond, true, false, ◌≡◌, ◌≤◌, ◌+◌, inl, inr, leb}
+use Rattle.std.proofs.Common.{arith, ◌∙◌, sym, refl, false, inl, inr}
 use Rattle.std.proofs.lemmas.Bool.{both_ways, le-leb, leb-true}
-use Rattle.json_exact.specs.Characters.{is_d, is_low_digit, is_high_digit}
-use Rattle.json_exact.specs.Scans.{IsHalf}
 use Rattle.json_exact.proofs.Scanning.{half_if, half_only, Half}
 use Rattle.json_exact.proofs.strings.is_half.Goals as goal
 use Rattle.json_exact.proofs.strings.is_half.Goals.{then-stop-text-via-then-stop-text, then-stop-text-via-else-stop-text+then-stop-at-lt3, then-text-at-ne92-via-then-text-at-ne92, then-text-at-ne92-via-else-text-at-ne92+then-text-at-ne117, then-text-at-ne92-via-else-text-at-ne92+else-text-at-ne117+then-not-is_d}

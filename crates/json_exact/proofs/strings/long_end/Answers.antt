@@ -1,5 +1,5 @@
-use Rattle.std.proofs.Common.{arith, ◌∙◌, sym, ap, refl, get_or, cond, eqb}
-use Rattle.std.proofs.lemmas.Bool.{eq-eqb, ne_eqb}
+use Rattle.std.proofs.Common.{◌∙◌, sym, ap, refl, get_or, eqb}
+use Rattle.std.proofs.lemmas.Bool.{ne_eqb}
 use Rattle.json_exact.specs.Characters.{one, tail, within, whole, refused}
 use Rattle.json_exact.specs.Scans.{four_bytes}
 use Rattle.json_exact.proofs.Scanning.{character_on, character_stops_here, on, off}

@@ -1,4 +1,4 @@
-use Rattle.std.proofs.Common.{arith, ◌∙◌, sym, ap, get_or}
+use Rattle.std.proofs.Common.{arith, ◌∙◌, sym, get_or}
 use Rattle.json_exact.proofs.Scanning.{row_stops, row_inside, row_more, row_less, steps_step}
 use Rattle.json_exact.specs.Scans.{way_of}
 use Rattle.json_exact.proofs.strings.row_end.Goals as goal

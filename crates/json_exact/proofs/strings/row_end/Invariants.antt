@@ -1,4 +1,4 @@
-use Rattle.std.proofs.Common.{length, drop, ℕ, ◌+◌, ◌<◌, ◌≤◌, ◌≡◌, ◌≢◌}
+use Rattle.std.proofs.Common.{length, drop, ℕ, ◌<◌, ◌≤◌, ◌≡◌, ◌≢◌}
 use Rattle.std.specs.Prelude.{slice_range}
 use Rattle.json_exact.specs.Characters.{steps, whole}
 use Rattle.json_exact.specs.Scans.{way_of}

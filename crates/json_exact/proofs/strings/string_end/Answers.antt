@@ -1,6 +1,6 @@
-use Rattle.std.proofs.Common.{arith, ◌∙◌, sym, ap, refl, get_or, inl, inr, ◌≤◌, ◌<◌}
+use Rattle.std.proofs.Common.{arith, ◌∙◌, sym, refl, inl, inr}
 use Rattle.std.proofs.lemmas.Bool.{both_ways}
-use Rattle.json_exact.proofs.Scanning.{plain_on, characters_on, string_stops_at, string_stops_end}
+use Rattle.json_exact.proofs.Scanning.{plain_on, characters_on, string_stops_at}
 use Rattle.json_exact.proofs.strings.string_end.Goals as goal
 
 pub characters-preserved-then-is_plain : goal.characters-preserved-then-is_plain

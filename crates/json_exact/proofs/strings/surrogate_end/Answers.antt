@@ -1,4 +1,4 @@
-use Rattle.std.proofs.Common.{arith, ◌∙◌, sym, ap, refl, get_or, cond}
+use Rattle.std.proofs.Common.{arith, ◌∙◌, sym, refl, get_or, cond}
 use Rattle.json_exact.specs.Characters.{surrogate, two_digits, low_half, whole, refused, within, is_high_digit}
 use Rattle.json_exact.proofs.Scanning.{way_on, stop_here, on, off}
 use Rattle.json_exact.proofs.strings.surrogate_end.Goals as goal

@@ -1,9 +1,8 @@
-use Rattle.std.proofs.Common.{arith, sym, ◌∙◌, ap, refl, ◌≡◌, ◌∷◌, ◌<◌, length, List}
+use Rattle.std.proofs.Common.{arith, sym, ◌∙◌, ap, ◌≡◌, ◌∷◌, ◌<◌, length, List}
 use Rattle.std.proofs.lemmas.Bool.{eqb-true, eqb-false}
 use Rattle.json_exact.specs.Json.{square, values}
-use Rattle.json_exact.specs.Handles.{all_parts, first_value, items_left, json_of, own_cells, other_cells}
+use Rattle.json_exact.specs.Handles.{all_parts, first_value, other_cells}
 use Rattle.json_exact.specs.declared.cells.Cell.{Cell}
-use Rattle.json_exact.specs.declared.handles.Items.{Items}
 use Rattle.json_exact.proofs.Decoding.{one_left, nothing_left, left_over}
 use Rattle.json_exact.proofs.handles.ItemsIterator.next.Goals as goal
 

@@ -1,4 +1,4 @@
-use Rattle.std.proofs.Common.{arith, sym, ◌∙◌, ap, refl, Some, List}
+use Rattle.std.proofs.Common.{sym, ◌∙◌, ap, Some, List}
 use Rattle.json_exact.specs.Handles.{first_value, all_parts, own_cells, other_cells}
 use Rattle.json_exact.specs.Json.{curly, first_named}
 use Rattle.json_exact.specs.Bytes.{same_bytes}

@@ -1,4 +1,4 @@
-use Rattle.std.proofs.Common.{arith, sym, subst, refl, ◌∙◌}
+use Rattle.std.proofs.Common.{sym, subst, ◌∙◌}
 use Rattle.json_exact.specs.Refusals.{IsRefused}
 use Rattle.json_exact.proofs.Onward.{first_over}
 use Rattle.json_exact.proofs.Calls.{first_closes, first_names, first_items}

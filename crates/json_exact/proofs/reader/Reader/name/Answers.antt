@@ -1,4 +1,4 @@
-use Rattle.std.proofs.Common.{arith, sym, subst, refl, ◌∙◌}
+use Rattle.std.proofs.Common.{sym, subst}
 use Rattle.json_exact.specs.Refusals.{IsRefused}
 use Rattle.json_exact.proofs.Onward.{name_over, name_on}
 use Rattle.json_exact.proofs.reader.Reader.name.Goals as goal

@@ -1,4 +1,4 @@
-use Rattle.std.proofs.Common.{arith, sym, subst, refl, ◌∙◌}
+use Rattle.std.proofs.Common.{sym, subst, refl}
 use Rattle.json_exact.specs.Json.{square, curly}
 use Rattle.json_exact.specs.Refusals.{IsRefused}
 use Rattle.json_exact.proofs.Turns.{open_turn, top_below}
