@@ -36,6 +36,7 @@ fn hex_value(b: u8) -> u32
     }
 }
 
+/// The number of four hexadecimal digits.
 fn code_unit(a: u8, b: u8, c: u8, d: u8) -> u32
     ensures value { result ≡ code_unit a b c d }
     ensures bound { result ≤ 733992 }
@@ -43,6 +44,7 @@ fn code_unit(a: u8, b: u8, c: u8, d: u8) -> u32
     hex_value(a) * 4096 + (hex_value(b) * 256 + (hex_value(c) * 16 + hex_value(d)))
 }
 
+/// What an escape of two bytes stands for, by its letter.
 fn short_value(b: u8) -> u8
     ensures { result ≡ short_value b }
 {
@@ -169,6 +171,7 @@ pub(crate) fn append(raw: &[u8], out: &mut Vec<u8>) -> Result<(), AllocError>
     Ok(())
 }
 
+/// Whether the text begins with these bytes.
 fn begins_with(text: &[u8], front: &[u8]) -> bool
     ensures value { result ≡ begins_with front.now text.now }
     ensures fits { IsTrue result → length front.now ≤ length text.now }

@@ -13,7 +13,7 @@ use crate::error::JsonError;
 use crate::{decode, reader};
 use std::alloc::{AllocError, Global};
 
-/// A text that was read.
+/// A text that was read: a cell for each value and each name, beside the text itself.
 #[derive(Drop)]
 pub struct Json<'t> {
     text: &'t [u8],
@@ -41,7 +41,8 @@ pub struct Span {
     pub end: u32,
 }
 
-/// Reads the one value of a text (RFC 8259, in UTF-8), with brackets at most 64 deep.
+/// Reads the one value of a text (RFC 8259, in UTF-8), with brackets at most 64 deep. The text has at most
+/// 33,554,432 bytes, so that its places fit. It is read once, and nothing of it is copied.
 pub fn parse<'t>(alloc: Global, text: &'t [u8]) -> Result<Json<'t>, JsonError>
     requires { length text.now ≤ 33554432 }
     // What is read is the value that the text spells,
@@ -115,18 +116,21 @@ impl<'j, 't> Value<'j, 't> {
         &self.cells[1..1 + end]
     }
 
+    /// Whether the value is the word `null`.
     pub fn is_null(self) -> bool
         ensures { result ≡ is_null (json_of self.entry) }
     {
         self.kind() == Kind::Null
     }
 
+    /// Whether the value is a list, in square brackets.
     pub fn is_list(self) -> bool
         ensures { result ≡ is_list (json_of self.entry) }
     {
         self.kind() == Kind::List
     }
 
+    /// Whether the value is an object, in curly brackets.
     pub fn is_object(self) -> bool
         ensures { result ≡ is_object (json_of self.entry) }
     {

@@ -29,6 +29,7 @@ impl Class {
     }
 }
 
+/// Whether a byte is between the two, both among them.
 fn within(low: u8, high: u8, b: u8) -> bool
     ensures { result ≡ within low high b }
 {
@@ -59,12 +60,14 @@ fn is_low_digit(b: u8) -> bool
     (67 <= b && b <= 70) || (99 <= b && b <= 102)
 }
 
+/// Whether a byte is a whole character that stands for itself.
 fn is_plain(b: u8) -> bool
     ensures { result ≡ is_plain b }
 {
     (32 <= b && b <= 33) || (35 <= b && b <= 91) || (93 <= b && b <= 127)
 }
 
+/// Whether a byte is the letter of an escape of two bytes.
 fn is_short(b: u8) -> bool
     ensures { result ≡ is_short b }
 {

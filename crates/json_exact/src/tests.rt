@@ -237,6 +237,9 @@ fn text_of(alloc: Global, value: Value<'_, '_>, name: &[u8]) -> Result<Vec<u8>, 
     Ok(out)
 }
 
+/// Takes what may be sent to other threads and shared with them.
+fn crosses_threads<T: Send + Sync>(_value: &T) {}
+
 #[test]
 fn parts(rt: HostRuntime) -> Result<(), Fail> {
     let Ok(json) = parse(
@@ -246,6 +249,9 @@ fn parts(rt: HostRuntime) -> Result<(), Fail> {
         panic!(rt; "refused");
     };
     let root = json.root();
+    crosses_threads(&json);
+    crosses_threads(&root);
+    crosses_threads(&root.items());
     assert!(rt; root.is_object() && !root.is_list() && !root.is_null());
     let list = root.get(b"a").ok_or("a")?;
     assert!(rt; list.is_list());
