@@ -140,7 +140,7 @@ spells_firm n levels (nest b from to ps) text rest h = subst Firm (sym h.3.1) (o
 
 -- ---- passing them
 
-part_pass : (n : ℕ) (b : Bracket) (name : Option Name) (spells : List ℕ → List ℕ → Type 0) → ((s t : List ℕ) → spells s t → Firm s)
+pub part_pass : (n : ℕ) (b : Bracket) (name : Option Name) (spells : List ℕ → List ℕ → Type 0) → ((s t : List ℕ) → spells s t → Firm s)
     → (ws text rest : List ℕ) → AreBlanks ws → SpellsPart n b name spells (ws ++ text) rest → SpellsPart n b name spells text rest
 part_pass n square None spells firm ws text rest h p = (p.0, blanks_pass ws text p.0 h (firm p.0 rest p.2) p.1, p.2)
 part_pass n square (Some name) spells firm ws text rest h p = p

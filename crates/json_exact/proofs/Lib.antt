@@ -19,3 +19,4 @@ pub mod Decoding
 pub mod Fronts
 pub mod Whole
 pub mod Placed
+pub mod OneValue

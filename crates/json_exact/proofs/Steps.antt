@@ -27,7 +27,7 @@ opening_starts curly (number ds) (inl h) = eqb-false 123 45 refl h
 opening_starts curly (number ds) (inr h) = both_ways false refl h
 opening_starts curly (string t) h = eqb-false 123 34 refl h
 
-opening_same : (a b : Bracket) → opening a ≡ opening b → a ≡ b
+pub opening_same : (a b : Bracket) → opening a ≡ opening b → a ≡ b
 opening_same square square e = refl
 opening_same square curly e = absurd (eqb-false 91 123 refl e)
 opening_same curly square e = absurd (eqb-false 123 91 refl e)
@@ -80,7 +80,7 @@ open_too_deep d n fs b t v le (nest k a z ps, s, m, bl, sp, bh) = let lv : level
 
 -- ---- a closing bracket
 
-comma_closing : (b : Bracket) → 44 ≡ closing b → ⊥
+pub comma_closing : (b : Bracket) → 44 ≡ closing b → ⊥
 comma_closing square e = eqb-false 44 93 refl e
 comma_closing curly e = eqb-false 44 125 refl e
 
@@ -119,7 +119,7 @@ value_not_closing n d (nest k from to ps) b t rest s at sp =
     let first : closing b ≡ opening k = cc in
     opening_closing b k first
 
-part_not_closing : (n d : ℕ) (b : Bracket) (name : Option Name) (v : Json) (t rest : List ℕ) → SpellsPart n b name (Spells n d v) (closing b ∷ t) rest → ⊥
+pub part_not_closing : (n d : ℕ) (b : Bracket) (name : Option Name) (v : Json) (t rest : List ℕ) → SpellsPart n b name (Spells n d v) (closing b ∷ t) rest → ⊥
 part_not_closing n d square None v t rest p = value_not_closing n d v square t rest p.0 (firm_front 93 t p.0 refl p.1) p.2
 part_not_closing n d square (Some name) v t rest p = p
 part_not_closing n d curly None v t rest p = p
@@ -282,7 +282,7 @@ clear_front_by : (bs text s : List ℕ) → AreBlanks bs → text ≡ bs ++ s �
 clear_front_by [] text s h e c = subst (Counts no_number) (sym e) c
 clear_front_by (b ∷ bs) text s h e c = subst (Counts no_number) (sym e) (in_number_firm b h.0)
 
-clear_front : (text s : List ℕ) → Counts no_number s → Blanks text s → Counts no_number text
+pub clear_front : (text s : List ℕ) → Counts no_number s → Blanks text s → Counts no_number text
 clear_front text s c h = clear_front_by h.0 text s h.1 h.2 c
 
 -- behind a value no byte of a number stands

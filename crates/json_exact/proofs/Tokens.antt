@@ -26,7 +26,7 @@ use Rattle.json_exact.proofs.Agreeing.{Halts, bad_here, TakesString, string_stop
 
 -- ---- which rests count
 
-blanks_same : (t : List ℕ) (c : ℕ) (s r : List ℕ) → is_blank c ≡ false → Firm r → Blanks t (c ∷ s) → Blanks t r → r ≡ c ∷ s
+pub blanks_same : (t : List ℕ) (c : ℕ) (s r : List ℕ) → is_blank c ≡ false → Firm r → Blanks t (c ∷ s) → Blanks t r → r ≡ c ∷ s
 blanks_same t c s r f g h k =
     firm_front c s r f (blanks_pass h.0 (c ∷ s) r h.1 g (subst (λ (q : List ℕ). Blanks q r) h.2 k))
 

@@ -1,5 +1,5 @@
 // A text that was read, and handles on its values.
-ghost use Rattle.std.specs.Prelude.{◌≡◌, ◌≢◌, ◌⊎◌, ◌+◌, ◌-◌, ◌≤◌, ◌++◌, length, drop, true, false, None, Some, IfOk, IfErr, OnErr, MatchOption, MatchResult, slice_range};
+ghost use Rattle.std.specs.Prelude.{ℕ, List, ◌≡◌, ◌≢◌, ◌⊎◌, ◌+◌, ◌-◌, ◌≤◌, ◌++◌, length, drop, true, false, None, Some, IfOk, IfErr, OnErr, MatchOption, MatchResult, slice_range};
 ghost use Rattle.std.specs.Option.{option_map};
 ghost use Rattle.json_exact.specs.Json.{Json as JsonValue, begins_at, ends_at, items, member, number_of, text_of, is_null, is_list, is_object};
 ghost use Rattle.json_exact.specs.JsonText.{SpelledWithin};
@@ -61,6 +61,11 @@ pub fn parse<'t>(alloc: Global, text: &'t [u8]) -> Result<Json<'t>, JsonError>
         Err(refused) => Err(refused),
     }
 }
+
+/// No text has two values, however deep brackets may nest: a law of the definitions alone.
+pub fn one_value()
+    ensures { (levels more : ℕ) (text : List ℕ) (v w : JsonValue) → SpelledWithin levels text v → SpelledWithin more text w → v ≡ w }
+{}
 
 /// The bytes from one place to another, as far as the text has them.
 fn part(text: &[u8], from: usize, to: usize) -> &[u8]

@@ -11,7 +11,7 @@ mod scan;
 mod strings;
 
 pub use error::JsonError;
-pub use handles::{Items, Json, Span, Value, parse};
+pub use handles::{Items, Json, Span, Value, one_value, parse};
 
 #[cfg(test)]
 mod tests;
