@@ -1,9 +1,9 @@
 -- A text has one value at most.
-use Rattle.std.proofs.Common.{◌≡◌, ◌≢◌, ℕ, zero, suc, ◌+◌, ◌-◌, ◌<◌, ◌≤◌, List, [], ◌∷◌, ◌++◌, length, drop, refl, sym, ◌∙◌, ap, subst, arith, Option, Some, None}
-use Rattle.json_exact.specs.Json.{Word, Leaf, word, number, string, Bracket, square, curly, Name, Json, leaf, nest, Parts, no_parts, part}
-use Rattle.json_exact.specs.JsonText.{is_blank, AreBlanks, Blanks, SpelledWithin, IsLeaf, SpellsLeaf, Spells, SpellsFirst, SpellsMore, SpellsPart, opening, closing}
-use Rattle.json_exact.specs.Reading.{Limit, any, no_number, no_closing, Counts}
-use Rattle.json_exact.proofs.Blanks.{Firm, leaf_starts, Starts, closing_firm, spells_firm, spells_leaf_firm, part_pass}
+use Rattle.std.proofs.Common.{◌≡◌, ℕ, ◌+◌, List, [], ◌∷◌, ◌++◌, length, drop, refl, sym, ◌∙◌, ap, subst, arith, Option, Some, None}
+use Rattle.json_exact.specs.Json.{Leaf, word, number, string, Bracket, square, curly, Name, Json, leaf, nest, Parts, no_parts, part}
+use Rattle.json_exact.specs.JsonText.{Blanks, SpelledWithin, SpellsLeaf, Spells, SpellsFirst, SpellsMore, SpellsPart, opening, closing}
+use Rattle.json_exact.specs.Reading.{no_number, Counts}
+use Rattle.json_exact.proofs.Blanks.{Firm, leaf_starts, closing_firm, spells_firm, spells_leaf_firm, part_pass}
 use Rattle.json_exact.proofs.Steps.{heads, part_not_closing, clear_front, closing_clear, comma_closing, opening_same}
 use Rattle.json_exact.proofs.Leaves.{class, class_starts, class_at, leaf_same, limit_of, leaf_not_opening, name_is}
 use Rattle.json_exact.proofs.Tokens.{blanks_same}
