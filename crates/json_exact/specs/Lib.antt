@@ -1,0 +1,10 @@
+pub mod Json
+pub mod Characters
+pub mod Numbers
+pub mod JsonText
+pub mod Refusals
+pub mod Spans
+pub mod Bytes
+pub mod Handles
+pub mod Scans
+pub mod Reading
