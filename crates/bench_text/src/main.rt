@@ -1,7 +1,7 @@
 // Reads a text, and prints how many bytes it has and how many parts its root.
 //
-// Without words it reads a small text of its own a few times. With `plain FILE` it adds the file's bytes up, and with
-// `sexpr FILE` it reads the file as one S-expression.
+// Without words it reads small texts of its own a few times. With `plain FILE` it adds the file's bytes up, with
+// `sexpr FILE` it reads the file as one S-expression, and with `json FILE` as JSON.
 #![tactic(auto)]
 
 use sexpr_read::parse_one;
@@ -35,6 +35,19 @@ fn parts(alloc: Global, text: &[u8]) -> Option<u64> {
     Some(count)
 }
 
+/// How many items the list of the JSON text has.
+fn items(alloc: Global, text: &[u8]) -> Option<u64> {
+    if text.len() > LIMIT {
+        return None;
+    }
+    let json = json_exact::parse(alloc, text).ok()?;
+    let mut count = 0u64;
+    for _ in json.root().items() {
+        count = count.wrapping_add(1);
+    }
+    Some(count)
+}
+
 fn show(rt: &impl Print, kind: &str, bytes: usize, number: Option<u64>) -> anyhow::Result<()> {
     match number {
         Some(number) => println!(rt; "{kind} {bytes}: {number}")?,
@@ -49,13 +62,16 @@ fn stored<R: Print + AllocGlobal>(rt: &R) -> anyhow::Result<()> {
     for _ in 0..3 {
         show(rt, "sexpr", text.len(), parts(rt.alloc(), text))?;
     }
-    show(rt, "sexpr", 4, parts(rt.alloc(), b"(()x"))
+    show(rt, "sexpr", 4, parts(rt.alloc(), b"(()x"))?;
+    show(rt, "json", 15, items(rt.alloc(), b"[1, {}, \"a\", 2]"))?;
+    show(rt, "json", 3, items(rt.alloc(), b"[1,"))
 }
 
 fn bench<R: Runtime + Print + AllocGlobal>(rt: &R, kind: &str, path: &str) -> anyhow::Result<()> {
     let text = fs::read(rt, path)?;
     match kind {
         "sexpr" => show(rt, kind, text.len(), parts(rt.alloc(), &text)),
+        "json" => show(rt, kind, text.len(), items(rt.alloc(), &text)),
         _ => show(rt, "plain", text.len(), Some(checksum(&text))),
     }
 }
