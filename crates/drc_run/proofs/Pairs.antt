@@ -5,8 +5,8 @@ use Rattle.std.proofs.lemmas.List.Elements.{All-head, All-nil, Contains-append_r
 use Rattle.drc_run.specs.declared.violation.Violation.{Violation}
 use Rattle.drc_run.specs.declared.violation.Kind.{Kind}
 use Rattle.drc_run.specs.declared.violation.Kind.TheVariants.{Short, Clearance}
-use Rattle.drc_run.specs.Board.{PlainVia}
-use Rattle.drc_run.specs.Copper.{through, MeetOn, KeepOn, AreApartOn, IsGap}
+use Rattle.drc_run.specs.Board.{PlainVia, both_layers}
+use Rattle.drc_run.specs.Copper.{MeetOn, KeepOn, AreApartOn, IsGap}
 use Rattle.drc_run.specs.Violations.{clearance, IsFirstLayer, DoShort, IsViolation}
 
 -- the first layer of all, where P holds of it
@@ -23,11 +23,11 @@ first_here l ls P p = record { before = []; after = ls; among = refl; holds = p;
 among_is : (ls : List ℕ) (P : ℕ → Type 0) (layer : ℕ) → IsFirstLayer ls P layer → Contains ls layer
 among_is ls P layer f = subst (λ l. Contains l layer) (sym f.among) (Contains-append_right f.before (layer ∷ f.after) layer (0, omega arith, refl))
 
-pub front : Contains through 0
+pub front : Contains both_layers 0
 front = (0, omega arith, refl)
 
 -- two of one net break nothing
-pub same_net : (a b : PlainVia) (v : Violation) → a.net ≡ b.net → IsViolation through a b v → ⊥
+pub same_net : (a b : PlainVia) (v : Violation) → a.net ≡ b.net → IsViolation both_layers a b v → ⊥
 same_net a b v e (inl s) = s.nets.differ e
 same_net a b v e (inr n) = n.nets e
 
@@ -36,16 +36,16 @@ same_net a b v e (inr n) = n.nets e
 pub nets_differ : (a b : PlainVia) (m n : ℕ) → m ≡ a.net → n ≡ b.net → (m ≡ n → ⊥) → a.net ≢ b.net
 nets_differ a b m n e f differ same = differ (e ∙ (same ∙ sym f))
 
-pub shorts : (a b : PlainVia) (y : Bool) → a.net ≢ b.net → a.net ≢ 0 → b.net ≢ 0 → ((layer : ℕ) → Contains through layer → (IsTrue y ↔ MeetOn layer a b)) → IsTrue y ↔ DoShort through a b
+pub shorts : (a b : PlainVia) (y : Bool) → a.net ≢ b.net → a.net ≢ 0 → b.net ≢ 0 → ((layer : ℕ) → Contains both_layers layer → (IsTrue y ↔ MeetOn layer a b)) → IsTrue y ↔ DoShort both_layers a b
 shorts a b y differ first second meet = (
   λ h. record { nets = record { differ = differ; first = first; second = second }; layer = 0; among = front; meet = (meet 0 front).0 h },
   λ d. (meet d.layer d.among).1 d.meet,
 )
 
-pub kept : (a b : PlainVia) (v : Violation) → ((layer : ℕ) → Contains through layer → AreApartOn layer a b clearance)
-    → ((layer : ℕ) → Contains through layer → MeetOn layer a b → ⊥) → IsViolation through a b v → ⊥
-kept a b v far none (inl s) = none v.layer (among_is through (λ l. MeetOn l a b) v.layer s.where_first) s.where_first.holds
-kept a b v far none (inr n) = n.where_first.holds (inr (far v.layer (among_is through (λ l. ¬ (KeepOn l a b clearance)) v.layer n.where_first)))
+pub kept : (a b : PlainVia) (v : Violation) → ((layer : ℕ) → Contains both_layers layer → AreApartOn layer a b clearance)
+    → ((layer : ℕ) → Contains both_layers layer → MeetOn layer a b → ⊥) → IsViolation both_layers a b v → ⊥
+kept a b v far none (inl s) = none v.layer (among_is both_layers (λ l. MeetOn l a b) v.layer s.where_first) s.where_first.holds
+kept a b v far none (inr n) = n.where_first.holds (inr (far v.layer (among_is both_layers (λ l. ¬ (KeepOn l a b clearance)) v.layer n.where_first)))
 
 -- a violation by its fields
 built : (v : Violation) (kind : Kind) (layer : ℕ) (value gap : ℤ) → v.kind ≡ kind → v.layer ≡ layer → v.value ≡ value → v.gap ≡ gap
@@ -56,7 +56,7 @@ built v kind layer value gap e f g h =
     ∙ (ap (λ x. record { kind = kind; layer = layer; value = x; gap = v.gap }) g
     ∙ ap (λ x. record { kind = kind; layer = layer; value = value; gap = x }) h)))
 
-pub short_found : (a b : PlainVia) (d : DoShort through a b) → MeetOn 0 a b → IsViolation through a b (record { kind = Short; layer = 0; value = pos 0; gap = pos 0 })
+pub short_found : (a b : PlainVia) (d : DoShort both_layers a b) → MeetOn 0 a b → IsViolation both_layers a b (record { kind = Short; layer = 0; value = pos 0; gap = pos 0 })
 short_found a b d meet = inl (record {
   kind = refl;
   nets = d.nets;
@@ -65,7 +65,7 @@ short_found a b d meet = inl (record {
   gap = refl;
 })
 
-pub short_only : (a b : PlainVia) (v : Violation) → DoShort through a b → MeetOn 0 a b → IsViolation through a b v
+pub short_only : (a b : PlainVia) (v : Violation) → DoShort both_layers a b → MeetOn 0 a b → IsViolation both_layers a b v
     → Some (record { kind = Short; layer = 0; value = pos 0; gap = pos 0 }) ≡ Some v
 short_only a b v d meet (inr n) = absurd (n.no_short d)
 short_only a b v d meet (inl s) =
@@ -101,8 +101,8 @@ not_kept layer a b near (inl none) = not_zero none
     not_zero e = absurd (omega (arith, ints))
 not_kept layer a b near (inr far) = near far
 
-pub near_found : (a b : PlainVia) (value gap : ℤ) → a.net ≢ b.net → ¬ (AreApartOn 0 a b clearance) → ¬ (DoShort through a b) → value ≡ clearance
-    → IsGap (KeepOn 0 a b) clearance gap → IsViolation through a b (record { kind = Clearance; layer = 0; value = value; gap = gap })
+pub near_found : (a b : PlainVia) (value gap : ℤ) → a.net ≢ b.net → ¬ (AreApartOn 0 a b clearance) → ¬ (DoShort both_layers a b) → value ≡ clearance
+    → IsGap (KeepOn 0 a b) clearance gap → IsViolation both_layers a b (record { kind = Clearance; layer = 0; value = value; gap = gap })
 near_found a b value gap nets near none is least = inr (record {
   kind = refl;
   nets = nets;
@@ -112,10 +112,10 @@ near_found a b value gap nets near none is least = inr (record {
   gap = least;
 })
 
-pub near_only : (a b : PlainVia) (value gap : ℤ) (v : Violation) → ¬ (AreApartOn 0 a b clearance) → ¬ (DoShort through a b) → value ≡ clearance
-    → IsGap (KeepOn 0 a b) clearance gap → IsViolation through a b v → Some (record { kind = Clearance; layer = 0; value = value; gap = gap }) ≡ Some v
+pub near_only : (a b : PlainVia) (value gap : ℤ) (v : Violation) → ¬ (AreApartOn 0 a b clearance) → ¬ (DoShort both_layers a b) → value ≡ clearance
+    → IsGap (KeepOn 0 a b) clearance gap → IsViolation both_layers a b v → Some (record { kind = Clearance; layer = 0; value = value; gap = gap }) ≡ Some v
 near_only a b value gap v near none is least (inl s) =
-    absurd (none (record { nets = s.nets; layer = v.layer; among = among_is through (λ l. MeetOn l a b) v.layer s.where_first; meet = s.where_first.holds }))
+    absurd (none (record { nets = s.nets; layer = v.layer; among = among_is both_layers (λ l. MeetOn l a b) v.layer s.where_first; meet = s.where_first.holds }))
 near_only a b value gap v near none is least (inr n) =
     let layer : v.layer ≡ 0 = first_is 0 (31 ∷ []) (λ l. ¬ (KeepOn l a b clearance)) v.layer (not_kept 0 a b near) n.where_first in
     let same : v.gap ≡ gap = gap_once (KeepOn 0 a b) clearance v.gap gap (subst (λ l. IsGap (KeepOn l a b) clearance v.gap) layer n.gap) least in

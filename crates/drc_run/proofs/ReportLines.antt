@@ -6,8 +6,7 @@ use Rattle.drc_io.specs.Sinks.{Writes}
 use Rattle.drc_io.proofs.Writing.{Writes-stop}
 use Rattle.drc_run.specs.declared.rows.Row.{Row}
 use Rattle.drc_run.specs.declared.violation.Violation.{Violation}
-use Rattle.drc_run.specs.Board.{PlainVia}
-use Rattle.drc_run.specs.Copper.{through}
+use Rattle.drc_run.specs.Board.{PlainVia, both_layers}
 use Rattle.drc_run.specs.Violations.{IsViolation}
 use Rattle.drc_run.specs.Rows.{IsRow}
 use Rattle.drc_run.specs.RowsBelow.{of_vias}
@@ -25,11 +24,11 @@ small (negsuc n) h k = absurd (omega (arith, ints))
 small_is : (z : ℤ) (n : ℕ) → z ≡ pos n → n ≤ 200000 → unsigned_abs z ≤ 1000000000000
 small_is z n e h = small z (omega (arith, ints)) (omega (arith, ints))
 
-value_of : (a b : PlainVia) (v : Violation) → IsViolation through a b v → unsigned_abs v.value ≤ 1000000000000
+value_of : (a b : PlainVia) (v : Violation) → IsViolation both_layers a b v → unsigned_abs v.value ≤ 1000000000000
 value_of a b v (inl s) = small_is v.value 0 s.value (omega arith)
 value_of a b v (inr n) = small_is v.value 200000 n.value (omega arith)
 
-gap_of : (a b : PlainVia) (v : Violation) → IsViolation through a b v → unsigned_abs v.gap ≤ 1000000000000
+gap_of : (a b : PlainVia) (v : Violation) → IsViolation both_layers a b v → unsigned_abs v.gap ≤ 1000000000000
 gap_of a b v (inl s) = small_is v.gap 0 s.gap (omega arith)
 gap_of a b v (inr n) = small v.gap n.gap.from n.gap.to
 

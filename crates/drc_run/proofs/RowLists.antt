@@ -4,11 +4,10 @@ use Rattle.std.proofs.lemmas.List.Elements.{All-nil, All-push, Contains-append_l
 use Rattle.std.proofs.lemmas.List.Quantifiers.{all_pairs_push}
 use Rattle.std.proofs.lemmas.Option.{slice_get_within}
 use Rattle.drc_run.specs.declared.rows.Row.{Row}
-use Rattle.drc_run.specs.Board.{PlainVia, PlainBoard}
+use Rattle.drc_run.specs.Board.{PlainVia, PlainBoard, both_layers}
 use Rattle.drc_run.specs.Rows.{IsRow, Before, AreRows}
 use Rattle.drc_run.specs.RowsBelow.{IsBelow, AreRowsBelow, of_vias}
 use Rattle.drc_run.specs.declared.violation.Violation.{Violation}
-use Rattle.drc_run.specs.Copper.{through}
 use Rattle.drc_run.specs.Violations.{IsViolation}
 
 pub rows_start : (board : PlainBoard) → AreRowsBelow board 0 0 []
@@ -134,24 +133,24 @@ pub rows_without : (board : PlainBoard) (i j : ℕ) (rows : List Row)
 rows_without board i j rows only r = rows_skip board i j rows (λ other is p q. let same = only other is p q in cc) r
 
 -- the row of a pair, by what its vias break
-pub row_found : (vias : List PlainVia) (i j : ℕ) (a b : PlainVia) (v : Violation) → slice_get vias i ≡ Some a → slice_get vias j ≡ Some b → i < j → IsViolation through a b v
+pub row_found : (vias : List PlainVia) (i j : ℕ) (a b : PlainVia) (v : Violation) → slice_get vias i ≡ Some a → slice_get vias j ≡ Some b → i < j → IsViolation both_layers a b v
     → IsRow (of_vias vias) (record { first = i; second = j; violation = v }) × (i ≡ i) × (j ≡ j)
 row_found vias i j a b v first second ordered is =
     (record { a = a; b = b; first = first; second = second; ordered = ordered; violation = is }, refl, refl)
 
 -- the vias of a row
 its_violation : (vias : List PlainVia) (i j : ℕ) (a b : PlainVia) (row : Row) → slice_get vias i ≡ Some a → slice_get vias j ≡ Some b → IsRow (of_vias vias) row
-    → row.first ≡ i → row.second ≡ j → IsViolation through a b row.violation
+    → row.first ≡ i → row.second ≡ j → IsViolation both_layers a b row.violation
 its_violation vias i j a b row first second is p q =
     let same : is.a ≡ a = some_once (sym is.first ∙ (ap (slice_get vias) p ∙ first)) in
     let other : is.b ≡ b = some_once (sym is.second ∙ (ap (slice_get vias) q ∙ second)) in
-    subst (λ x. IsViolation through x b row.violation) same (subst (λ y. IsViolation through is.a y row.violation) other is.violation)
+    subst (λ x. IsViolation both_layers x b row.violation) same (subst (λ y. IsViolation both_layers is.a y row.violation) other is.violation)
   where
     some_once : {x y : PlainVia} → Some x ≡ Some y → x ≡ y
     some_once e = cc
 
 pub row_only : (vias : List PlainVia) (i j : ℕ) (a b : PlainVia) (v : Violation) → slice_get vias i ≡ Some a → slice_get vias j ≡ Some b
-    → ((w : Violation) → IsViolation through a b w → Some v ≡ Some w)
+    → ((w : Violation) → IsViolation both_layers a b w → Some v ≡ Some w)
     → (row : Row) → IsRow (of_vias vias) row → row.first ≡ i → row.second ≡ j → Some (record { first = i; second = j; violation = v }) ≡ Some row
 row_only vias i j a b v first second only row is p q =
     let same = only row.violation (its_violation vias i j a b row first second is p q) in
@@ -159,7 +158,7 @@ row_only vias i j a b v first second only row is p q =
     ap Some (ap (λ k. record { first = k; second = j; violation = v }) (sym p) ∙ (ap (λ k. record { first = row.first; second = k; violation = v }) (sym q) ∙ ap (λ k. record { first = row.first; second = row.second; violation = k }) violation))
 
 pub row_none : (vias : List PlainVia) (i j : ℕ) (a b : PlainVia) → slice_get vias i ≡ Some a → slice_get vias j ≡ Some b
-    → ((w : Violation) → IsViolation through a b w → None ≡ Some w)
+    → ((w : Violation) → IsViolation both_layers a b w → None ≡ Some w)
     → (row : Row) → IsRow (of_vias vias) row → row.first ≡ i → row.second ≡ j → None ≡ Some row
 row_none vias i j a b first second only row is p q =
     let same = only row.violation (its_violation vias i j a b row first second is p q) in cc

@@ -4,8 +4,8 @@ use Rattle.std.proofs.lemmas.Int.{ints}
 use Rattle.geo_seg.specs.declared.points.Seg.{Seg}
 use Rattle.geo_seg.specs.Points.{Spot, IsOn}
 use Rattle.geo_seg.specs.Nearer.{AreApart, AreWithin}
-use Rattle.drc_run.specs.Board.{PlainVia}
-use Rattle.drc_run.specs.Copper.{IsCore, through, MeetOn, AreApartOn}
+use Rattle.drc_run.specs.Board.{PlainVia, both_layers}
+use Rattle.drc_run.specs.Copper.{IsCore, MeetOn, AreApartOn}
 use Rattle.drc_run.proofs.Distances.{apart_less, apart_not_within}
 
 mix_same : (part whole w a b a' b' : ℤ) → a ≡ a' → b ≡ b' → w *ℤ ((whole -ℤ part) *ℤ a +ℤ part *ℤ b) ≡ w *ℤ ((whole -ℤ part) *ℤ a' +ℤ part *ℤ b')
@@ -26,11 +26,11 @@ on_same v s t h k p on = record {
 radii_same : (r r' a b : ℤ) → r ≡ a → r' ≡ b → (r +ℤ r') ≡ (a +ℤ b)
 radii_same r r' a b e f = ap (λ x. x +ℤ r') e ∙ ap (λ x. a +ℤ x) f
 
-module _ (a b : PlainVia) (s t : Seg) (first : IsCore a s) (second : IsCore b t) (layer : ℕ) (among : Contains through layer) where
+module _ (a b : PlainVia) (s t : Seg) (first : IsCore a s) (second : IsCore b t) (layer : ℕ) (among : Contains both_layers layer) where
   pub meet_to : AreWithin (IsOn s) (IsOn t) (a.size +ℤ b.size) → MeetOn layer a b
   meet_to near = record {
-    part = record { layers = through; core = s; radius = a.size };
-    other = record { layers = through; core = t; radius = b.size };
+    part = record { layers = both_layers; core = s; radius = a.size };
+    other = record { layers = both_layers; core = t; radius = b.size };
     of_first = record { layers = refl; core = first; radius = refl };
     of_second = record { layers = refl; core = second; radius = refl };
     on = among;
@@ -58,7 +58,7 @@ module _ (a b : PlainVia) (s t : Seg) (first : IsCore a s) (second : IsCore b t)
 
   pub apart_from : (v : ℤ) → AreApartOn layer a b v → AreApart (IsOn s) (IsOn t) (a.size +ℤ b.size +ℤ pos 2 *ℤ v)
   apart_from v far =
-      far.each (record { layers = through; core = s; radius = a.size }) (record { layers = through; core = t; radius = b.size })
+      far.each (record { layers = both_layers; core = s; radius = a.size }) (record { layers = both_layers; core = t; radius = b.size })
       (record { layers = refl; core = first; radius = refl }) (record { layers = refl; core = second; radius = refl }) among among
 
   -- what keeps a distance above 0 does not meet

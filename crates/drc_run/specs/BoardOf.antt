@@ -1,18 +1,19 @@
--- The board of a tree. An atom stands for its decoded value, and a number is read from the atom as it stands in the text.
+-- The board of a tree. The lists and their heads are those of KiCad's board file format; which parts come, and in which
+-- order, is this program's own first form. An atom stands for its decoded value, and a number is read from the atom as it stands in the text.
 -- The root is (kicad_pcb VERSION GENERATOR LAYERS NET .. VIA ..), and each part has its one form.
 use Rattle.std.specs.Prelude.{ℕ, ℤ, pos, neg_ℤ, int_le, List, [], ◌∷◌, length, drop, codes, bytes_eq, nat_lt, ◌==◌, Bool, true, false, ◌&&◌, not, Option, None, Some, is_some, if◌then◌else◌}
 use Rattle.std.specs.List.{list_any}
 use Rattle.std.specs.Result.{result_ok}
 use Rattle.sexpr_read.specs.Tree.{Tree, content, parts, value}
 use Rattle.exact_dec.specs.Computed.{mm_cut_answer, count_answer}
-use Rattle.drc_run.specs.Board.{PlainVia, PlainBoard, greatest}
+use Rattle.drc_run.specs.Board.{PlainVia, PlainBoard, greatest, both_layers}
 
 infixl 10 ◌>>=◌
 abbrev pub ◌>>=◌ : {A B : Type 0} → Option A → (A → Option B) → Option B
 None >>= f = None
 (Some x) >>= f = f x
 
--- nothing more, where the test holds
+-- goes on where the test holds
 abbrev pub when : Bool → Option (Unit {0})
 when true = Some tt
 when false = None
@@ -27,6 +28,7 @@ stands_for (Some v) text = bytes_eq v text
 abbrev pub is_text : Tree → List ℕ → Bool
 is_text tree text = stands_for (value tree) text
 
+-- what stands behind the head, where it is the first of the trees
 abbrev pub behind : List Tree → List ℕ → Option (List Tree)
 behind [] head = None
 behind (t ∷ ts) head = if is_text t head then Some ts else None
@@ -63,7 +65,7 @@ double tree head = tail_of tree head >>= two_of
 
 -- ---- numbers
 
--- a number of nanometres from the one to the other
+-- a length in millimetres, cut toward zero to nanometres, from the one bound to the other
 unfoldable pub between : ℤ → ℤ → Tree → Option ℤ
 between low high tree = do
   text ← content tree
@@ -76,6 +78,7 @@ coordinate tree = between (neg_ℤ greatest) greatest tree
 abbrev pub extent : Tree → Option ℤ
 extent tree = between (pos 0) greatest tree
 
+-- a whole number without a sign
 unfoldable pub count : Tree → Option ℕ
 count tree = do
   text ← content tree
@@ -195,6 +198,7 @@ items_of ts = do
   few ← when (not (nat_lt 200000 (length (drop (length (nets_of ts)) ts))))
   vias_of (λ n. list_any (λ m. m == n) (nets_of ts)) (drop (length (nets_of ts)) ts)
 
+-- what stands behind the version, the generator and the layers
 abbrev pub behind_head : List Tree → Option (List Tree)
 behind_head (version ∷ (generator ∷ (layers ∷ items))) =
     if is_version version && is_generator generator && are_layers layers then Some items else None
@@ -208,4 +212,4 @@ unfoldable pub board_of : Tree → Option PlainBoard
 board_of root = do
   items ← body_of root
   vias ← items_of items
-  Some (record { copper = 0 ∷ (31 ∷ []); vias = vias })
+  Some (record { copper = both_layers; vias = vias })

@@ -1,10 +1,10 @@
 -- The copper of items: parts on layers, each a core with all points within a radius of it. Lengths here are half
 -- nanometres, so that half of an odd width is a whole number; the distances that are kept are nanometres.
-use Rattle.std.specs.Prelude.{◌≡◌, ℕ, ℤ, pos, ◌+ℤ◌, ◌*ℤ◌, ◌≤ℤ◌, List, [], ◌∷◌, ◌⊎◌, Contains}
+use Rattle.std.specs.Prelude.{◌≡◌, ℕ, ℤ, pos, ◌+ℤ◌, ◌*ℤ◌, ◌≤ℤ◌, List, ◌⊎◌, Contains}
 use Rattle.geo_seg.specs.declared.points.Seg.{Seg}
 use Rattle.geo_seg.specs.Points.{IsOn}
 use Rattle.geo_seg.specs.Nearer.{AreApart, AreWithin}
-use Rattle.drc_run.specs.Board.{PlainVia}
+use Rattle.drc_run.specs.Board.{PlainVia, both_layers}
 
 pub record Part : Type 0 where
   -- the layers that it is on
@@ -19,13 +19,9 @@ pub record IsCore (v : PlainVia) (core : Seg) : Type 0 where
   pub end_x : core.b.x ≡ pos 2 *ℤ v.x
   pub end_y : core.b.y ≡ pos 2 *ℤ v.y
 
--- the layers of a via: F.Cu and B.Cu
-abbrev pub through : List ℕ
-through = 0 ∷ (31 ∷ [])
-
 -- the copper of a via is one part: a disc on both layers, round its position, with half its size as the radius
 pub record IsPartOf (v : PlainVia) (p : Part) : Type 0 where
-  pub layers : p.layers ≡ through
+  pub layers : p.layers ≡ both_layers
   pub core : IsCore v p.core
   pub radius : p.radius ≡ v.size
 

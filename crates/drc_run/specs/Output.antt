@@ -1,9 +1,7 @@
 -- The whole output of the program, as a relation between its words, the files of its shelf and what it writes.
-use Rattle.std.specs.Prelude.{◌≡◌, ◌⊎◌, ℕ, ◌<◌, ◌≤◌, List, [], ◌∷◌, length, Option, None, Some, codes}
-use Rattle.std.specs.Io.KnownBytes.{Keeps}
+use Rattle.std.specs.Prelude.{◌≡◌, ℕ, ◌<◌, ◌≤◌, List, [], ◌∷◌, length, Option, None, Some, codes}
 use Rattle.drc_io.specs.Causes.{Rose}
 use Rattle.drc_io.specs.Files.{IsWhole}
-use Rattle.drc_io.specs.Sinks.{AppendsFront}
 use Rattle.sexpr_read.specs.Tree.{Tree, levels}
 use Rattle.sexpr_read.specs.Spelling.{Spells}
 use Rattle.drc_run.specs.declared.rows.Row.{Row}
@@ -67,7 +65,3 @@ IsOutputFor (Some name) told out = (text : List ℕ) × IsWhole told name text �
 abbrev pub HasReadFault : Option (List ℕ) → (List ℕ → ℕ) → (List ℕ → ℕ) → Type 0
 HasReadFault None before now = ⊥
 HasReadFault (Some name) before now = Rose (before name) (now name)
-
--- nothing was written, or a front part of the whole output
-abbrev pub IsFrontOfOutput : Option (List ℕ) → Option (List (List ℕ × List ℕ)) → Option (List ℕ) → Option (List ℕ) → Type 0
-IsFrontOfOutput reading told old new = Keeps old new ⊎ ((out : Output) × IsOutputFor reading told out × AppendsFront old new out.text)

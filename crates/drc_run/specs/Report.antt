@@ -13,6 +13,7 @@ use Rattle.drc_run.specs.Line.{escaped}
 abbrev pub via_text : PlainVia → List ℕ
 via_text v = codes "via \"" ++ escaped v.name ++ (codes "\" at " ++ mm_text v.x ++ codes " " ++ mm_text v.y)
 
+-- the via at a place of the board. The places of a row are always there
 abbrev pub text_of : Option PlainVia → List ℕ
 text_of None = []
 text_of (Some v) = via_text v

@@ -2,13 +2,12 @@
 use Rattle.std.specs.Prelude.{◌≡◌, ◌⊎◌, ℕ, ◌<◌, List, All, Contains}
 use Rattle.std.specs.List.{AllPairs}
 use Rattle.drc_run.specs.declared.rows.Row.{Row}
-use Rattle.drc_run.specs.Board.{PlainVia, PlainBoard}
-use Rattle.drc_run.specs.Copper.{through}
+use Rattle.drc_run.specs.Board.{PlainVia, PlainBoard, both_layers}
 use Rattle.drc_run.specs.Rows.{IsRow, Before}
 
 -- the board of these vias
 abbrev pub of_vias : List PlainVia → PlainBoard
-of_vias vias = record { copper = through; vias = vias }
+of_vias vias = record { copper = both_layers; vias = vias }
 
 -- the pair of the row comes before the pair of i and j
 abbrev pub IsBelow : ℕ → ℕ → Row → Type 0

@@ -1,4 +1,4 @@
--- What two vias break. Only nets that differ are compared; a short needs two nets that are there, and where there is a
+-- What two vias break: the short and the clearance of KiCad's board rules. Only nets that differ are compared; a short needs two nets that are there, and where there is a
 -- short there is no row for the clearance.
 use Rattle.std.specs.Prelude.{◌≡◌, ◌≢◌, ℕ, ℤ, pos, List, ◌∷◌, ◌++◌, ◌⊎◌, All, Contains}
 use Rattle.drc_run.specs.declared.violation.Violation.{Violation}
@@ -18,6 +18,7 @@ pub record IsFirstLayer (layers : List ℕ) (P : ℕ → Type 0) (layer : ℕ) :
   pub holds : P layer
   pub none_before : All (λ l. ¬ (P l)) before
 
+-- the nets are there and differ
 pub record CanShort (a b : PlainVia) : Type 0 where
   pub differ : a.net ≢ b.net
   pub first : a.net ≢ 0
@@ -30,6 +31,7 @@ pub record DoShort (layers : List ℕ) (a b : PlainVia) : Type 0 where
   pub among : Contains layers layer
   pub meet : MeetOn layer a b
 
+-- a short, on the first layer on which the copper meets
 pub record IsShort (layers : List ℕ) (a b : PlainVia) (v : Violation) : Type 0 where
   pub kind : v.kind ≡ Short
   pub nets : CanShort a b
@@ -37,6 +39,7 @@ pub record IsShort (layers : List ℕ) (a b : PlainVia) (v : Violation) : Type 0
   pub value : v.value ≡ pos 0
   pub gap : v.gap ≡ pos 0
 
+-- the clearance is not kept and there is no short; the layer is the first on which it is not kept
 pub record IsTooNear (layers : List ℕ) (a b : PlainVia) (v : Violation) : Type 0 where
   pub kind : v.kind ≡ Clearance
   pub nets : a.net ≢ b.net

@@ -45,28 +45,29 @@ pub(crate) struct Board {
 }
 
 impl Model for Board {
-    ghost use Rattle.std.specs.Prelude.{[], ◌∷◌, ◌≤◌, length};
-    ghost use Rattle.drc_run.specs.Board.{PlainBoard};
+    ghost use Rattle.std.specs.Prelude.{◌≤◌, length};
+    ghost use Rattle.drc_run.specs.Board.{PlainBoard, both_layers};
 
     ghost Value = { PlainBoard };
 
-    ghost view = { λ b. record { copper = 0 ∷ (31 ∷ []); vias = b.vias.items } };
+    ghost view = { λ b. record { copper = both_layers; vias = b.vias.items } };
 
     ghost invariant = { λ b. length b.vias.items ≤ 200_000 };
 }
 
 impl Board {
-    ghost use Rattle.std.specs.Prelude.{◌≡◌, ◌≤◌, [], ◌∷◌, length};
+    ghost use Rattle.std.specs.Prelude.{◌≡◌, ◌≤◌, length};
+    ghost use Rattle.drc_run.specs.Board.{both_layers};
 
     pub(crate) fn of(vias: Vec<Via>) -> Board
         requires { length vias.items ≤ 200_000 }
-        ensures { result ≡ record { copper = 0 ∷ (31 ∷ []); vias = vias.items } }
+        ensures { result ≡ record { copper = both_layers; vias = vias.items } }
     {
         Board { vias }
     }
 
     pub(crate) fn vias(&self) -> &[Via]
-        ensures vias { self.now ≡ record { copper = 0 ∷ (31 ∷ []); vias = result.now } }
+        ensures vias { self.now ≡ record { copper = both_layers; vias = result.now } }
         ensures few { length result.now ≤ 200_000 }
     {
         &self.vias

@@ -1,7 +1,8 @@
 //! The copper of vias, in half nanometres, and how near two vias are to each other.
 
 ghost use Rattle.std.specs.Prelude.{◌≡◌, ℕ, ℤ, ◌≤◌, ◌≤ℤ◌, ◌<ℤ◌, ◌*ℤ◌, ◌+ℤ◌, pos, Contains, IsTrue, ◌↔◌};
-ghost use Rattle.drc_run.specs.Copper.{IsCore, through, MeetOn, AreApartOn, KeepOn, IsGap};
+ghost use Rattle.drc_run.specs.Board.{both_layers};
+ghost use Rattle.drc_run.specs.Copper.{IsCore, MeetOn, AreApartOn, KeepOn, IsGap};
 
 use crate::board::{Disc, Via};
 use exact_dec::Nm;
@@ -26,7 +27,7 @@ fn core(via: &Via) -> Seg
     Seg { a: at, b: at }
 }
 
-/// How far apart the cores are where the copper is `v` nanometres apart.
+/// How far apart the cores are, in half nanometres, where the copper is `v` nanometres apart.
 fn reach(a: &Via, b: &Via, v: Nm) -> i64
     requires from { pos 0 ≤ℤ v }
     requires to { v ≤ℤ pos 500000000 }
@@ -41,7 +42,7 @@ fn reach(a: &Via, b: &Via, v: Nm) -> i64
 
 /// Whether the copper of the two touches or overlaps.
 pub(crate) fn meet(a: &Via, b: &Via) -> bool
-    ensures { (layer : ℕ) → Contains through layer → (IsTrue result ↔ MeetOn layer a.now b.now) }
+    ensures { (layer : ℕ) → Contains both_layers layer → (IsTrue result ↔ MeetOn layer a.now b.now) }
 {
     seg_within(core(a), core(b), reach(a, b, 0))
 }
@@ -50,11 +51,11 @@ pub(crate) fn meet(a: &Via, b: &Via) -> bool
 pub(crate) fn are_apart(a: &Via, b: &Via, v: Nm) -> bool
     requires from { pos 0 ≤ℤ v }
     requires to { v ≤ℤ pos 500000000 }
-    ensures apart { (layer : ℕ) → Contains through layer → (IsTrue result ↔ AreApartOn layer a.now b.now v) }
+    ensures apart { (layer : ℕ) → Contains both_layers layer → (IsTrue result ↔ AreApartOn layer a.now b.now v) }
     // What keeps a greater distance keeps this one.
-    ensures greater { (layer : ℕ) → Contains through layer → (w : ℤ) → v ≤ℤ w → AreApartOn layer a.now b.now w → IsTrue result }
+    ensures greater { (layer : ℕ) → Contains both_layers layer → (w : ℤ) → v ≤ℤ w → AreApartOn layer a.now b.now w → IsTrue result }
     // What keeps a distance does not meet.
-    ensures no_meet { IsTrue result → pos 0 <ℤ v → (layer : ℕ) → Contains through layer → MeetOn layer a.now b.now → ⊥ }
+    ensures no_meet { IsTrue result → pos 0 <ℤ v → (layer : ℕ) → Contains both_layers layer → MeetOn layer a.now b.now → ⊥ }
 {
     seg_apart(core(a), core(b), reach(a, b, v))
 }
@@ -62,7 +63,7 @@ pub(crate) fn are_apart(a: &Via, b: &Via, v: Nm) -> bool
 /// The greatest whole number of nanometres from 1 to `most` that the two keep, or 0.
 pub(crate) fn gap(a: &Via, b: &Via, most: u32) -> u32
     requires { most ≤ 500000000 }
-    ensures { (layer : ℕ) → Contains through layer → IsGap (KeepOn layer a.now b.now) (pos most) (pos result) }
+    ensures { (layer : ℕ) → Contains both_layers layer → IsGap (KeepOn layer a.now b.now) (pos most) (pos result) }
 {
     let mut low = 0;
     let mut high = most;

@@ -6,8 +6,8 @@ ghost use Rattle.std.specs.Io.KnownBytes.{Appends};
 ghost use Rattle.drc_io.specs.Causes.{Rose};
 ghost use Rattle.drc_io.specs.Sinks.{AppendsFront};
 ghost use Rattle.drc_run.specs.Words.{reading_of, words_of};
-ghost use Rattle.drc_run.specs.Output.{Output, IsOutputFor, IsFrontOfOutput, HasReadFault, cannot_read};
-ghost use Rattle.drc_run.specs.Endings.{Whole};
+ghost use Rattle.drc_run.specs.Output.{Output, IsOutputFor, HasReadFault, cannot_read};
+ghost use Rattle.drc_run.specs.Endings.{Whole, Front};
 
 mod all_pairs;
 mod board;
@@ -45,15 +45,15 @@ pub fn run<R: AllocGlobal, F: Shelf, W: Sink>(
     ensures read { result ≡ 4 → HasReadFault (reading_of (words_of words.now)) (F.faults shelf.old) (F.faults shelf.new) × Appends (W.written out.old) (W.written out.new) cannot_read }
     // A write fault has its cause, and a front part was written of the output, or of the line of a read fault.
     ensures write { result ≡ 5 → Rose (W.faults out.old) (W.faults out.new) }
-    ensures part { result ≡ 5 → IsFrontOfOutput (reading_of (words_of words.now)) (F.files shelf.old) (W.written out.old) (W.written out.new)
+    ensures part { result ≡ 5 → Front (IsOutputFor (reading_of (words_of words.now)) (F.files shelf.old)) (W.written out.old) (W.written out.new)
         ⊎ (HasReadFault (reading_of (words_of words.now)) (F.faults shelf.old) (F.faults shelf.new) × AppendsFront (W.written out.old) (W.written out.new) cannot_read) }
     // Where memory ran out a front part of the output was written.
-    ensures memory { result ≡ 6 → IsFrontOfOutput (reading_of (words_of words.now)) (F.files shelf.old) (W.written out.old) (W.written out.new) }
+    ensures memory { result ≡ 6 → Front (IsOutputFor (reading_of (words_of words.now)) (F.files shelf.old)) (W.written out.old) (W.written out.new) }
     // Without a fault the output comes whole, unless memory runs out.
     ensures complete { ¬ (Rose (W.faults out.old) (W.faults out.new)) → ¬ (HasReadFault (reading_of (words_of words.now)) (F.faults shelf.old) (F.faults shelf.new))
         → (result < 4) ⊎ (result ≡ 6) }
-    // Of a shelf that tells, the status is that of each output that the words and the files have.
-    ensures exact { IfSome (F.files shelf.old) (λ files. (output : Output) → IsOutputFor (reading_of (words_of words.now)) (Some files) output → result < 4 → result ≡ output.status) }
+    // Of a shelf that tells, the words and the files have one output: this status and the text that was written.
+    ensures exact { IfSome (F.files shelf.old) (λ files. (output : Output) → IsOutputFor (reading_of (words_of words.now)) (Some files) output → result < 4 → (result ≡ output.status) × Appends (W.written out.old) (W.written out.new) output.text) }
     // The files stay as they were.
     ensures same { F.files shelf.new ≡ F.files shelf.old }
 {

@@ -2,7 +2,8 @@
 
 ghost use Rattle.std.specs.Prelude.{◌≡◌, ◌≢◌, ◌↔◌, Some, IfSome, IsTrue};
 ghost use Rattle.drc_run.specs.declared.violation.Violation.{Violation};
-ghost use Rattle.drc_run.specs.Copper.{through, MeetOn};
+ghost use Rattle.drc_run.specs.Board.{both_layers};
+ghost use Rattle.drc_run.specs.Copper.{MeetOn};
 ghost use Rattle.drc_run.specs.Violations.{IsViolation, DoShort};
 
 use crate::board::Via;
@@ -15,7 +16,7 @@ const CLEARANCE: u32 = 200_000;
 /// Whether copper of two nets meets.
 fn do_short(a: &Via, b: &Via) -> bool
     requires { a.now.net ≢ b.now.net }
-    ensures some { IsTrue result ↔ DoShort through a.now b.now }
+    ensures some { IsTrue result ↔ DoShort both_layers a.now b.now }
     ensures first { IsTrue result → MeetOn 0 a.now b.now }
 {
     if a.net == 0 {
@@ -30,8 +31,8 @@ fn do_short(a: &Via, b: &Via) -> bool
 /// What the two break, if anything: a short, or else the clearance. Both layers have the same
 /// copper, so the first one tells.
 pub(crate) fn violation_of(a: &Via, b: &Via) -> Option<Violation>
-    ensures found { IfSome result (λ v. IsViolation through a.now b.now v) }
-    ensures only { (v : Violation) → IsViolation through a.now b.now v → result ≡ Some v }
+    ensures found { IfSome result (λ v. IsViolation both_layers a.now b.now v) }
+    ensures only { (v : Violation) → IsViolation both_layers a.now b.now v → result ≡ Some v }
 {
     if a.net == b.net {
         return None;

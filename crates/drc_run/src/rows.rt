@@ -1,4 +1,4 @@
-//! The rows of a board, over all pairs.
+//! A row of a board.
 
 use crate::violation::Violation;
 

@@ -1,4 +1,4 @@
-//! What two vias break.
+//! A violation: what it breaks, and by how much.
 
 use exact_dec::Nm;
 

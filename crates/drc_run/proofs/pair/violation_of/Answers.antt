@@ -1,10 +1,9 @@
 use Rattle.std.proofs.Common.{◌≡◌, ◌≤◌, ap, sym, subst, ℤ, pos, w64, arith, ◌<ℤ◌}
 use Rattle.std.proofs.lemmas.Int.{ints}
 use mir.Val.{to_z, of_z}
-use Rattle.drc_run.specs.Board.{PlainVia}
+use Rattle.drc_run.specs.Board.{PlainVia, both_layers}
 use Rattle.drc_run.specs.Copper.{IsGap, KeepOn, AreApartOn}
 use Rattle.drc_run.specs.Violations.{clearance, DoShort}
-use Rattle.drc_run.specs.Copper.{through}
 use Rattle.drc_run.proofs.Scalars.{clean_pos, at_most, not_false}
 use Rattle.drc_run.proofs.Pairs.{front, kept, short_found, short_only, near_found, near_only, nets_differ}
 use Rattle.drc_run.proofs.pair.violation_of.Goals as goal
@@ -33,7 +32,7 @@ near c far =
     let d : to_z w64 (of_z w64 c.from.result) ≡ clearance = clean_pos c.from.result 200000 c.from.ensures (omega arith) in
     not_false c.are_apart.result c.if-are_apart.false ((c.are_apart.ensures.apart 0 front).1 (subst (AreApartOn 0 c.args.a.now c.args.b.now) (sym d) far))
 
-none : (c : goal.After-from-3) → ¬ (DoShort through c.args.a.now c.args.b.now)
+none : (c : goal.After-from-3) → ¬ (DoShort both_layers c.args.a.now c.args.b.now)
 none c d = not_false c.do_short.result c.if-do_short.false (c.do_short.ensures.some.1 d)
 
 gap_is : (c : goal.After-from-3) → to_z w64 (of_z w64 c.from-3.result) ≡ pos c.gap.result
