@@ -1,5 +1,5 @@
 -- What the iterators over a board have still to give.
-use Rattle.std.specs.Prelude.{ℕ, List, drop}
+use Rattle.std.specs.Prelude.{ℕ, List}
 use denote.Ref.{Bor}
 use Rattle.board_items.specs.declared.item.Item.{Item}
 use Rattle.board_items.specs.declared.walk.BoardIter.{BoardIter}
@@ -16,4 +16,4 @@ abbrev pub items_left : BoardIter → List (ℕ × Item)
 items_left walk = walk.items.now
 
 abbrev pub nets_left : BoardNets → List (ℕ × List ℕ)
-nets_left walk = drop walk.place walk.names.now.entries
+nets_left walk = walk.nets

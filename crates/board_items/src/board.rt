@@ -155,6 +155,7 @@ impl Board {
     // Whether the item may be added.
     fn admit(&self, item: &Item) -> Result<(), ItemError>
         ensures refused { refusal_of self.now item.now ≡ reason_in result }
+        ensures room { OnOk result (0 < room_of self.now) }
         ensures only { result ≢ Err ItemError.OutOfMemory }
     {
         if !(is_near(item.x) && is_near(item.y)) {
@@ -207,8 +208,7 @@ impl Board {
         ensures { nets_left result ≡ self.now.nets }
     {
         BoardNets {
-            names: &self.names,
-            place: 0,
+            nets: self.names.as_slice(),
         }
     }
 

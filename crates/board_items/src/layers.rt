@@ -8,7 +8,7 @@ pub struct LayerSet {
 }
 
 impl LayerSet {
-    ghost use Rattle.std.specs.Prelude.{◌≡◌, ◌<◌, ℕ, true};
+    ghost use Rattle.std.specs.Prelude.{◌≡◌, ◌<◌, ◌↔◌, ℕ, IsTrue};
     ghost use Rattle.board_items.specs.Layers.{has_layer, is_within};
 
     /// Whether the layer with this number is in the set.
@@ -22,7 +22,7 @@ impl LayerSet {
     /// Whether `other` has all layers of this set.
     pub fn is_within(self, other: LayerSet) -> bool
         ensures value { result ≡ is_within self other }
-        ensures each { result ≡ true → (layer : ℕ) → has_layer self layer ≡ true → has_layer other layer ≡ true }
+        ensures each { IsTrue result ↔ ((layer : ℕ) → IsTrue (has_layer self layer) → IsTrue (has_layer other layer)) }
     {
         self.bits & other.bits == self.bits
     }

@@ -2,7 +2,7 @@
 
 use crate::item::Item;
 use drc_io::Name;
-use indexmap::IndexMap;
+use indexmap::map::Slice;
 
 /// The items of a board that are still to come, each with its id, by rising id.
 #[derive(Clone, Copy)]
@@ -27,11 +27,10 @@ impl<'a> Iterator for BoardIter<'a> {
     }
 }
 
-/// The nets of a board that are still to come, each with its name, in the order of the file.
-#[derive(Clone, Copy)]
+/// The nets of a board that are still to come, each with its name, in the order in which they were declared.
+#[derive(Drop)]
 pub struct BoardNets<'a> {
-    pub(crate) names: &'a IndexMap<u32, Name>,
-    pub(crate) place: usize,
+    pub(crate) nets: Slice<'a, u32, Name>,
 }
 
 impl<'a> Iterator for BoardNets<'a> {
@@ -45,8 +44,8 @@ impl<'a> Iterator for BoardNets<'a> {
     ghost remaining = { item_count nets_left };
 
     fn next(&mut self) -> Option<(u32, &'a Name)> {
-        let (net, name) = self.names.get_index(self.place)?;
-        self.place += 1;
+        let ((net, name), others) = self.nets.split_first()?;
+        self.nets = others;
         Some((*net, name))
     }
 }

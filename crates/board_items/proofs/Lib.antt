@@ -1,0 +1,3 @@
+mod LayerLemmas
+mod Around
+mod Rising
