@@ -37,8 +37,8 @@ widened_part a b r h = record {
 bounds_part : (s : Shape) (b c : Bounds) → IsBoundsOf s b → IsBoundsOf s c → IsPartOf b c
 bounds_part s b c h k =
     subst (λ (x : Bounds). IsPartOf x c) (sym h.wider)
-        (subst (λ (y : Bounds). IsPartOf (widened h.core_box s.radius) y) (sym k.wider)
-            (widened_part h.core_box k.core_box s.radius (h.least.least k.core_box k.least.holds)))
+    (subst (λ (y : Bounds). IsPartOf (widened h.core_box s.radius) y) (sym k.wider)
+    (widened_part h.core_box k.core_box s.radius (h.least.least k.core_box k.least.holds)))
 
 -- ---- more parts
 all_wider : (b c : Bounds) → IsPartOf b c → (ps : List Part) → AllLieIn b ps → AllLieIn c ps
@@ -169,4 +169,4 @@ pub four : (given copper hole first second kind : List Part) (found : Option Bou
     → AreBoundsOf (given ++ hole ++ first ++ second) found → AreBoundsOf (copper ++ (hole ++ kind)) found
 four given copper hole first second kind found same both h =
     subst (λ (qs : List Part). AreBoundsOf qs found)
-        (append_assoc (given ++ hole) first second ∙ append_assoc given hole (first ++ second) ∙ ap (λ qs. qs ++ (hole ++ (first ++ second))) same ∙ ap (λ qs. copper ++ (hole ++ qs)) both) h
+    (append_assoc (given ++ hole) first second ∙ append_assoc given hole (first ++ second) ∙ ap (λ qs. qs ++ (hole ++ (first ++ second))) same ∙ ap (λ qs. copper ++ (hole ++ qs)) both) h

@@ -23,14 +23,15 @@ pub sound_added : (b : PlainBoard) (item : Item) (items : List (ℕ × Item)) (m
     → items ≡ b.items ++ (b.next_id, item) ∷ [] → more ≡ marks ++ marks_of ((b.next_id, item) ∷ []) → next_unit ≡ max b.next_unit (item.unit + 1)
     → IsSound (record { copper = b.copper; nets = b.nets; items = items; next_id = b.next_id + 1; next_unit = next_unit }) × (more ≡ marks_of items)
 sound_added b item items marks more next_unit s m room unit e f u =
-    let left = room_left (length b.items) b.next_id room in
-    (record {
-      ids = subst (λ (xs : List (ℕ × Item)). Rise 0 (b.next_id + 1) xs) (sym e) (rise_added 0 b.next_id b.items item s.ids);
-      units = subst (λ (xs : List (ℕ × Item)). UnitsBelow next_unit xs) (sym e)
-          (units_added b.next_unit next_unit b.next_id b.items item s.units (grind (arith, u)) (grind (arith, u)));
-      last_id = omega (arith, left.1);
-      last_unit = grind (arith, u, unit, s.last_unit);
-      few = let n = ap length e ∙ length-append b.items ((b.next_id, item) ∷ []) in omega (arith, n, left.0);
-      no_net = s.no_net;
-    },
-    f ∙ ap (λ ms. ms ++ marks_of ((b.next_id, item) ∷ [])) m ∙ sym (marks-append b.items ((b.next_id, item) ∷ [])) ∙ ap marks_of (sym e))
+    let left = room_left (length b.items) b.next_id room in (
+      record {
+        ids = subst (λ (xs : List (ℕ × Item)). Rise 0 (b.next_id + 1) xs) (sym e) (rise_added 0 b.next_id b.items item s.ids);
+        units = subst (λ (xs : List (ℕ × Item)). UnitsBelow next_unit xs) (sym e)
+            (units_added b.next_unit next_unit b.next_id b.items item s.units (grind (arith, u)) (grind (arith, u)));
+        last_id = omega (arith, left.1);
+        last_unit = grind (arith, u, unit, s.last_unit);
+        few = let n = ap length e ∙ length-append b.items ((b.next_id, item) ∷ []) in omega (arith, n, left.0);
+        no_net = s.no_net;
+      },
+      f ∙ ap (λ ms. ms ++ marks_of ((b.next_id, item) ∷ [])) m ∙ sym (marks-append b.items ((b.next_id, item) ∷ [])) ∙ ap marks_of (sym e),
+    )

@@ -27,13 +27,13 @@ test_by n layer h = search (rules, h)
 each_of_within : (s t : LayerSet) → bit_and s.bits t.bits ≡ s.bits → (layer : ℕ) → IsTrue (has_layer s layer) → IsTrue (has_layer t layer)
 each_of_within s t h layer e =
     test_by t.bits layer (other_bit (bit_at s.bits layer) (bit_at t.bits layer) (bit_at-small t.bits layer)
-        (sym (bit_at_and s.bits t.bits layer) ∙ ap (λ n. bit_at n layer) h) (test_of s.bits layer e))
+    (sym (bit_at_and s.bits t.bits layer) ∙ ap (λ n. bit_at n layer) h) (test_of s.bits layer e))
 
 within_of_each : (s t : LayerSet) → ((layer : ℕ) → IsTrue (has_layer s layer) → IsTrue (has_layer t layer)) → bit_and s.bits t.bits ≡ s.bits
 within_of_each s t h = same_from_bits (bit_and s.bits t.bits) s.bits
     (λ layer. bit_at_and s.bits t.bits layer
-        ∙ same_bit (bit_at s.bits layer) (bit_at t.bits layer) (bit_at-small s.bits layer) (bit_at-small t.bits layer)
-            (λ e. test_of t.bits layer (h layer (test_by s.bits layer e))))
+    ∙ same_bit (bit_at s.bits layer) (bit_at t.bits layer) (bit_at-small s.bits layer) (bit_at-small t.bits layer)
+    (λ e. test_of t.bits layer (h layer (test_by s.bits layer e))))
 
 pub within_layers : (s t : LayerSet) → (IsTrue (is_within s t) ↔ ((layer : ℕ) → IsTrue (has_layer s layer) → IsTrue (has_layer t layer)))
 within_layers s t = (λ h. each_of_within s t (search (rules, h)), λ h. let e = within_of_each s t h in search (rules, e))

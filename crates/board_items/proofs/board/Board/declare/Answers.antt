@@ -9,5 +9,5 @@ returns-clause-ok c =
     let before : PlainBoard = record { copper = c.self.inside.copper; nets = c.self.inside.names.entries; items = c.self.inside.items.items; next_id = c.self.inside.next_id; next_unit = c.self.inside.next_unit } in
     let absent = sym c.contains_key.ensures ∙ c.if-contains_key.false in
     new_net before c.args.net c.args.name c.insert.new.self.entries absent
-        (c.in_ok-insert.ensures.entries ∙ insert_entry-new nat_eq c.self.inside.names c.args.net c.args.name (no_value _ absent))
+    (c.in_ok-insert.ensures.entries ∙ insert_entry-new nat_eq c.self.inside.names c.args.net c.args.name (no_value _ absent))
     ∙ ap (λ (b : PlainBoard). with_net b c.args.net c.args.name) c.self.view_is
