@@ -1,5 +1,5 @@
 -- Boxes around parts.
-use Rattle.std.proofs.Common.{◌≡◌, ℕ, ◌+◌, ◌<◌, ◌≤◌, ◌++◌, length, take, get_or, suc, add-one, ℤ, pos, neg_ℤ, ◌≤ℤ◌, ◌+ℤ◌, ◌-ℤ◌, ◌⊎◌, List, [], ◌∷◌, Option, None, Some, Bool, true, false, cond, unsigned_abs, FitsSigned, to_z, of_z, refl, sym, ◌∙◌, ap, subst, inl, inr, arith}
+use Rattle.std.proofs.Common.{◌≡◌, ℕ, ◌+◌, ◌<◌, ◌≤◌, ◌++◌, length, take, get_or, suc, add-one, ℤ, pos, neg_ℤ, ◌≤ℤ◌, List, [], ◌∷◌, Option, None, Some, Bool, true, false, cond, unsigned_abs, FitsSigned, to_z, of_z, refl, sym, ◌∙◌, ap, subst, arith}
 use Rattle.std.proofs.lemmas.Int.{ints, to_z-of_z}
 use Rattle.std.specs.Prelude.{int_lt}
 use Rattle.std.specs.Int.{int_min, int_max}
@@ -12,7 +12,7 @@ use Rattle.geo_seg.specs.declared.shapes.Shape.{Shape}
 use Rattle.geo_seg.specs.Boxes.{FitsWithin, IsPartOf, widened}
 use Rattle.geo_seg.specs.Cores.{IsBoundsOf}
 use Rattle.board_items.specs.declared.parts.Part.{Part}
-use Rattle.board_items.specs.Extents.{LiesIn, AllLieIn, IsLeastAround, AreBoundsOf}
+use Rattle.board_items.specs.Extents.{LiesIn, AllLieIn, AreBoundsOf}
 
 pub part_refl : (b : Bounds) → IsPartOf b b
 part_refl b = record { left = le_refl b.left; top = le_refl b.top; right = le_refl b.right; bottom = le_refl b.bottom }

@@ -1,5 +1,5 @@
 -- What a board is after a net or an item was added.
-use Rattle.std.proofs.Common.{◌≡◌, ℕ, ◌+◌, ◌-◌, ◌<◌, ◌≤◌, min, max, Bool, true, false, cond, List, [], ◌∷◌, ◌++◌, length, Option, None, Some, is_some, refl, sym, ◌∙◌, ap, subst, arith, length-append}
+use Rattle.std.proofs.Common.{◌≡◌, ℕ, ◌+◌, ◌-◌, ◌<◌, min, max, false, cond, List, [], ◌∷◌, ◌++◌, length, Option, None, Some, is_some, refl, sym, ◌∙◌, ap, subst, arith, length-append}
 use Rattle.board_items.specs.declared.item.Item.{Item}
 use Rattle.board_items.specs.Boards.{PlainBoard, IsSound, Rise, UnitsBelow, name_of, with_net, marks_of}
 use Rattle.board_items.specs.Refusals.{room_of}

@@ -1,6 +1,5 @@
 -- A set of layers lies within another exactly where each of its layers does.
-use Rattle.std.proofs.Common.{◌≡◌, ℕ, ◌+◌, ◌*◌, ◌≤◌, ◌<◌, ◌^◌, ◌/◌, ◌%◌, Bool, true, false, IsTrue, ◌↔◌, min, nat_eq, bit_and, refl, sym, ◌∙◌, ap, subst, arith, eq-eqb, zero, suc, rules, ◌==◌}
-use Rattle.std.proofs.lemmas.Bool.{eqb-true}
+use Rattle.std.proofs.Common.{◌≡◌, ℕ, ◌<◌, IsTrue, ◌↔◌, min, bit_and, sym, ◌∙◌, ap, arith, zero, suc, rules, ◌==◌}
 use Rattle.std.proofs.lemmas.Nat.Bits.{bit_at_and, same_from_bits}
 use Rattle.std.specs.Int.{bit_at}
 use Rattle.board_items.specs.declared.layers.LayerSet.{LayerSet}

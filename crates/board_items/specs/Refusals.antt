@@ -1,5 +1,5 @@
 -- When an item is refused: the first of four reasons, in this order.
-use Rattle.std.specs.Prelude.{ℕ, ◌-◌, ℤ, pos, neg_ℤ, min, Bool, not, ◌&&◌, ◌||◌, length, nat_le, Option, None, Some, Result, Ok, Err, is_some, if◌then◌else◌}
+use Rattle.std.specs.Prelude.{ℕ, ◌-◌, ℤ, pos, neg_ℤ, min, Bool, not, ◌&&◌, length, nat_le, Option, None, Some, Result, Ok, Err, is_some, if◌then◌else◌}
 use Rattle.std.specs.Int.Signed.{le_z}
 use Rattle.std.specs.List.{list_all}
 use Rattle.board_items.specs.declared.errors.ItemError.{ItemError}

@@ -1,7 +1,4 @@
-use Rattle.std.proofs.Common.{◌≡◌, ◌++◌, ◌+◌, List, Option, [], ◌∷◌, refl}
-use Rattle.geo_seg.specs.declared.boxes.Bounds.{Bounds}
-use Rattle.board_items.specs.declared.parts.Part.{Part}
-use Rattle.board_items.specs.Extents.{AreBoundsOf}
+use Rattle.std.proofs.Common.{refl}
 use Rattle.board_items.proofs.Around.{taken}
 use Rattle.board_items.proofs.extents.around.Goals as goal
 

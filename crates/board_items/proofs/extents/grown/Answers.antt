@@ -1,4 +1,4 @@
-use Rattle.std.proofs.Common.{◌≡◌, Option, None, Some, sym, subst}
+use Rattle.std.proofs.Common.{Option, sym, subst}
 use Rattle.geo_seg.specs.declared.boxes.Bounds.{Bounds}
 use Rattle.geo_seg.specs.declared.shapes.Shape.{Shape}
 use Rattle.geo_seg.specs.Cores.{IsBoundsOf}

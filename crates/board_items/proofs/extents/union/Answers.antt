@@ -1,4 +1,4 @@
-use Rattle.board_items.proofs.Around.{IsJoin, join_is, join_first, join_second, join_least, join_fits}
+use Rattle.board_items.proofs.Around.{join_is, join_first, join_second, join_least, join_fits}
 use Rattle.board_items.proofs.extents.union.Goals as goal
 
 pub returns-clause-first : goal.returns-clause-first

@@ -1,4 +1,4 @@
-use Rattle.std.proofs.Common.{◌≡◌, ◌∙◌, nat_eq, sym, ap}
+use Rattle.std.proofs.Common.{◌∙◌, nat_eq, sym, ap}
 use Rattle.indexmap.proofs.CallerLemmas.{insert_entry-new}
 use Rattle.board_items.specs.Boards.{PlainBoard, with_net}
 use Rattle.board_items.proofs.Growing.{no_value, new_net}

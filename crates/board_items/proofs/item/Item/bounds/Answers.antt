@@ -1,7 +1,4 @@
-use Rattle.std.proofs.Common.{◌≡◌, ◌++◌, List, Option, None, [], refl, sym, ◌∙◌, ap, subst}
-use Rattle.geo_seg.specs.declared.boxes.Bounds.{Bounds}
-use Rattle.board_items.specs.declared.parts.Part.{Part}
-use Rattle.board_items.specs.Extents.{AreBoundsOf}
+use Rattle.std.proofs.Common.{[], refl}
 use Rattle.board_items.proofs.Around.{four}
 use Rattle.board_items.proofs.item.Item.bounds.Goals as goal
 
