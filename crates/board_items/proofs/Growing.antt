@@ -1,0 +1,37 @@
+-- What a board is after a net or an item was added.
+use Rattle.std.proofs.Common.{◌≡◌, ℕ, ◌+◌, ◌-◌, ◌<◌, min, max, false, cond, List, [], ◌∷◌, ◌++◌, length, Option, None, Some, is_some, refl, sym, ◌∙◌, ap, subst, arith, length-append}
+use Rattle.board_items.specs.declared.item.Item.{Item}
+use Rattle.board_items.specs.Boards.{PlainBoard, IsSound, Rise, UnitsBelow, name_of, with_net, marks_of}
+use Rattle.board_items.specs.Refusals.{room_of}
+use Rattle.board_items.proofs.Rising.{rise_added, units_added, marks-append}
+
+pub no_value : {X : Type 0} (o : Option X) → is_some o ≡ false → o ≡ None
+no_value None h = refl
+no_value (Some x) h = cc
+
+-- a net that was not there goes last
+pub new_net : (board : PlainBoard) (net : ℕ) (name : List ℕ) (nets : List (ℕ × List ℕ)) → is_some (name_of board net) ≡ false
+    → nets ≡ board.nets ++ (net, name) ∷ [] → record board { nets = nets } ≡ with_net board net name
+new_net board net name nets absent e =
+    ap (λ ns. record board { nets = ns }) e ∙ sym (ap (λ b. cond b board (record board { nets = board.nets ++ (net, name) ∷ [] })) absent)
+
+room_left : (n k : ℕ) → 0 < min (200000 - n) (4294967295 - k) → (n < 200000) × (k < 4294967295)
+room_left n k h = (grind arith, grind arith)
+
+pub sound_added : (b : PlainBoard) (item : Item) (items : List (ℕ × Item)) (marks more : List ℕ) (next_unit : ℕ)
+    → IsSound b → marks ≡ marks_of b.items → 0 < room_of b → item.unit < 4294967295
+    → items ≡ b.items ++ (b.next_id, item) ∷ [] → more ≡ marks ++ marks_of ((b.next_id, item) ∷ []) → next_unit ≡ max b.next_unit (item.unit + 1)
+    → IsSound (record { copper = b.copper; nets = b.nets; items = items; next_id = b.next_id + 1; next_unit = next_unit }) × (more ≡ marks_of items)
+sound_added b item items marks more next_unit s m room unit e f u =
+    let left = room_left (length b.items) b.next_id room in (
+      record {
+        ids = subst (λ (xs : List (ℕ × Item)). Rise 0 (b.next_id + 1) xs) (sym e) (rise_added 0 b.next_id b.items item s.ids);
+        units = subst (λ (xs : List (ℕ × Item)). UnitsBelow next_unit xs) (sym e)
+            (units_added b.next_unit next_unit b.next_id b.items item s.units (grind (arith, u)) (grind (arith, u)));
+        last_id = omega (arith, left.1);
+        last_unit = grind (arith, u, unit, s.last_unit);
+        few = let n = ap length e ∙ length-append b.items ((b.next_id, item) ∷ []) in omega (arith, n, left.0);
+        no_net = s.no_net;
+      },
+      f ∙ ap (λ ms. ms ++ marks_of ((b.next_id, item) ∷ [])) m ∙ sym (marks-append b.items ((b.next_id, item) ∷ [])) ∙ ap marks_of (sym e),
+    )

@@ -1,0 +1,4 @@
+mod LayerLemmas
+mod Around
+mod Rising
+mod Growing

@@ -1,0 +1,77 @@
+-- A board as plain lists. Lengths are nanometres, and the places of its items are their ids.
+use Rattle.std.specs.Prelude.{◌≡◌, ℕ, ◌+◌, ◌<◌, ◌≤◌, max, Bool, true, false, List, [], ◌∷◌, ◌++◌, length, Option, is_some, nat_eq, if◌then◌else◌}
+use Rattle.std.specs.Map.{lookup}
+use Rattle.board_items.specs.declared.layers.LayerSet.{LayerSet}
+use Rattle.board_items.specs.declared.item.What.{What}
+use Rattle.board_items.specs.declared.item.What.TheVariants.{Area, Body}
+use Rattle.board_items.specs.declared.item.Item.{Item}
+
+-- the layers of its copper, its nets by number in the order of the file, its items with their ids in order, and the id and
+-- the unit number that are given next
+pub record PlainBoard : Type 0 where
+  pub copper : LayerSet
+  pub nets : List (ℕ × List ℕ)
+  pub items : List (ℕ × Item)
+  pub next_id : ℕ
+  pub next_unit : ℕ
+
+-- net 0, which means no net, is always there; its name is empty
+abbrev pub empty_board : LayerSet → PlainBoard
+empty_board copper = record { copper = copper; nets = (0, []) ∷ []; items = []; next_id = 0; next_unit = 0 }
+
+-- the name of a net, if the net is declared
+abbrev pub name_of : PlainBoard → ℕ → Option (List ℕ)
+name_of board net = lookup (nat_eq net) board.nets
+
+-- a new net goes last, and one that is there keeps its first name
+abbrev pub with_net : PlainBoard → ℕ → List ℕ → PlainBoard
+with_net board net name =
+    if is_some (name_of board net) then board else record board { nets = board.nets ++ (net, name) ∷ [] }
+
+-- the item of an id, if there is one
+abbrev pub item_at : List (ℕ × Item) → ℕ → Option Item
+item_at items id = lookup (nat_eq id) items
+
+-- the item goes last, under the next id; no id and no unit number is given again
+abbrev pub with_item : PlainBoard → Item → PlainBoard
+with_item board item = record board {
+  items = board.items ++ (board.next_id, item) ∷ [];
+  next_id = board.next_id + 1;
+  next_unit = max board.next_unit (item.unit + 1);
+}
+
+-- the kinds that facts of other items speak of: areas and bodies
+abbrev pub is_mark : What → Bool
+is_mark (Area title bans shape) = true
+is_mark (Body reference front back on_back) = true
+is_mark _ = false
+
+-- the ids of all areas and bodies, in order
+abbrev pub marks_of : List (ℕ × Item) → List ℕ
+marks_of [] = []
+marks_of (entry ∷ entries) = if is_mark entry.1.what then entry.0 ∷ marks_of entries else marks_of entries
+
+-- the ids rise along the list, from `low` on, and are below `high`
+abbrev pub Rise : ℕ → ℕ → List (ℕ × Item) → Type 0
+Rise low high [] = low ≤ high
+Rise low high (entry ∷ entries) = (low ≤ entry.0) × Rise (entry.0 + 1) high entries
+
+pub record IsRising (items : List (ℕ × Item)) : Type 0 where
+  pub low : ℕ
+  pub high : ℕ
+  pub rise : Rise low high items
+
+-- each unit number is below `high`
+abbrev pub UnitsBelow : ℕ → List (ℕ × Item) → Type 0
+UnitsBelow high [] = Unit {0}
+UnitsBelow high (entry ∷ entries) = (entry.1.unit < high) × UnitsBelow high entries
+
+-- what holds of each board: ids rise and are below the next one, and unit numbers are below the next one; each id and each
+-- unit number is below 2 ^ 32 - 1; there are at most 200,000 items; net 0 is declared
+pub record IsSound (board : PlainBoard) : Type 0 where
+  pub ids : Rise 0 board.next_id board.items
+  pub units : UnitsBelow board.next_unit board.items
+  pub last_id : board.next_id ≤ 4294967295
+  pub last_unit : board.next_unit ≤ 4294967295
+  pub few : length board.items ≤ 200000
+  pub no_net : is_some (name_of board 0) ≡ true

@@ -1,0 +1,19 @@
+-- What the iterators over a board have still to give.
+use Rattle.std.specs.Prelude.{ℕ, List}
+use denote.Ref.{Bor}
+use Rattle.board_items.specs.declared.item.Item.{Item}
+use Rattle.board_items.specs.declared.walk.BoardIter.{BoardIter}
+use Rattle.board_items.specs.declared.walk.BoardNets.{BoardNets}
+
+-- an id with its item, and a number with its name
+abbrev pub entry_of : ℕ × Bor Item → ℕ × Item
+entry_of given = (given.0, given.1.now)
+
+abbrev pub net_of : ℕ × Bor (List ℕ) → ℕ × List ℕ
+net_of given = (given.0, given.1.now)
+
+abbrev pub items_left : BoardIter → List (ℕ × Item)
+items_left walk = walk.items.now
+
+abbrev pub nets_left : BoardNets → List (ℕ × List ℕ)
+nets_left walk = walk.nets

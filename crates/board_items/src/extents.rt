@@ -1,0 +1,101 @@
+//! The room that an item takes up.
+
+ghost use Rattle.std.specs.Prelude.{◌≡◌, ◌++◌, pos, List, Option, IfSome, [], ◌∷◌};
+ghost use Rattle.geo_seg.specs.declared.boxes.Bounds.{Bounds};
+ghost use Rattle.geo_seg.specs.Boxes.{FitsWithin, IsPartOf};
+ghost use Rattle.board_items.specs.declared.parts.Part.{Part};
+ghost use Rattle.board_items.specs.Extents.{AreBoundsOf};
+ghost use Rattle.board_items.specs.Parts.{parts_of, hole_parts, kind_parts};
+
+use crate::item::{Hole, Item, What};
+use crate::parts::Part;
+use geo_seg::{Bounds, Shape};
+use std::slice;
+
+// The least box that holds both.
+fn union(a: Bounds, b: Bounds) -> Bounds
+    requires a_fits { FitsWithin (pos 1500000000) a }
+    requires b_fits { FitsWithin (pos 1500000000) b }
+    ensures first { IsPartOf a result }
+    ensures second { IsPartOf b result }
+    ensures least { (c : Bounds) → IsPartOf a c → IsPartOf b c → IsPartOf result c }
+    ensures fits { FitsWithin (pos 1500000000) result }
+{
+    Bounds {
+        left: a.left.min(b.left),
+        top: a.top.min(b.top),
+        right: a.right.max(b.right),
+        bottom: a.bottom.max(b.bottom),
+    }
+}
+
+// The box around what was found so far and one shape more.
+fn grown(found: Option<Bounds>, shape: &Shape) -> Bounds
+    requires fits { IfSome found (FitsWithin (pos 1500000000)) }
+    ensures grown { (parts : List Part) (part : Part) → part.shape ≡ shape.now → AreBoundsOf parts found → AreBoundsOf (parts ++ part ∷ []) (Some result) }
+    ensures fits { FitsWithin (pos 1500000000) result }
+{
+    let bounds = shape.bounds();
+    match found {
+        None => bounds,
+        Some(box_so_far) => union(box_so_far, bounds),
+    }
+}
+
+// The box around what was found so far and more parts.
+fn around(found: Option<Bounds>, parts: &[Part]) -> Option<Bounds>
+    requires fits { IfSome found (FitsWithin (pos 1500000000)) }
+    ensures grown { (before : List Part) → AreBoundsOf before found → AreBoundsOf (before ++ parts.now) result }
+    ensures fits { IfSome result (FitsWithin (pos 1500000000)) }
+{
+    let mut so_far = found;
+    for part in parts {
+        so_far = Some(grown(so_far, &part.shape));
+    }
+    so_far
+}
+
+// The box around what was found so far and a hole.
+fn around_hole(found: Option<Bounds>, hole: &Option<Hole>) -> Option<Bounds>
+    requires fits { IfSome found (FitsWithin (pos 1500000000)) }
+    ensures grown { (before : List Part) → AreBoundsOf before found → AreBoundsOf (before ++ hole_parts hole.now) result }
+    ensures fits { IfSome result (FitsWithin (pos 1500000000)) }
+{
+    match hole {
+        None => found,
+        Some(hole) => Some(grown(found, &hole.shape)),
+    }
+}
+
+impl What {
+    // The parts that the kind gives: the first list, and then the second.
+    pub(crate) fn parts(&self) -> (&[Part], &[Part])
+        ensures { result.0.now ++ result.1.now ≡ kind_parts self.now }
+    {
+        match self {
+            What::Edge { lines } => (lines.as_slice(), &[]),
+            What::Area { shape, .. } => (slice::from_ref(shape), &[]),
+            What::Body { front, back, .. } => (front.as_slice(), back.as_slice()),
+            What::Track { .. }
+            | What::Via { .. }
+            | What::Pad { .. }
+            | What::Graphic
+            | What::Fill
+            | What::Note { .. } => (&[], &[]),
+        }
+    }
+}
+
+impl Item {
+    /// The least box that holds its copper, its hole, and the lines, the area or the courtyards that its kind has, each
+    /// with its radius; None exactly where it has none of them. The box is in half nanometres.
+    pub fn bounds(&self) -> Option<Bounds>
+        ensures least { AreBoundsOf (parts_of self.now) result }
+        ensures fits { IfSome result (FitsWithin (pos 1500000000)) }
+    {
+        let (first, second) = self.what.parts();
+        let copper = around(None, self.copper.as_slice());
+        let drilled = around_hole(copper, &self.hole);
+        around(around(drilled, first), second)
+    }
+}

@@ -1,0 +1,21 @@
+//! A board: its copper layers, its nets, and a list of items whose ids rise.
+//!
+//! Positions and sizes are whole nanometres; the points and radii of shapes are half nanometres.
+#![tactic(auto)]
+
+mod board;
+mod errors;
+mod extents;
+mod item;
+mod layers;
+mod parts;
+#[cfg(test)]
+mod tests;
+mod walk;
+
+pub use board::Board;
+pub use errors::{BoardError, Found, ItemError};
+pub use item::{About, Bans, Hole, Item, Nm, What};
+pub use layers::LayerSet;
+pub use parts::{Part, Parts};
+pub use walk::{BoardIter, BoardNets};
