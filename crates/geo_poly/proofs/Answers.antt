@@ -228,4 +228,3 @@ reached_nothing d (e ∷ O) (inr h) = reached_nothing d O h
 
 pub reached_none : (d : ℤ) (O T' X : List Seg) → (SomeReached d O T' ↔ SomeReached d O X) → X ≡ [] → SomeReached d O T' → ⊥
 reached_none d O T' X inv q t = reached_nothing d O (subst (SomeReached d O) q (inv.0 t))
-

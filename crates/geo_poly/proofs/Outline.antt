@@ -51,7 +51,6 @@ passes_at p e la lb u h ha hb =
     let fa = low_at p e.a ∙ ha in let fb = low_at p e.b ∙ hb in
     ap (passing la lb) (h ∙ sym (side_at p e)) ∙ ap (λ z. passing z lb (side e (spot_of p))) (sym fa) ∙ ap (λ z. passing (is_low (spot_of p) e.a) z (side e (spot_of p))) (sym fb)
 
-
 -- ---- the loops: O is the outline, X what is left of it
 pub each_step : (P : Seg → Type 0) (O X : List Seg) (e : Seg) (Y : List Seg) → (EachEdge P O ↔ EachEdge P X) → X ≡ e ∷ Y → P e → (EachEdge P O ↔ EachEdge P Y)
 each_step P O X e Y inv q h = (λ o. (subst (EachEdge P) q (inv.0 o)).1, λ y. inv.1 (subst (EachEdge P) (sym q) (h, y)))

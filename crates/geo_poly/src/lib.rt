@@ -9,5 +9,7 @@ mod edges;
 mod parity;
 mod polygons;
 mod runs;
+#[cfg(test)]
+mod tests;
 
 pub use polygons::{holds, poly_apart, poly_seg_apart, poly_seg_within, poly_within};
