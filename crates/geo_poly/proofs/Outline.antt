@@ -1,5 +1,5 @@
 -- What the loops over an outline's edges take, and what its tests say.
-use Rattle.std.proofs.Common.{negsuc, ◌-ℤ◌, ◌≡◌, ℕ, suc, ◌+◌, ◌-◌, ◌<◌, ◌≤◌, ℤ, pos, ◌+ℤ◌, unsigned_abs, ◌*ℤ◌, ◌≤ℤ◌, ◌<ℤ◌, ◌↔◌, Bool, true, false, not, IsTrue, FitsSigned, to_z, of_z, List, [], ◌∷◌, length, get_or, drop, refl, sym, ap, ◌∙◌, subst, inl, inr, arith, add-one, drop-cons}
+use Rattle.std.proofs.Common.{negsuc, ◌-ℤ◌, ◌≡◌, ℕ, suc, ◌+◌, ◌-◌, ◌<◌, ◌≤◌, ℤ, pos, unsigned_abs, ◌*ℤ◌, ◌↔◌, Bool, FitsSigned, List, [], ◌∷◌, length, get_or, drop, refl, sym, ap, ◌∙◌, subst, inl, inr, arith, add-one, drop-cons}
 use Rattle.std.proofs.lemmas.Int.{ints}
 use Rattle.geo_seg.proofs.Passed.{passed}
 use Rattle.std.proofs.lemmas.List.{drop_all}

@@ -1,11 +1,10 @@
-use Rattle.std.proofs.Common.{ℤ, ◌+◌, List, ap, not, refl, subst, sym, drop, ◌≡◌, true, false}
-use Rattle.geo_seg.specs.declared.points.Point.{Point}
+use Rattle.std.proofs.Common.{ℤ, ◌+◌, refl, subst, sym, drop}
 use Rattle.geo_seg.specs.declared.points.Seg.{Seg}
-use Rattle.geo_seg.specs.Inside.{edge, path, outline, EachEdge}
+use Rattle.geo_seg.specs.Inside.{edge, path, EachEdge}
 use Rattle.geo_seg.proofs.Choices.{fails_by, surely, surely_not}
 use Rattle.geo_seg.proofs.Passed.{passed, d_kept}
 use Rattle.geo_poly.specs.Outlines.{IsApart}
-use Rattle.geo_poly.proofs.Outline.{path_next, path_end, along, each_step, each_fails, each_done}
+use Rattle.geo_poly.proofs.Outline.{path_next, path_end, each_step, each_fails, each_done}
 use Rattle.geo_poly.proofs.edges.path_apart.Goals as goal
 
 abbrev P : Seg → ℤ → Seg → Type 0

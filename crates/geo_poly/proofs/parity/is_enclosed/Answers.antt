@@ -1,6 +1,5 @@
-use Rattle.std.proofs.Common.{ap, sym, ◌∙◌, drop}
+use Rattle.std.proofs.Common.{ap, ◌∙◌}
 use Rattle.geo_seg.specs.Points.{spot_of}
-use Rattle.geo_seg.specs.Inside.{path}
 use Rattle.geo_seg.proofs.Parity.{differ, is_odd}
 use Rattle.geo_poly.proofs.Sides.{differ_false}
 use Rattle.geo_poly.proofs.Outline.{outline_is, path_end}

@@ -4,7 +4,7 @@ use Rattle.geo_seg.specs.Points.{IsOn}
 use Rattle.geo_seg.specs.Nearer.{AreApart}
 use Rattle.geo_seg.specs.Inside.{EachEdge, outline, IsInside}
 use Rattle.geo_seg.proofs.Choices.{not_and_first, not_and_second, through}
-use Rattle.geo_seg.proofs.Passed.{passed, d_kept, d_zero, d_positive, at_d}
+use Rattle.geo_seg.proofs.Passed.{passed, d_zero, d_positive, at_d}
 use Rattle.geo_poly.specs.Outlines.{IsApart}
 use Rattle.geo_poly.proofs.Answers.{apart_zero, seg_apart_code, iff_at}
 use Rattle.geo_poly.proofs.polygons.edges_apart.Goals as goal

@@ -1,4 +1,4 @@
-use Rattle.std.proofs.Common.{List, ℤ, pos, refl, sym}
+use Rattle.std.proofs.Common.{List, pos, refl, sym}
 use Rattle.geo_seg.specs.declared.points.Seg.{Seg}
 use Rattle.geo_seg.specs.Inside.{SomeEdge, edge}
 use Rattle.geo_seg.proofs.Choices.{or_first, or_second, through}

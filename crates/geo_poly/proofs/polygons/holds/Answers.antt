@@ -1,4 +1,4 @@
-use Rattle.std.proofs.Common.{List, ℤ, pos, not, ap}
+use Rattle.std.proofs.Common.{List, pos, not, ap}
 use Rattle.geo_seg.specs.declared.points.Point.{Point}
 use Rattle.geo_seg.specs.Points.{IsAt, spot_of}
 use Rattle.geo_seg.specs.Inside.{IsInside}

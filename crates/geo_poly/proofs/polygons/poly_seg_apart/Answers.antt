@@ -5,7 +5,7 @@ use Rattle.geo_seg.specs.Nearer.{AreApart}
 use Rattle.geo_seg.specs.Inside.{IsInside}
 use Rattle.geo_seg.specs.Boxes.{AreClear}
 use Rattle.geo_seg.proofs.BoxLemmas.{clear_apart}
-use Rattle.geo_seg.proofs.Passed.{passed, at_d}
+use Rattle.geo_seg.proofs.Passed.{at_d}
 use Rattle.geo_seg.proofs.Choices.{surely}
 use Rattle.geo_poly.proofs.Answers.{iff_at}
 use Rattle.geo_poly.proofs.polygons.poly_seg_apart.Goals as goal

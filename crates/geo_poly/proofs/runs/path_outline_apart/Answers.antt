@@ -1,4 +1,4 @@
-use Rattle.std.proofs.Common.{ℤ, ◌+◌, List, ap, not, refl, subst, sym, drop, ◌≡◌, true, false}
+use Rattle.std.proofs.Common.{ℤ, ◌+◌, List, refl, subst, sym, drop}
 use Rattle.geo_seg.specs.declared.points.Point.{Point}
 use Rattle.geo_seg.specs.declared.points.Seg.{Seg}
 use Rattle.geo_seg.specs.Inside.{edge, path, outline, EachEdge}
