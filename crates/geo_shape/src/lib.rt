@@ -5,5 +5,7 @@
 #![tactic(auto)]
 
 mod distances;
+#[cfg(test)]
+mod tests;
 
 pub use distances::{apart, gap, meet};
