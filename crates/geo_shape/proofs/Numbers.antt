@@ -1,9 +1,9 @@
 -- Sums of radii, and doubled distances.
-use Rattle.std.proofs.Common.{◌≡◌, ℕ, ℤ, pos, ◌+ℤ◌, ◌*ℤ◌, ◌≤ℤ◌, ◌≤◌, to_z, of_z, w64, arith}
+use Rattle.std.proofs.Common.{◌≡◌, ℤ, pos, ◌+ℤ◌, ◌*ℤ◌, ◌≤ℤ◌, arith}
 use Rattle.std.proofs.lemmas.Int.{ints}
 use Rattle.geo_seg.specs.declared.shapes.Shape.{Shape}
 use Rattle.geo_seg.specs.Cores.{IsPointOf}
-use Rattle.geo_seg.proofs.Passed.{passed, d_kept}
+use Rattle.geo_seg.proofs.Passed.{passed}
 use Rattle.geo_poly.proofs.Distances.{apart_less}
 use Rattle.geo_shape.specs.Distances.{Apart}
 

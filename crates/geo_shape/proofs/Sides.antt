@@ -1,5 +1,5 @@
 -- The relations of two sets of points, seen from the other one.
-use Rattle.std.proofs.Common.{◌≡◌, ℤ, pos, ◌+ℤ◌, ◌-ℤ◌, ◌*ℤ◌, ◌≤ℤ◌, ◌<ℤ◌, ◌↔◌, Bool, false, IsTrue}
+use Rattle.std.proofs.Common.{ℤ, ◌↔◌, Bool, false, IsTrue}
 use Rattle.geo_seg.specs.Points.{Spot}
 use Rattle.geo_seg.specs.Nearer.{AreApart, AreWithin}
 use Rattle.geo_seg.proofs.BoxLemmas.{nearer_sym}

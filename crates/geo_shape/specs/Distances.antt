@@ -1,6 +1,6 @@
 -- How far shapes are from each other. A shape is all points within its radius of its core, so that a distance of shapes is
 -- one of their cores with the two radii added.
-use Rattle.std.specs.Prelude.{◌≡◌, ℤ, pos, ◌+ℤ◌, ◌*ℤ◌, ◌≤ℤ◌, ◌⊎◌}
+use Rattle.std.specs.Prelude.{◌≡◌, ℤ, pos, ◌+ℤ◌, ◌≤ℤ◌, ◌⊎◌}
 use Rattle.geo_seg.specs.declared.shapes.Shape.{Shape}
 use Rattle.geo_seg.specs.Cores.{IsPointOf}
 use Rattle.geo_seg.specs.Nearer.{AreApart, AreWithin}
