@@ -1,5 +1,4 @@
--- Pass 1: where no edge meets the way from one spot to another, an odd number of edges passes to the right of both or of
--- neither.
+-- Where no edge meets the way from one spot to another, an odd number of edges passes to the right of both or of neither.
 use Rattle.std.proofs.Common.{◌≡◌, ℤ, pos, ◌+ℤ◌, ◌-ℤ◌, ◌*ℤ◌, neg_ℤ, ◌≤ℤ◌, ◌<ℤ◌, ◌⊎◌, Bool, true, false, List, [], ◌∷◌, refl, sym, ap, ◌∙◌, inl, inr, arith}
 use Rattle.std.proofs.lemmas.Int.{ints, by_lt_z}
 use Rattle.std.specs.Int.Signed.{lt_z}

@@ -26,7 +26,8 @@ fn side_of(e: Seg, p: Point) -> i64
 }
 
 // Whether the edge crosses the ray from the point to the right, and not at the point itself. An
-// edge has its upper end and not its lower one, so that a corner on the ray counts once.
+// edge counts with its end of lesser y and without the other, so that a corner on the ray counts
+// once.
 fn passes_right(p: Point, e: Seg) -> bool
     ensures { result ≡ passes (spot_of p) e }
 {

@@ -84,7 +84,7 @@ fn outlines_within(corners: &[Point], far: Bounds, others: &[Point], d: i64) -> 
 }
 
 /// Whether the point lies on an edge of the polygon, or inside: an odd number of edges passes to its
-/// right (the even-odd rule). An edge has its upper end and not its lower one.
+/// right (the even-odd rule), where an edge counts with its end of lesser y and without the other.
 pub fn holds(poly: &Poly, p: Point) -> bool
     ensures { IsTrue result ↔ IsInside poly.now (spot_of p) }
 {
