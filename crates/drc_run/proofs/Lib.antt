@@ -2,7 +2,6 @@ pub mod Lines
 pub mod NetLists
 pub mod Atoms
 pub mod Scalars
-pub mod Distances
 pub mod ViaCopper
 pub mod Pairs
 pub mod RowLists

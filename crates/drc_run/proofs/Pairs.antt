@@ -5,8 +5,9 @@ use Rattle.std.proofs.lemmas.List.Elements.{All-head, All-nil, Contains-append_r
 use Rattle.drc_run.specs.declared.violation.Violation.{Violation}
 use Rattle.drc_run.specs.declared.violation.Kind.{Kind}
 use Rattle.drc_run.specs.declared.violation.Kind.TheVariants.{Short, Clearance}
+use Rattle.geo_shape.specs.Distances.{IsGap}
 use Rattle.drc_run.specs.Board.{PlainVia, both_layers}
-use Rattle.drc_run.specs.Copper.{MeetOn, KeepOn, AreApartOn, IsGap}
+use Rattle.drc_run.specs.Copper.{MeetOn, KeepOn, AreApartOn}
 use Rattle.drc_run.specs.Violations.{clearance, IsFirstLayer, DoShort, IsViolation}
 
 -- the first layer of all, where P holds of it

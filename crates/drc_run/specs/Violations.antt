@@ -3,8 +3,9 @@
 use Rattle.std.specs.Prelude.{◌≡◌, ◌≢◌, ℕ, ℤ, pos, List, ◌∷◌, ◌++◌, ◌⊎◌, All, Contains}
 use Rattle.drc_run.specs.declared.violation.Violation.{Violation}
 use Rattle.drc_run.specs.declared.violation.Kind.TheVariants.{Short, Clearance}
+use Rattle.geo_shape.specs.Distances.{IsGap}
 use Rattle.drc_run.specs.Board.{PlainVia}
-use Rattle.drc_run.specs.Copper.{MeetOn, KeepOn, IsGap}
+use Rattle.drc_run.specs.Copper.{MeetOn, KeepOn}
 
 -- the clearance that is asked for, in nanometres: 0.2 mm
 abbrev pub clearance : ℤ

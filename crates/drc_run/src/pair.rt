@@ -9,9 +9,10 @@ ghost use Rattle.drc_run.specs.Violations.{IsViolation, DoShort};
 use crate::board::Via;
 use crate::copper::{are_apart, gap, meet};
 use crate::violation::{Kind, Violation};
+use exact_dec::Nm;
 
 /// The clearance that is asked for: 0.2 mm in nanometres.
-const CLEARANCE: u32 = 200_000;
+const CLEARANCE: Nm = 200_000;
 
 /// Whether copper of two nets meets.
 fn do_short(a: &Via, b: &Via) -> bool
@@ -37,7 +38,7 @@ pub(crate) fn violation_of(a: &Via, b: &Via) -> Option<Violation>
     if a.net == b.net {
         return None;
     }
-    if are_apart(a, b, i64::from(CLEARANCE)) {
+    if are_apart(a, b, CLEARANCE) {
         return None;
     }
     if do_short(a, b) {
@@ -51,7 +52,7 @@ pub(crate) fn violation_of(a: &Via, b: &Via) -> Option<Violation>
     Some(Violation {
         kind: Kind::Clearance,
         layer: 0,
-        value: i64::from(CLEARANCE),
-        gap: i64::from(gap(a, b, CLEARANCE)),
+        value: CLEARANCE,
+        gap: gap(a, b, CLEARANCE),
     })
 }
