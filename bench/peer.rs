@@ -1,5 +1,5 @@
 // The same tests of the same pairs in plain Rust, for a comparison of times: `rustc -O peer.rs`.
-// It proves nothing, and is written after crates/bench and crates/geo_seg line by line.
+// It proves nothing, and is written after crates/bench, crates/geo_seg and crates/geo_poly line by line.
 
 #[derive(Clone, Copy)]
 struct Point {
@@ -165,11 +165,209 @@ fn answers(pairs: &[(Seg, Seg)], rounds: u32) -> u64 {
     count
 }
 
+struct Poly {
+    corners: Vec<Point>,
+    bounds: Bounds,
+}
+
+fn grown(b: Bounds, p: Point) -> Bounds {
+    Bounds {
+        left: b.left.min(p.x),
+        top: b.top.min(p.y),
+        right: b.right.max(p.x),
+        bottom: b.bottom.max(p.y),
+    }
+}
+
+fn path_box(from: Point, part: &[Point]) -> Bounds {
+    part.iter().fold(Bounds::at(from), |b, p| grown(b, *p))
+}
+
+impl Poly {
+    fn of(corners: Vec<Point>) -> Poly {
+        let bounds = path_box(corners[0], &corners);
+        Poly { corners, bounds }
+    }
+}
+
+fn passes_right(p: Point, e: Seg) -> bool {
+    let side = || cross(between(e.a, e.b), between(e.a, p));
+    match (e.a.y <= p.y, e.b.y <= p.y) {
+        (true, false) => 0 < side(),
+        (false, true) => side() < 0,
+        _ => false,
+    }
+}
+
+fn is_enclosed(corners: &[Point], p: Point) -> bool {
+    let mut from = corners[corners.len() - 1];
+    let mut odd = false;
+    for c in corners {
+        if passes_right(p, Seg { a: from, b: *c }) {
+            odd = !odd;
+        }
+        from = *c;
+    }
+    odd
+}
+
+fn path_apart(from: Point, part: &[Point], s: Seg, d: i64) -> bool {
+    let near = Bounds::of(s);
+    let mut at = from;
+    for c in part {
+        let e = Seg { a: at, b: *c };
+        if !(Bounds::of(e).is_clear(near, d) || seg_apart(e, s, d)) {
+            return false;
+        }
+        at = *c;
+    }
+    true
+}
+
+fn path_within(from: Point, part: &[Point], s: Seg, d: i64) -> bool {
+    let near = Bounds::of(s);
+    let mut at = from;
+    for c in part {
+        let e = Seg { a: at, b: *c };
+        if !Bounds::of(e).is_clear(near, d + 1) && seg_within(e, s, d) {
+            return true;
+        }
+        at = *c;
+    }
+    false
+}
+
+fn run_apart(from: Point, part: &[Point], far: &Poly, d: i64) -> bool {
+    let near = path_box(from, part);
+    if near.is_clear(far.bounds, d) {
+        return true;
+    }
+    let mut at = far.corners[far.corners.len() - 1];
+    for c in &far.corners {
+        let s = Seg { a: at, b: *c };
+        if !(near.is_clear(Bounds::of(s), d) || path_apart(from, part, s, d)) {
+            return false;
+        }
+        at = *c;
+    }
+    true
+}
+
+fn run_within(from: Point, part: &[Point], far: &Poly, d: i64) -> bool {
+    let near = path_box(from, part);
+    if near.is_clear(far.bounds, d + 1) {
+        return false;
+    }
+    let mut at = far.corners[far.corners.len() - 1];
+    for c in &far.corners {
+        let s = Seg { a: at, b: *c };
+        if !near.is_clear(Bounds::of(s), d + 1) && path_within(from, part, s, d) {
+            return true;
+        }
+        at = *c;
+    }
+    false
+}
+
+fn runs(poly: &Poly, mut goes_on: impl FnMut(Point, &[Point]) -> bool) -> bool {
+    let mut from = poly.corners[poly.corners.len() - 1];
+    for part in poly.corners.chunks(256) {
+        if !goes_on(from, part) {
+            return false;
+        }
+        from = part[part.len() - 1];
+    }
+    true
+}
+
+fn either_inside(a: &Poly, b: &Poly) -> bool {
+    is_enclosed(&b.corners, a.corners[a.corners.len() - 1])
+        || is_enclosed(&a.corners, b.corners[b.corners.len() - 1])
+}
+
+fn poly_seg_apart(poly: &Poly, s: Seg, d: i64) -> bool {
+    let last = poly.corners[poly.corners.len() - 1];
+    poly.bounds.is_clear(Bounds::of(s), d)
+        || d == 0
+        || !is_enclosed(&poly.corners, s.a) && path_apart(last, &poly.corners, s, d)
+}
+
+fn poly_apart(a: &Poly, b: &Poly, d: i64) -> bool {
+    a.bounds.is_clear(b.bounds, d)
+        || d == 0
+        || !either_inside(a, b) && runs(b, |from, part| run_apart(from, part, a, d))
+}
+
+fn poly_within(a: &Poly, b: &Poly, d: i64) -> bool {
+    !a.bounds.is_clear(b.bounds, d + 1)
+        && (either_inside(a, b) || !runs(b, |from, part| !run_within(from, part, a, d)))
+}
+
+fn corner(side: u32, place: i64, step: i64, radius: i64) -> Point {
+    let t = place * step;
+    let u = radius - (place & 1) * 1000 - t;
+    match side {
+        0 => Point { x: u, y: t },
+        1 => Point { x: -t, y: u },
+        2 => Point { x: -u, y: -t },
+        _ => Point { x: t, y: -u },
+    }
+}
+
+fn fill() -> Poly {
+    let mut corners = Vec::new();
+    for side in 0..4 {
+        corners.extend((0..20_000).map(|place| corner(side, place, 5_000, 100_000_000)));
+    }
+    Poly::of(corners)
+}
+
+fn ring() -> Poly {
+    let mut corners = Vec::new();
+    for side in 0..4 {
+        corners.extend((0..2_500).map(|place| corner(side, place, 48_000, 120_000_000)));
+    }
+    for side in (0..4).rev() {
+        corners.extend((0..2_500).rev().map(|place| corner(side, place, 40_400, 101_000_000)));
+    }
+    Poly::of(corners)
+}
+
+fn apart_items(fill: &Poly, count: u32) -> u64 {
+    let mut numbers = Numbers { state: 7 };
+    let mut apart = 0;
+    for number in 0..count {
+        let x = numbers.draw() * 12 - 100_000_000;
+        let y = numbers.draw() * 12 - 100_000_000;
+        let u = numbers.draw() & 0x3f_ffff;
+        let s = if number & 7 < 5 { seg(x, y, 0, 0) } else { seg(x, y, u, u) };
+        apart += u64::from(poly_seg_apart(fill, s, 1_200_000));
+    }
+    apart
+}
+
+fn near_fills(ring: &Poly, fill: &Poly, rounds: u32) -> u64 {
+    let mut count = 0;
+    for round in 0..rounds {
+        let d = 400_000 + i64::from(round & 0xff);
+        count += u64::from(poly_apart(ring, fill, d));
+        count += u64::from(poly_within(ring, fill, d)) << 1;
+    }
+    count
+}
+
 fn main() {
     let words: Vec<String> = std::env::args().collect();
     let kind = words[1].as_str();
     let rounds = words[2].parse().expect("a number of rounds");
-    let mut numbers = Numbers { state: 7 };
-    let pairs: Vec<(Seg, Seg)> = (0..1024).map(|_| pair(kind, &mut numbers)).collect();
-    println!("{kind} {rounds}: {}", answers(&pairs, rounds));
+    let count = match kind {
+        "items" => apart_items(&fill(), rounds),
+        "fills" => near_fills(&ring(), &fill(), rounds),
+        _ => {
+            let mut numbers = Numbers { state: 7 };
+            let pairs: Vec<(Seg, Seg)> = (0..1024).map(|_| pair(kind, &mut numbers)).collect();
+            answers(&pairs, rounds)
+        }
+    };
+    println!("{kind} {rounds}: {count}");
 }

@@ -1,11 +1,14 @@
 // Asks of many pairs of segments whether they are apart, and whether they are within a distance:
-// pairs that lie far from each other, pairs side by side, and pairs that cross.
+// pairs that lie far from each other, pairs side by side, and pairs that cross. Asks the same of a
+// fill of many corners and vias and tracks (items), and of two fills.
 //
 // Without words it makes a few rounds of each kind. With a kind and a number of rounds it makes
 // those. Each line ends with how many of the answers were yes.
 #![tactic(auto)]
 
 ghost use Rattle.std.specs.Prelude.{◌≤◌, unsigned_abs};
+
+mod fills;
 
 use geo_seg::{Point, Seg, seg_apart, seg_within};
 use std::alloc::Global;
@@ -144,11 +147,20 @@ fn main(rt: HostRuntime) -> anyhow::Result<()> {
     let (Some(kind), Some(rounds)) = (words.next(), words.next()) else {
         run(&rt, rt.alloc(), Kind::Far, 3)?;
         run(&rt, rt.alloc(), Kind::Near, 3)?;
-        return run(&rt, rt.alloc(), Kind::Crossing, 3);
+        run(&rt, rt.alloc(), Kind::Crossing, 3)?;
+        fills::items(&rt, rt.alloc(), 24)?;
+        return fills::fills(&rt, rt.alloc(), 1);
     };
-    let Some(kind) = Kind::named(&kind) else {
-        println!(rt; "far, near or crossing, and a number of rounds")?;
-        return Ok(());
-    };
-    run(&rt, rt.alloc(), kind, rounds.parse()?)
+    let rounds = rounds.parse()?;
+    match &*kind {
+        "items" => fills::items(&rt, rt.alloc(), rounds),
+        "fills" => fills::fills(&rt, rt.alloc(), rounds),
+        name => {
+            let Some(kind) = Kind::named(name) else {
+                println!(rt; "far, near, crossing, items or fills, and a number of rounds")?;
+                return Ok(());
+            };
+            run(&rt, rt.alloc(), kind, rounds)
+        }
+    }
 }
