@@ -1,0 +1,11 @@
+pub mod Insides
+pub mod Sides
+pub mod Between
+pub mod Ways
+pub mod Reach
+pub mod Ray
+pub mod PolyReach
+pub mod Distances
+pub mod Covers
+pub mod Outline
+pub mod Answers

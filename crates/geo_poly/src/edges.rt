@@ -1,0 +1,73 @@
+// The edges of a path, and a segment.
+
+ghost use Rattle.std.specs.Prelude.{◌≡◌, ◌≤ℤ◌, ◌<◌, pos, IsTrue, ◌↔◌, length};
+ghost use Rattle.geo_seg.specs.Points.{IsOn};
+ghost use Rattle.geo_seg.specs.Boxes.{IsLeastBox, FitsWithin};
+ghost use Rattle.geo_seg.specs.Inside.{path, outline, EachEdge, SomeEdge};
+ghost use Rattle.geo_poly.specs.Outlines.{IsApart, IsReached};
+
+use geo_seg::{Bounds, Point, Seg, seg_apart, seg_within};
+
+// The corner from which the closing edge leads to the first one.
+pub fn last(corners: &[Point]) -> Point
+    requires { 0 < length corners.now }
+    ensures { outline corners.now ≡ path result corners.now }
+{
+    corners[corners.len() - 1]
+}
+
+// Whether the edge is apart from the segment, whose box is `near`.
+fn edge_apart(e: Seg, s: Seg, near: Bounds, d: i64) -> bool
+    requires near { IsLeastBox (IsOn s) near }
+    requires fits { FitsWithin (pos 1000000000) near }
+    requires from { pos 0 ≤ℤ d }
+    requires to { d ≤ℤ pos 2000000000 }
+    ensures { IsTrue result ↔ IsApart e s d }
+{
+    e.bounds().is_clear(near, d) || seg_apart(e, s, d)
+}
+
+// Whether the edge is within d of the segment, whose box is `near`.
+fn edge_within(e: Seg, s: Seg, near: Bounds, d: i64) -> bool
+    requires near { IsLeastBox (IsOn s) near }
+    requires fits { FitsWithin (pos 1000000000) near }
+    requires from { pos 0 ≤ℤ d }
+    requires to { d ≤ℤ pos 2000000000 }
+    ensures { IsTrue result ↔ IsReached e s d }
+{
+    !e.bounds().is_clear(near, d + 1) && seg_within(e, s, d)
+}
+
+// Whether each edge of the path is apart from the segment.
+pub fn path_apart(from: Point, part: &[Point], s: Seg, d: i64) -> bool
+    requires from { pos 0 ≤ℤ d }
+    requires to { d ≤ℤ pos 2000000000 }
+    ensures { IsTrue result ↔ EachEdge (λ e. IsApart e s d) (path from part.now) }
+{
+    let near = s.bounds();
+    let mut at = from;
+    for c in part {
+        if !edge_apart(Seg { a: at, b: *c }, s, near, d) {
+            return false;
+        }
+        at = *c;
+    }
+    true
+}
+
+// Whether some edge of the path is within d of the segment.
+pub fn path_within(from: Point, part: &[Point], s: Seg, d: i64) -> bool
+    requires from { pos 0 ≤ℤ d }
+    requires to { d ≤ℤ pos 2000000000 }
+    ensures { IsTrue result ↔ SomeEdge (λ e. IsReached e s d) (path from part.now) }
+{
+    let near = s.bounds();
+    let mut at = from;
+    for c in part {
+        if edge_within(Seg { a: at, b: *c }, s, near, d) {
+            return true;
+        }
+        at = *c;
+    }
+    false
+}
