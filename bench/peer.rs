@@ -1,5 +1,6 @@
 // The same tests of the same pairs in plain Rust, for a comparison of times: `rustc -O peer.rs`.
-// It proves nothing, and is written after crates/bench and crates/geo_seg line by line.
+// It proves nothing, and is written after crates/bench, crates/geo_seg and crates/geo_poly line by
+// line.
 
 #[derive(Clone, Copy)]
 struct Point {
@@ -124,6 +125,167 @@ fn seg_within(a: Seg, b: Seg, d: i64) -> bool {
             || point_within(b.b, a, d))
 }
 
+struct Poly {
+    corners: Vec<Point>,
+    bounds: Bounds,
+}
+
+impl Poly {
+    fn of(corners: Vec<Point>) -> Poly {
+        let bounds = path_box(corners[0], &corners);
+        Poly { corners, bounds }
+    }
+}
+
+fn path_box(from: Point, part: &[Point]) -> Bounds {
+    let mut bounds = Bounds::at(from);
+    for p in part {
+        bounds = Bounds {
+            left: bounds.left.min(p.x),
+            top: bounds.top.min(p.y),
+            right: bounds.right.max(p.x),
+            bottom: bounds.bottom.max(p.y),
+        };
+    }
+    bounds
+}
+
+fn last(corners: &[Point]) -> Point {
+    corners[corners.len() - 1]
+}
+
+fn edge_apart(e: Seg, s: Seg, near: Bounds, d: i64) -> bool {
+    Bounds::of(e).is_clear(near, d) || seg_apart(e, s, d)
+}
+
+fn edge_within(e: Seg, s: Seg, near: Bounds, d: i64) -> bool {
+    !Bounds::of(e).is_clear(near, d + 1) && seg_within(e, s, d)
+}
+
+fn path_apart(from: Point, part: &[Point], s: Seg, d: i64) -> bool {
+    let near = Bounds::of(s);
+    let mut at = from;
+    for c in part {
+        if !edge_apart(Seg { a: at, b: *c }, s, near, d) {
+            return false;
+        }
+        at = *c;
+    }
+    true
+}
+
+fn path_within(from: Point, part: &[Point], s: Seg, d: i64) -> bool {
+    let near = Bounds::of(s);
+    let mut at = from;
+    for c in part {
+        if edge_within(Seg { a: at, b: *c }, s, near, d) {
+            return true;
+        }
+        at = *c;
+    }
+    false
+}
+
+fn side_of(e: Seg, p: Point) -> i64 {
+    cross(between(e.a, e.b), between(e.a, p))
+}
+
+fn passes_right(p: Point, e: Seg) -> bool {
+    if e.a.y <= p.y {
+        e.b.y > p.y && 0 < side_of(e, p)
+    } else {
+        e.b.y <= p.y && side_of(e, p) < 0
+    }
+}
+
+fn is_enclosed(corners: &[Point], p: Point) -> bool {
+    let mut from = last(corners);
+    let mut odd = false;
+    for c in corners {
+        if passes_right(p, Seg { a: from, b: *c }) {
+            odd = !odd;
+        }
+        from = *c;
+    }
+    odd
+}
+
+fn path_outline_apart(from: Point, part: &[Point], near: Bounds, others: &[Point], d: i64) -> bool {
+    let mut at = last(others);
+    for c in others {
+        let s = Seg { a: at, b: *c };
+        if !near.is_clear(Bounds::of(s), d) && !path_apart(from, part, s, d) {
+            return false;
+        }
+        at = *c;
+    }
+    true
+}
+
+fn runs_apart(corners: &[Point], far: Bounds, others: &[Point], d: i64) -> bool {
+    let mut from = last(corners);
+    for part in corners.chunks(256) {
+        let near = path_box(from, part);
+        if !near.is_clear(far, d) && !path_outline_apart(from, part, near, others, d) {
+            return false;
+        }
+        from = last(part);
+    }
+    true
+}
+
+fn path_outline_within(from: Point, part: &[Point], near: Bounds, others: &[Point], d: i64) -> bool {
+    let mut at = last(others);
+    for c in others {
+        let s = Seg { a: at, b: *c };
+        if !near.is_clear(Bounds::of(s), d + 1) && path_within(from, part, s, d) {
+            return true;
+        }
+        at = *c;
+    }
+    false
+}
+
+fn runs_within(corners: &[Point], far: Bounds, others: &[Point], d: i64) -> bool {
+    let mut from = last(corners);
+    for part in corners.chunks(256) {
+        let near = path_box(from, part);
+        if !near.is_clear(far, d + 1) && path_outline_within(from, part, near, others, d) {
+            return true;
+        }
+        from = last(part);
+    }
+    false
+}
+
+fn either_inside(a: &Poly, b: &Poly) -> bool {
+    is_enclosed(&b.corners, last(&a.corners)) || is_enclosed(&a.corners, last(&b.corners))
+}
+
+fn poly_seg_apart(poly: &Poly, s: Seg, d: i64) -> bool {
+    poly.bounds.is_clear(Bounds::of(s), d)
+        || d == 0
+        || !is_enclosed(&poly.corners, s.a)
+            && path_apart(last(&poly.corners), &poly.corners, s, d)
+}
+
+fn poly_seg_within(poly: &Poly, s: Seg, d: i64) -> bool {
+    !poly.bounds.is_clear(Bounds::of(s), d + 1)
+        && (is_enclosed(&poly.corners, s.a)
+            || path_within(last(&poly.corners), &poly.corners, s, d))
+}
+
+fn poly_apart(a: &Poly, b: &Poly, d: i64) -> bool {
+    a.bounds.is_clear(b.bounds, d)
+        || d == 0
+        || !either_inside(a, b) && runs_apart(&b.corners, a.bounds, &a.corners, d)
+}
+
+fn poly_within(a: &Poly, b: &Poly, d: i64) -> bool {
+    !a.bounds.is_clear(b.bounds, d + 1)
+        && (either_inside(a, b) || runs_within(&b.corners, a.bounds, &a.corners, d))
+}
+
 struct Numbers {
     state: u64,
 }
@@ -165,11 +327,120 @@ fn answers(pairs: &[(Seg, Seg)], rounds: u32) -> u64 {
     count
 }
 
+const PITCH: i64 = 4_000_000;
+const RISE: i64 = 250_000;
+
+struct Comb {
+    left: i64,
+    foot: i64,
+    root: i64,
+    rise: i64,
+    width: i64,
+    teeth: u32,
+    steps: i64,
+}
+
+fn first(corners: u32) -> Poly {
+    let comb = Comb {
+        left: 0,
+        foot: -2_000_000,
+        root: 0,
+        rise: RISE,
+        width: 2_000_000,
+        teeth: 50,
+        steps: i64::from(corners / 100),
+    };
+    comb.polygon()
+}
+
+fn second(corners: u32) -> Poly {
+    let root = i64::from(corners / 100) * RISE + 2_000_000;
+    let comb = Comb {
+        left: -1_600_000,
+        foot: root + 2_000_000,
+        root,
+        rise: -4 * RISE,
+        width: 1_200_000,
+        teeth: 51,
+        steps: i64::from(corners / 100 / 4),
+    };
+    comb.polygon()
+}
+
+impl Comb {
+    fn draw_tooth(&self, x: i64, corners: &mut Vec<Point>) {
+        for k in 0..2 * self.steps {
+            let dent = (k & 3) * 40_000;
+            let (x, level) = if k < self.steps {
+                (x + dent, k)
+            } else {
+                (x + self.width - dent, 2 * self.steps - 1 - k)
+            };
+            corners.push(Point { x, y: self.root + level * self.rise });
+        }
+    }
+
+    fn polygon(&self) -> Poly {
+        let mut corners = Vec::new();
+        let mut x = self.left;
+        for _ in 0..self.teeth {
+            self.draw_tooth(x, &mut corners);
+            x += PITCH;
+        }
+        corners.push(Point { x, y: self.root });
+        corners.push(Point { x, y: self.foot });
+        corners.push(Point { x: self.left, y: self.foot });
+        Poly::of(corners)
+    }
+}
+
+fn drawn(k: u32, numbers: &mut Numbers, steps: i64) -> Seg {
+    let x = numbers.draw() * 13 - 8_000_000;
+    let y = numbers.draw() * steps >> 6;
+    let u = numbers.draw() & 0x7_ffff;
+    let v = numbers.draw() >> 1;
+    if k & 7 < 5 { seg(x, y, 0, 0) } else { seg(x, y, u, v) }
+}
+
+fn fill(corners: u32) -> u64 {
+    let fill = first(corners);
+    let mut numbers = Numbers { state: 7 };
+    let mut count: u64 = 0;
+    for k in 0..corners / 10 {
+        let s = drawn(k, &mut numbers, i64::from(corners / 100));
+        let d = 400_000 + i64::from(k & 0xff);
+        count += u64::from(poly_seg_apart(&fill, s, d)) | u64::from(poly_seg_within(&fill, s, d)) << 1;
+    }
+    count
+}
+
+fn fills(corners: u32) -> u64 {
+    let a = first(corners);
+    let b = second(corners);
+    let mut count: u64 = 0;
+    for round in 0..16 {
+        let d = 399_000 + 100 * i64::from(round);
+        count += u64::from(poly_apart(&a, &b, d)) + u64::from(poly_apart(&b, &a, d));
+        count += u64::from(poly_within(&a, &b, d)) << 1;
+        count += u64::from(poly_within(&b, &a, d)) << 1;
+    }
+    count
+}
+
+fn pairs(kind: &str, rounds: u32) -> u64 {
+    let mut numbers = Numbers { state: 7 };
+    let pairs: Vec<(Seg, Seg)> = (0..1024).map(|_| pair(kind, &mut numbers)).collect();
+    answers(&pairs, rounds)
+}
+
 fn main() {
     let words: Vec<String> = std::env::args().collect();
     let kind = words[1].as_str();
-    let rounds = words[2].parse().expect("a number of rounds");
-    let mut numbers = Numbers { state: 7 };
-    let pairs: Vec<(Seg, Seg)> = (0..1024).map(|_| pair(kind, &mut numbers)).collect();
-    println!("{kind} {rounds}: {}", answers(&pairs, rounds));
+    let number = words[2].parse().expect("a number of rounds or of corners");
+    let count = match kind {
+        "fill" => fill(number),
+        "fills" => fills(number),
+        _ => pairs(kind, number),
+    };
+    println!("{kind} {number}: {count}");
 }
