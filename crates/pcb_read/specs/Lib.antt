@@ -1,0 +1,5 @@
+pub mod OnBoard
+pub mod Elements
+pub mod CopperNames
+pub mod BoardOf
+pub mod BoardText
