@@ -1,4 +1,5 @@
 mod LayerLemmas
 mod Around
 mod Rising
+mod Admitted
 mod Growing
