@@ -8,8 +8,18 @@ pub struct LayerSet {
 }
 
 impl LayerSet {
-    ghost use Rattle.std.specs.Prelude.{◌≡◌, ◌<◌, ◌↔◌, ℕ, IsTrue};
-    ghost use Rattle.board_items.specs.Layers.{has_layer, is_within};
+    ghost use Rattle.std.specs.Prelude.{◌≡◌, ◌<◌, ◌≤◌, ◌↔◌, ℕ, min, max, IsTrue};
+    ghost use Rattle.board_items.specs.declared.layers.LayerSet.{LayerSet};
+    ghost use Rattle.board_items.specs.Layers.{has_layer, is_within, single_layer, union_of, layers_between};
+
+    /// The set of one layer.
+    pub fn of(layer: u32) -> LayerSet
+        requires { layer < 32 }
+        ensures value { result ≡ single_layer layer }
+        ensures within { (set : LayerSet) → (IsTrue (is_within result set) ↔ IsTrue (has_layer set layer)) }
+    {
+        LayerSet { bits: 1 << layer }
+    }
 
     /// Whether the layer with this number is in the set.
     pub fn has(self, layer: u32) -> bool
@@ -25,5 +35,30 @@ impl LayerSet {
         ensures each { IsTrue result ↔ ((layer : ℕ) → IsTrue (has_layer self layer) → IsTrue (has_layer other layer)) }
     {
         self.bits & other.bits == self.bits
+    }
+
+    /// The layers of either set.
+    pub fn union(self, other: LayerSet) -> LayerSet
+        ensures { result ≡ union_of self other }
+    {
+        LayerSet {
+            bits: self.bits | other.bits,
+        }
+    }
+
+    /// The layers of this set from the one to the other, both among them, whichever is above.
+    pub fn between(self, a: u32, b: u32) -> LayerSet
+        requires first { a < 32 }
+        requires second { b < 32 }
+        ensures value { result ≡ layers_between self a b }
+        ensures within { IsTrue (is_within result self) }
+        ensures each { (layer : ℕ) → (IsTrue (has_layer result layer) ↔ (IsTrue (has_layer self layer) × (min a b ≤ layer) × (layer ≤ max a b))) }
+    {
+        // all layers up to the greater number, less those below the lesser
+        let up_to = u32::MAX >> (31 - a.max(b));
+        let below = (1 << a.min(b)) - 1;
+        LayerSet {
+            bits: self.bits & (up_to - below),
+        }
     }
 }
