@@ -54,7 +54,7 @@ impl LayerSet {
         ensures within { IsTrue (is_within result self) }
         ensures each { (layer : ℕ) → (IsTrue (has_layer result layer) ↔ (IsTrue (has_layer self layer) × (min a b ≤ layer) × (layer ≤ max a b))) }
     {
-        // the layers up to the lower one of the stack, less those above the upper one
+        // all layers up to the greater number, less those below the lesser
         let up_to = u32::MAX >> (31 - a.max(b));
         let below = (1 << a.min(b)) - 1;
         LayerSet {

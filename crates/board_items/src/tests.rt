@@ -211,6 +211,39 @@ fn nets(rt: HostRuntime) -> Result<(), Fail> {
     Ok(())
 }
 
+#[test]
+fn layers(rt: HostRuntime) -> Result<(), Fail> {
+    assert_eq!(rt; LayerSet::of(0).union(LayerSet::of(31)), BOTH);
+    assert_eq!(rt; FRONT.union(FRONT), FRONT);
+    // a set, two layers, and those of the set from the one to the other
+    let table = [
+        (u32::MAX, 0, 31, u32::MAX),
+        (u32::MAX, 3, 1, 14),
+        (u32::MAX, 31, 31, 0x8000_0000),
+        (0x8000_0001, 0, 30, 1),
+        (0x8000_0001, 30, 1, 0),
+    ];
+    for (bits, a, b, left) in table {
+        assert_eq!(rt; LayerSet { bits }.between(a, b), LayerSet { bits: left });
+    }
+    Ok(())
+}
+
+// The layers are set once an item is there.
+#[test]
+fn late_layers(rt: HostRuntime) -> Result<(), Fail> {
+    let alloc = rt.alloc();
+    let mut board = Board::new(alloc, NO_LAYER)?;
+    board.add(bare(alloc, 1, edge(alloc)?)?)?;
+    let early = board.add(track(alloc, (0, 0), 0, FRONT)?);
+    assert_eq!(rt; early, Err(ItemError::UnknownLayer));
+    board.set_copper(BOTH);
+    assert_eq!(rt; board.copper(), BOTH);
+    assert_eq!(rt; board.get(0).ok_or("its id")?.unit, 1);
+    assert_eq!(rt; board.add(track(alloc, (0, 0), 0, FRONT)?), Ok(1));
+    Ok(())
+}
+
 // Four items, of which the second and the last are marks.
 fn four(alloc: Global) -> Result<Board, ItemError> {
     let mut board = Board::new(alloc, BOTH)?;

@@ -1,6 +1,5 @@
-use Rattle.std.proofs.Common.{◌≡◌, ◌∙◌, ◌≤◌, ◌+◌, ◌-◌, ◌/◌, ◌*◌, ◌%◌, ◌^◌, ◌<◌, ℕ, IsTrue, ◌↔◌, min, max, bit_and, sym, subst, ap, arith}
-use Rattle.board_items.specs.declared.layers.LayerSet.{LayerSet}
-use Rattle.board_items.specs.Layers.{has_layer, is_within, layers_between}
+use Rattle.std.proofs.Common.{◌≤◌, ℕ, IsTrue, ◌↔◌, min, max, bit_and, sym, subst, ap, arith}
+use Rattle.board_items.specs.Layers.{has_layer, is_within}
 use Rattle.board_items.proofs.LayerLemmas.{mask_fits, mask_is, between_within, between_layers}
 use Rattle.board_items.proofs.layers.LayerSet.between.Goals as goal
 

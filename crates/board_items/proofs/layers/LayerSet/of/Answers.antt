@@ -1,5 +1,4 @@
 use Rattle.std.proofs.Common.{ℕ, IsTrue, ◌↔◌, sym, subst}
-use Rattle.board_items.specs.declared.layers.LayerSet.{LayerSet}
 use Rattle.board_items.specs.Layers.{has_layer, is_within}
 use Rattle.board_items.proofs.LayerLemmas.{single_is, single_within}
 use Rattle.board_items.proofs.layers.LayerSet.of.Goals as goal
