@@ -37,7 +37,7 @@ abbrev pub with_board : Reading → Result PlainBoard BoardError → Result Read
 with_board reading answer = answer >>= λ board. Ok (record reading { board = board })
 
 -- lists of a board that are not read yet
-abbrev pub not_built : List (List ℕ)
+unfoldable pub not_built : List (List ℕ)
 not_built =
     codes "gr_line" ∷ codes "gr_rect" ∷ codes "gr_circle" ∷ codes "gr_poly" ∷ codes "gr_arc" ∷ codes "gr_curve" ∷ codes "bezier" ∷ codes "gr_text"
     ∷ codes "gr_text_box" ∷ codes "dimension" ∷ codes "footprint" ∷ codes "zone" ∷ []

@@ -4,7 +4,7 @@ use Rattle.sexpr_read.specs.Tree.{Tree, parts, is_list}
 use Rattle.board_items.specs.declared.layers.LayerSet.{LayerSet}
 use Rattle.board_items.specs.declared.errors.BoardError.{BoardError}
 use Rattle.board_items.specs.declared.errors.BoardError.TheVariants.{UnknownLayer}
-use Rattle.board_items.specs.Layers.{has_layer, has_layer}
+use Rattle.board_items.specs.Layers.{has_layer, single_layer, union_of, layers_between}
 use Rattle.pcb_read.specs.Elements.{◌>>=◌, place, is_text, element_of, atom_of}
 
 unfoldable pub layer_names : List (List ℕ)

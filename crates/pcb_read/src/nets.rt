@@ -1,6 +1,6 @@
 //! Nets: their list at the root, and the net of an item.
 
-ghost use Rattle.std.specs.Prelude.{◌≡◌};
+ghost use Rattle.std.specs.Prelude.{◌≡◌, OnOk};
 ghost use Rattle.sexpr_read.specs.Views.{tree_of};
 ghost use Rattle.pcb_read.specs.Nodes.{Leaves};
 ghost use Rattle.pcb_read.specs.Nets.{with_net_of, declared_in, net_in};
@@ -17,7 +17,8 @@ pub(crate) fn read_net(
     board: &mut Board,
     list: Node<'_, '_>,
 ) -> Result<(), BoardError>
-    ensures { Leaves result board.new (with_net_of board.old (tree_of list.entry)) }
+    ensures read { Leaves result board.new (with_net_of board.old (tree_of list.entry)) }
+    ensures copper { OnOk result (board.new.copper ≡ board.old.copper) }
 {
     let number = number_in(first_atom(list)?)?;
     let name = name_of(alloc, second_atom(list)?)?;

@@ -1,6 +1,6 @@
 //! The root of a board's text, part by part.
 
-ghost use Rattle.std.specs.Prelude.{◌≡◌, option_map, find, Bool};
+ghost use Rattle.std.specs.Prelude.{◌≡◌, option_map, find, false, OnOk};
 ghost use Rattle.std.specs.List.{list_any};
 ghost use Rattle.sexpr_read.specs.Tree.{Tree, parts, is_list};
 ghost use Rattle.sexpr_read.specs.Views.{tree_of, trees_left};
@@ -54,7 +54,9 @@ fn read_layers(
     layered: &mut bool,
     list: Node<'_, '_>,
 ) -> Result<(), BoardError>
-    ensures { Leaves result (record { board = board.new; layered = layered.new }) (with_layers (record { board = board.old; layered = layered.old }) (tree_of list.entry)) }
+    requires { layered.old ≡ false → board.old.copper.bits ≡ 0 }
+    ensures read { Leaves result (record { board = board.new; layered = layered.new }) (with_layers (record { board = board.old; layered = layered.old }) (tree_of list.entry)) }
+    ensures unlisted { OnOk result (layered.new ≡ false → board.new.copper.bits ≡ 0) }
 {
     if *layered {
         return Ok(());
@@ -75,7 +77,9 @@ fn has_room(board: &Board) -> bool
 /// Appends the item, unless the board is full.
 #[tactic(auto, unfolding(crate::specs::BoardOf::with_item_of))]
 fn add_item(board: &mut Board, node: Node<'_, '_>, item: Item) -> Result<(), BoardError>
-    ensures { Leaves result board.new (with_item_of board.old (tree_of node.entry) item) }
+    requires { item.unit ≡ board.old.next_unit }
+    ensures copper { OnOk result (board.new.copper ≡ board.old.copper) }
+    ensures added { Leaves result board.new (with_item_of board.old (tree_of node.entry) item) }
 {
     if !has_room(board) {
         return Err(BoardError::TooMany { at: place(node) });
@@ -87,21 +91,47 @@ fn add_item(board: &mut Board, node: Node<'_, '_>, item: Item) -> Result<(), Boa
 }
 
 /// Whether it has one of the heads that are not read yet.
+#[tactic(auto, unfolding(crate::specs::BoardOf::not_built))]
 fn is_not_built(node: Node<'_, '_>) -> bool
     ensures { result ≡ list_any (λ head. has_head head (tree_of node.entry)) not_built }
 {
-    has_head(node, b"gr_line")
-        || has_head(node, b"gr_rect")
-        || has_head(node, b"gr_circle")
-        || has_head(node, b"gr_poly")
-        || has_head(node, b"gr_arc")
-        || has_head(node, b"gr_curve")
-        || has_head(node, b"bezier")
-        || has_head(node, b"gr_text")
-        || has_head(node, b"gr_text_box")
-        || has_head(node, b"dimension")
-        || has_head(node, b"footprint")
-        || has_head(node, b"zone")
+    if has_head(node, b"gr_line") {
+        return true;
+    }
+    if has_head(node, b"gr_rect") {
+        return true;
+    }
+    if has_head(node, b"gr_circle") {
+        return true;
+    }
+    if has_head(node, b"gr_poly") {
+        return true;
+    }
+    if has_head(node, b"gr_arc") {
+        return true;
+    }
+    if has_head(node, b"gr_curve") {
+        return true;
+    }
+    if has_head(node, b"bezier") {
+        return true;
+    }
+    if has_head(node, b"gr_text") {
+        return true;
+    }
+    if has_head(node, b"gr_text_box") {
+        return true;
+    }
+    if has_head(node, b"dimension") {
+        return true;
+    }
+    if has_head(node, b"footprint") {
+        return true;
+    }
+    if has_head(node, b"zone") {
+        return true;
+    }
+    false
 }
 
 /// Refuses what is not read; all other parts are passed over.
@@ -120,7 +150,8 @@ fn refuse_part(node: Node<'_, '_>) -> Result<(), BoardError>
 
 #[tactic(auto, unfolding(crate::specs::BoardOf::with_track))]
 fn read_track(alloc: Global, board: &mut Board, node: Node<'_, '_>) -> Result<(), BoardError>
-    ensures { Leaves result board.new (with_track board.old (tree_of node.entry)) }
+    ensures read { Leaves result board.new (with_track board.old (tree_of node.entry)) }
+    ensures copper { OnOk result (board.new.copper ≡ board.old.copper) }
 {
     let unit = board.next_unit();
     let track = track_of(alloc, board, unit, node)?;
@@ -129,7 +160,8 @@ fn read_track(alloc: Global, board: &mut Board, node: Node<'_, '_>) -> Result<()
 
 #[tactic(auto, unfolding(crate::specs::BoardOf::with_via))]
 fn read_via(alloc: Global, board: &mut Board, node: Node<'_, '_>) -> Result<(), BoardError>
-    ensures { Leaves result board.new (with_via board.old (tree_of node.entry)) }
+    ensures read { Leaves result board.new (with_via board.old (tree_of node.entry)) }
+    ensures copper { OnOk result (board.new.copper ≡ board.old.copper) }
 {
     let unit = board.next_unit();
     let via = via_of(alloc, board, unit, node)?;
@@ -144,7 +176,9 @@ fn read_part(
     layered: &mut bool,
     node: Node<'_, '_>,
 ) -> Result<(), BoardError>
-    ensures { Leaves result (record { board = board.new; layered = layered.new }) (with_part (record { board = board.old; layered = layered.old }) (tree_of node.entry)) }
+    requires { layered.old ≡ false → board.old.copper.bits ≡ 0 }
+    ensures read { Leaves result (record { board = board.new; layered = layered.new }) (with_part (record { board = board.old; layered = layered.old }) (tree_of node.entry)) }
+    ensures unlisted { OnOk result (layered.new ≡ false → board.new.copper.bits ≡ 0) }
 {
     if has_head(node, b"segment") {
         read_track(alloc, board, node)

@@ -1,6 +1,6 @@
 //! Tracks and vias.
 
-ghost use Rattle.std.specs.Prelude.{◌≡◌, ◌∷◌, []};
+ghost use Rattle.std.specs.Prelude.{◌≡◌, ◌∷◌, [], IfOk};
 ghost use Rattle.sexpr_read.specs.Views.{tree_of, trees_left};
 ghost use Rattle.pcb_read.specs.Nodes.{Gives};
 ghost use Rattle.pcb_read.specs.Tracks.{track_of, drill_in, hole_through, has_word, via_of};
@@ -32,7 +32,8 @@ pub(crate) fn track_of(
     unit: u32,
     node: Node<'_, '_>,
 ) -> Result<Item, BoardError>
-    ensures { Gives result (track_of board.now unit (tree_of node.entry)) }
+    ensures read { Gives result (track_of board.now unit (tree_of node.entry)) }
+    ensures unit { IfOk result (λ item. item.unit ≡ unit) }
 {
     let (x, y) = pair_of(node, b"start")?;
     let (end_x, end_y) = pair_of(node, b"end")?;
@@ -112,7 +113,8 @@ pub(crate) fn via_of(
     unit: u32,
     node: Node<'_, '_>,
 ) -> Result<Item, BoardError>
-    ensures { Gives result (via_of board.now unit (tree_of node.entry)) }
+    ensures read { Gives result (via_of board.now unit (tree_of node.entry)) }
+    ensures unit { IfOk result (λ item. item.unit ≡ unit) }
 {
     let (x, y) = pair_of(node, b"at")?;
     let size = extent_of(node, b"size")?;
