@@ -1,5 +1,5 @@
 -- Tracks and vias from what was read of them.
-use Rattle.std.proofs.Common.{◌≡◌, refl, ℕ, ℤ, pos, List, [], ◌∷◌, Bool, true, false, ◌&&◌, is_some, IsTrue, ◌++◌, codes, Option, None, Some, Result, Ok, Err, unwrap_or}
+use Rattle.std.proofs.Common.{◌≡◌, refl, ℕ, ℤ, pos, [], ◌∷◌, Bool, true, false, ◌&&◌, is_some, IsTrue, ◌++◌, codes, Option, None, Some, Ok, Err, unwrap_or}
 use Rattle.sexpr_read.specs.Tree.{Tree}
 use Rattle.geo_seg.specs.declared.points.Point.{Point}
 use Rattle.geo_seg.specs.declared.shapes.Shape.{Shape}

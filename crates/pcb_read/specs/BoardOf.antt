@@ -1,7 +1,7 @@
 -- The board of a tree: (kicad_pcb (version 20221018) PART ..), its parts read in the order of the text. The formats are those of
 -- the KiCad developer documentation. Some lists are refused (`refused_part`), those with any other head are passed over, and so
 -- is what stands in a list beside the elements that are named here; of two elements with one head the first counts.
-use Rattle.std.specs.Prelude.{ℕ, nat_lt, List, [], ◌∷◌, find, codes, Bool, true, false, ◌&&◌, Option, None, Some, Result, Ok, Err, if◌then◌else◌}
+use Rattle.std.specs.Prelude.{ℕ, nat_lt, List, [], ◌∷◌, find, codes, Bool, true, false, ◌&&◌, Result, Ok, Err, if◌then◌else◌}
 use Rattle.std.specs.List.{list_any}
 use Rattle.sexpr_read.specs.Tree.{Tree, parts, is_list}
 use Rattle.board_items.specs.declared.errors.BoardError.{BoardError}

@@ -1,5 +1,5 @@
 -- Names of copper layers: F.Cu, In1.Cu to In30.Cu, B.Cu, numbered in stack order.
-use Rattle.std.specs.Prelude.{ℕ, ◌+◌, Bool, List, [], ◌∷◌, codes, Option, None, Some, Result, Ok, Err, if◌then◌else◌}
+use Rattle.std.specs.Prelude.{ℕ, List, [], ◌∷◌, codes, Option, None, Some, Result, Ok, Err, if◌then◌else◌}
 use Rattle.std.specs.List.{position_from}
 use Rattle.sexpr_read.specs.Tree.{Tree, parts, is_list}
 use Rattle.board_items.specs.declared.layers.LayerSet.{LayerSet}

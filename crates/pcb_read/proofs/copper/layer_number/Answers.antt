@@ -1,4 +1,4 @@
-use Rattle.std.proofs.Common.{◌≡◌, ◌∙◌, sym, ap, refl, arith, cond, Bool, Some, Option, ℕ, ◌+◌, drop}
+use Rattle.std.proofs.Common.{◌≡◌, ◌∙◌, sym, ap, arith, cond, Bool, Some, ◌+◌, drop}
 use Rattle.sexpr_read.specs.Views.{tree_of}
 use Rattle.pcb_read.specs.CopperNames.{layer_names, layer_number}
 use Rattle.std.specs.List.{position_from}

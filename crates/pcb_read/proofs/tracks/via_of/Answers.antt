@@ -5,7 +5,7 @@ use Rattle.pcb_read.specs.OnBoard.{point_of, strip_between}
 use Rattle.pcb_read.proofs.Shapes.{clean}
 use Rattle.pcb_read.proofs.Items.{via_off, via_unholed, via_is, is_near_start, via_layers, admitted_by}
 use Rattle.board_items.specs.declared.item.What.TheVariants.{Via}
-use Rattle.std.proofs.Common.{[], ◌∷◌, Result, Ok, Err, IsErrAnd, IsErr, sym, ap, ◌∙◌}
+use Rattle.std.proofs.Common.{[], ◌∷◌, Result, Ok, Err, IsErrAnd, sym, ap, ◌∙◌}
 use Rattle.board_items.specs.declared.errors.BoardError.{BoardError}
 use Rattle.board_items.specs.declared.item.Item.{Item}
 use Rattle.pcb_read.specs.Nodes.{Gives}
