@@ -1,15 +1,19 @@
 -- Tracks and vias from what was read of them.
-use Rattle.std.proofs.Common.{◌≡◌, refl, ℕ, ℤ, pos, List, [], ◌∷◌, Bool, true, codes, Option, None, Some, Result, Ok, Err, unwrap_or}
+use Rattle.std.proofs.Common.{◌≡◌, refl, ℕ, ℤ, pos, [], ◌∷◌, Bool, true, false, ◌&&◌, is_some, IsTrue, ◌++◌, codes, Option, None, Some, Ok, Err, unwrap_or}
 use Rattle.sexpr_read.specs.Tree.{Tree}
+use Rattle.geo_seg.specs.declared.points.Point.{Point}
 use Rattle.geo_seg.specs.declared.shapes.Shape.{Shape}
 use Rattle.board_items.specs.declared.errors.BoardError.{BoardError}
 use Rattle.board_items.specs.declared.errors.BoardError.TheVariants.{OutOfBoard}
 use Rattle.board_items.specs.declared.layers.LayerSet.{LayerSet}
 use Rattle.board_items.specs.declared.item.Hole.{Hole}
 use Rattle.board_items.specs.declared.item.What.TheVariants.{Track, Via}
-use Rattle.board_items.specs.Layers.{single_layer}
-use Rattle.board_items.specs.Boards.{PlainBoard}
-use Rattle.pcb_read.specs.OnBoard.{point_of, strip_between}
+use Rattle.std.specs.List.{list_all}
+use Rattle.board_items.specs.Layers.{single_layer, is_within}
+use Rattle.board_items.specs.Parts.{hole_parts}
+use Rattle.board_items.specs.declared.item.Item.{Item}
+use Rattle.board_items.specs.Boards.{PlainBoard, name_of, is_near, is_on_board, has_layers_of, is_admitted}
+use Rattle.pcb_read.specs.OnBoard.{point_by, point_of, strip_between}
 use Rattle.pcb_read.specs.Elements.{place, pair_of, extent_of, name_in}
 use Rattle.pcb_read.specs.CopperNames.{layer_of, span_of}
 use Rattle.pcb_read.specs.Nets.{net_in}
@@ -50,3 +54,36 @@ module _ (board : PlainBoard) (unit : ℕ) (tree : Tree) (x y size : ℤ) (drill
         })
     unfolding via_of
     via_is hole h = rw (← at, ← wide, ← drilled, ← on, ← of, ← some, ← h) refl
+
+-- ---- what is read may stand on the board
+
+both : (a b : Bool) → a ≡ true → b ≡ true → a && b ≡ true
+both true true h k = refl
+both true false h k = cc
+both false b h k = cc
+
+near_points : (x y : ℤ) (a b : Bool) (h : is_near x ≡ a) (k : is_near y ≡ b) (p : Point) → Some p ≡ point_by x y a b h k → (a ≡ true) × (b ≡ true)
+near_points x y true true h k p e = (refl, refl)
+near_points x y true false h k p e = absurd cc
+near_points x y false b h k p e = absurd cc
+
+start_near : (p q : Option Point) (w : ℤ) (s : Shape) → Some s ≡ strip_between p q w → (a : Point) × (Some a ≡ p)
+start_near None q w s e = absurd cc
+start_near (Some a) q w s e = (a, refl)
+
+-- where a strip begins at a position, that lies on the board
+pub is_near_start : (x y w : ℤ) (q : Option Point) (s : Shape) → Some s ≡ strip_between (point_of x y) q w → is_near x && is_near y ≡ true
+is_near_start x y w q s e =
+    let found = start_near (point_of x y) q w s e in
+    let near = near_points x y _ _ refl refl found.0 found.1 in
+    both (is_near x) (is_near y) near.0 near.1
+
+pub admitted_by : (board : PlainBoard) (item : Item) → is_on_board item ≡ true → is_some (name_of board item.net) ≡ true → has_layers_of board item ≡ true → is_admitted board item ≡ true
+admitted_by board item h k m = both _ _ (both _ _ h k) m
+
+-- a via has one part of copper and perhaps a hole, on layers of the board
+pub via_layers : (copper layers : LayerSet) (shape : Shape) (hole : Option Hole) → IsTrue (is_within layers copper)
+    → list_all (λ part. is_within part.layers copper) (hole_parts hole) ≡ true
+    → list_all (λ part. is_within part.layers copper) (record { layers = layers; shape = shape } ∷ (hole_parts hole ++ [])) ≡ true
+via_layers copper layers shape None h k = both _ _ h k
+via_layers copper layers shape (Some hole) h k = both _ _ h k

@@ -1,5 +1,6 @@
 -- Names of copper layers: F.Cu, In1.Cu to In30.Cu, B.Cu, numbered in stack order.
-use Rattle.std.specs.Prelude.{ℕ, ◌+◌, Bool, List, [], ◌∷◌, codes, Option, None, Some, Result, Ok, Err, if◌then◌else◌}
+use Rattle.std.specs.Prelude.{ℕ, List, [], ◌∷◌, codes, Option, None, Some, Result, Ok, Err, if◌then◌else◌}
+use Rattle.std.specs.List.{position_from}
 use Rattle.sexpr_read.specs.Tree.{Tree, parts, is_list}
 use Rattle.board_items.specs.declared.layers.LayerSet.{LayerSet}
 use Rattle.board_items.specs.declared.errors.BoardError.{BoardError}
@@ -14,14 +15,9 @@ layer_names =
     ∷ codes "In16.Cu" ∷ codes "In17.Cu" ∷ codes "In18.Cu" ∷ codes "In19.Cu" ∷ codes "In20.Cu" ∷ codes "In21.Cu" ∷ codes "In22.Cu" ∷ codes "In23.Cu"
     ∷ codes "In24.Cu" ∷ codes "In25.Cu" ∷ codes "In26.Cu" ∷ codes "In27.Cu" ∷ codes "In28.Cu" ∷ codes "In29.Cu" ∷ codes "In30.Cu" ∷ codes "B.Cu" ∷ []
 
--- the place among names of the one that an atom stands for, where the first has this number
-abbrev pub number_from : ℕ → List (List ℕ) → Tree → Option ℕ
-number_from n [] atom = None
-number_from n (name ∷ names) atom = if is_text atom name then Some n else number_from (n + 1) names atom
-
--- the layer that an atom names, if it is one of copper
+-- the layer that an atom names, if it is one of copper: the place of its name
 unfoldable pub layer_number : Tree → Option ℕ
-layer_number atom = number_from 0 layer_names atom
+layer_number atom = position_from (is_text atom) 0 layer_names
 
 -- ---- the list of layers
 

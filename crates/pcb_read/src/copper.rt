@@ -1,6 +1,7 @@
 //! Names of copper layers, the list of layers, and the layers of an item.
 
-ghost use Rattle.std.specs.Prelude.{◌≡◌, ◌<◌, ℕ, Some, slice_get, IfOk, IfSome};
+ghost use Rattle.std.specs.Prelude.{◌≡◌, ◌<◌, ℕ, Some, slice_get, IfOk, IfSome, IsTrue};
+ghost use Rattle.board_items.specs.Layers.{has_layer, is_within};
 ghost use Rattle.sexpr_read.specs.Tree.{parts};
 ghost use Rattle.sexpr_read.specs.Views.{tree_of, trees_left};
 ghost use Rattle.pcb_read.specs.CopperNames.{layer_names, layer_number, layers_in, with_layer, copper_in, layer_of, span_of};
@@ -100,6 +101,7 @@ pub(crate) fn layers_in(list: Node<'_, '_>) -> Result<LayerSet, BoardError>
 fn copper_in(copper: LayerSet, atom: Node<'_, '_>) -> Result<u32, BoardError>
     ensures layer { result ≡ copper_in copper (tree_of atom.entry) }
     ensures below { IfOk result (λ layer. layer < 32) }
+    ensures on { IfOk result (λ layer. IsTrue (has_layer copper layer)) }
 {
     match layer_number(atom) {
         Some(layer) if copper.has(layer) => Ok(layer),
@@ -112,6 +114,7 @@ fn copper_in(copper: LayerSet, atom: Node<'_, '_>) -> Result<u32, BoardError>
 pub(crate) fn layer_of(copper: LayerSet, node: Node<'_, '_>) -> Result<u32, BoardError>
     ensures layer { result ≡ layer_of copper (tree_of node.entry) }
     ensures below { IfOk result (λ layer. layer < 32) }
+    ensures on { IfOk result (λ layer. IsTrue (has_layer copper layer)) }
 {
     let list = element_of(node, b"layer")?;
     copper_in(copper, first_atom(list)?)
@@ -120,7 +123,8 @@ pub(crate) fn layer_of(copper: LayerSet, node: Node<'_, '_>) -> Result<u32, Boar
 /// The layers of the board from the one to the other of `(layers NAME NAME)`, whichever is above.
 #[tactic(auto, unfolding(crate::specs::CopperNames::span_of))]
 pub(crate) fn span_of(copper: LayerSet, node: Node<'_, '_>) -> Result<LayerSet, BoardError>
-    ensures { result ≡ span_of copper (tree_of node.entry) }
+    ensures layers { result ≡ span_of copper (tree_of node.entry) }
+    ensures on { IfOk result (λ layers. IsTrue (is_within layers copper)) }
 {
     let list = element_of(node, b"layers")?;
     let one = copper_in(copper, first_atom(list)?)?;

@@ -1,6 +1,7 @@
 //! Nets: their list at the root, and the net of an item.
 
-ghost use Rattle.std.specs.Prelude.{◌≡◌, OnOk};
+ghost use Rattle.std.specs.Prelude.{◌≡◌, true, is_some, IfOk, OnOk};
+ghost use Rattle.board_items.specs.Boards.{name_of};
 ghost use Rattle.sexpr_read.specs.Views.{tree_of};
 ghost use Rattle.pcb_read.specs.Nodes.{Leaves};
 ghost use Rattle.pcb_read.specs.Nets.{with_net_of, declared_in, net_in};
@@ -28,7 +29,8 @@ pub(crate) fn read_net(
 
 /// The number of `(net NUMBER)`, where it was declared before.
 fn declared_in(board: &Board, list: Node<'_, '_>) -> Result<u32, BoardError>
-    ensures { result ≡ declared_in board.now (tree_of list.entry) }
+    ensures net { result ≡ declared_in board.now (tree_of list.entry) }
+    ensures declared { IfOk result (λ net. is_some (name_of board.now net) ≡ true) }
 {
     let atom = first_atom(list)?;
     let number = number_in(atom)?;
@@ -41,7 +43,8 @@ fn declared_in(board: &Board, list: Node<'_, '_>) -> Result<u32, BoardError>
 /// The net of an item, or 0, which is none.
 #[tactic(auto, unfolding(crate::specs::Nets::net_in))]
 pub(crate) fn net_in(board: &Board, node: Node<'_, '_>) -> Result<u32, BoardError>
-    ensures { result ≡ net_in board.now (tree_of node.entry) }
+    ensures net { result ≡ net_in board.now (tree_of node.entry) }
+    ensures declared { is_some (name_of board.now 0) ≡ true → IfOk result (λ net. is_some (name_of board.now net) ≡ true) }
 {
     match element(node, b"net") {
         None => Ok(0),

@@ -1,10 +1,10 @@
 //! The root of a board's text, part by part.
 
-ghost use Rattle.std.specs.Prelude.{◌≡◌, option_map, find, false, OnOk};
+ghost use Rattle.std.specs.Prelude.{◌≡◌, option_map, find, true, false, is_some, OnOk};
 ghost use Rattle.std.specs.List.{list_any};
 ghost use Rattle.sexpr_read.specs.Tree.{Tree, parts, is_list};
 ghost use Rattle.sexpr_read.specs.Views.{tree_of, trees_left};
-ghost use Rattle.board_items.specs.Boards.{PlainBoard};
+ghost use Rattle.board_items.specs.Boards.{PlainBoard, IsSound, name_of, is_admitted};
 ghost use Rattle.pcb_read.specs.Elements.{has_head};
 ghost use Rattle.pcb_read.specs.Nodes.{Gives, Leaves};
 ghost use Rattle.pcb_read.specs.BoardOf.{Reading, with_layers, has_room, with_item_of, not_built, refused_part, with_track, with_via, with_part, with_parts, version_in, unread, board_of};
@@ -13,7 +13,7 @@ use crate::copper::layers_in;
 use crate::elements::{first_atom, has_head, place};
 use crate::nets::read_net;
 use crate::tracks::{track_of, via_of};
-use board_items::{Board, BoardError, Item, LayerSet};
+use board_items::{Board, BoardError, Item, ItemError, LayerSet};
 use sexpr_read::Node;
 use std::alloc::Global;
 
@@ -69,7 +69,8 @@ fn read_layers(
 
 /// Whether there is room for one more item, an id and a unit number.
 fn has_room(board: &Board) -> bool
-    ensures { result ≡ has_room board.now }
+    ensures value { result ≡ has_room board.now }
+    ensures sound { IsSound board.now }
 {
     0 < board.left() && board.next_unit() < u32::MAX
 }
@@ -77,7 +78,8 @@ fn has_room(board: &Board) -> bool
 /// Appends the item, unless the board is full.
 #[tactic(auto, unfolding(crate::specs::BoardOf::with_item_of))]
 fn add_item(board: &mut Board, node: Node<'_, '_>, item: Item) -> Result<(), BoardError>
-    requires { item.unit ≡ board.old.next_unit }
+    requires unit { item.unit ≡ board.old.next_unit }
+    requires admitted { is_some (name_of board.old 0) ≡ true → is_admitted board.old item ≡ true }
     ensures copper { OnOk result (board.new.copper ≡ board.old.copper) }
     ensures added { Leaves result board.new (with_item_of board.old (tree_of node.entry) item) }
 {
@@ -86,7 +88,11 @@ fn add_item(board: &mut Board, node: Node<'_, '_>, item: Item) -> Result<(), Boa
     }
     match board.add(item) {
         Ok(_) => Ok(()),
-        Err(_) => Err(BoardError::OutOfMemory),
+        Err(error) => {
+            // What `add` tests has been tested here.
+            prove!(matches!(&error, ItemError::OutOfMemory));
+            Err(BoardError::OutOfMemory)
+        }
     }
 }
 

@@ -1,6 +1,11 @@
 //! Tracks and vias.
 
-ghost use Rattle.std.specs.Prelude.{◌≡◌, ◌∷◌, [], IfOk};
+ghost use Rattle.std.specs.Prelude.{◌≡◌, ◌∷◌, [], true, is_some, IfOk, IsTrue};
+ghost use Rattle.board_items.specs.declared.layers.LayerSet.{LayerSet};
+ghost use Rattle.std.specs.List.{list_all};
+ghost use Rattle.board_items.specs.Layers.{is_within};
+ghost use Rattle.board_items.specs.Parts.{hole_parts};
+ghost use Rattle.board_items.specs.Boards.{name_of, is_admitted};
 ghost use Rattle.sexpr_read.specs.Views.{tree_of, trees_left};
 ghost use Rattle.pcb_read.specs.Nodes.{Gives};
 ghost use Rattle.pcb_read.specs.Tracks.{track_of, drill_in, hole_through, has_word, via_of};
@@ -34,6 +39,7 @@ pub(crate) fn track_of(
 ) -> Result<Item, BoardError>
     ensures read { Gives result (track_of board.now unit (tree_of node.entry)) }
     ensures unit { IfOk result (λ item. item.unit ≡ unit) }
+    ensures admitted { is_some (name_of board.now 0) ≡ true → IfOk result (λ item. is_admitted board.now item ≡ true) }
 {
     let (x, y) = pair_of(node, b"start")?;
     let (end_x, end_y) = pair_of(node, b"end")?;
@@ -76,7 +82,8 @@ fn hole_through(
     layers: LayerSet,
     drill: Option<Nm>,
 ) -> Result<Option<Hole>, BoardError>
-    ensures { result ≡ hole_through (tree_of node.entry) at layers drill }
+    ensures hole { result ≡ hole_through (tree_of node.entry) at layers drill }
+    ensures within { (copper : LayerSet) → IsTrue (is_within layers copper) → IfOk result (λ hole. list_all (λ part. is_within part.layers copper) (hole_parts hole) ≡ true) }
 {
     let Some(drill) = drill else {
         return Ok(None);
@@ -115,6 +122,7 @@ pub(crate) fn via_of(
 ) -> Result<Item, BoardError>
     ensures read { Gives result (via_of board.now unit (tree_of node.entry)) }
     ensures unit { IfOk result (λ item. item.unit ≡ unit) }
+    ensures admitted { is_some (name_of board.now 0) ≡ true → IfOk result (λ item. is_admitted board.now item ≡ true) }
 {
     let (x, y) = pair_of(node, b"at")?;
     let size = extent_of(node, b"size")?;

@@ -18,7 +18,7 @@ returns-in_default-clause-read c =
     let s = rw (clean c.in_ok-width.width fit_width) at c.strip_between.ensures in
     let on = rw c.copper.ensures at c.in_ok-layer.ensures.layer in
     let off : None ≡ strip_between (point_of c.in_ok-x.x c.in_ok-x.y) (point_of c.in_ok-end_x.end_x c.in_ok-end_x.end_y) c.in_ok-width.width = cc in
-    inr (rw c.place.ensures (track_off c.args.board.now c.args.unit (tree_of c.args.node) _ _ _ _ _ _ _ c.in_ok-x.ensures c.in_ok-end_x.ensures c.in_ok-width.ensures on c.in_ok-net.ensures off))
+    inr (rw c.place.ensures (track_off c.args.board.now c.args.unit (tree_of c.args.node) _ _ _ _ _ _ _ c.in_ok-x.ensures c.in_ok-end_x.ensures c.in_ok-width.ensures on c.in_ok-net.ensures.net off))
 
 pub returns-clause-read : goal.returns-clause-read
 returns-clause-read c =
@@ -33,4 +33,4 @@ returns-clause-read c =
     let on = rw c.copper.ensures at c.in_ok-layer.ensures.layer in
     let some : Some c.in-Some.shape ≡ strip_between (point_of c.in_ok-x.x c.in_ok-x.y) (point_of c.in_ok-end_x.end_x c.in_ok-end_x.end_y) c.in_ok-width.width = cc in
     rw (clean c.in_ok-x.x fit_x, clean c.in_ok-x.y fit_y, clean c.in_ok-width.width fit_width, c.one_part.ensures, c.of.ensures.value, c.in_ok-name_in.ensures)
-    (track_is c.args.board.now c.args.unit (tree_of c.args.node) _ _ _ _ _ _ _ c.in_ok-x.ensures c.in_ok-end_x.ensures c.in_ok-width.ensures on c.in_ok-net.ensures c.in-Some.shape some)
+    (track_is c.args.board.now c.args.unit (tree_of c.args.node) _ _ _ _ _ _ _ c.in_ok-x.ensures c.in_ok-end_x.ensures c.in_ok-width.ensures on c.in_ok-net.ensures.net c.in-Some.shape some)
