@@ -6,6 +6,7 @@
 ghost use Rattle.std.specs.Prelude.{IfOk};
 ghost use Rattle.row_check.specs.Rows.{AreRows};
 
+mod copper;
 mod rows;
 
 use board_items::{Board, Nm};

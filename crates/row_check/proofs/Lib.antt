@@ -1,0 +1,5 @@
+pub mod Scalars
+pub mod SharedLayers
+pub mod Chosen
+pub mod ClearLists
+pub mod Gaps
