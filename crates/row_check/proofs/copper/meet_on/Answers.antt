@@ -18,7 +18,7 @@ returns-then-meets_some c =
     surely _ refl
     (record {
       some = some_chosen (MeetsSome c.args.layer c.args.others.now) (λ part. has_layer part.layers c.args.layer) c.args.parts.now c.loop-part.part-index c.part-item.result c.loop-part-test.true c.part-item.is
-      (sym c.has.ensures ∙ c.if-has.true) (c.meets_some.ensures.0 c.if-meets_some.true);
+          (sym c.has.ensures ∙ c.if-has.true) (c.meets_some.ensures.0 c.if-meets_some.true);
     })
 
 pub returns : goal.returns
