@@ -5,3 +5,6 @@ pub mod ClearLists
 pub mod Gaps
 pub mod FirstLayers
 pub mod Pairs
+pub mod RisingIds
+pub mod RowLists
+pub mod Stages
