@@ -1,5 +1,5 @@
 -- Two lists of parts, of which each two are clear of each other.
-use Rattle.std.proofs.Common.{◌≡◌, ℕ, ℤ, pos, ◌*ℤ◌, List, IsTrue, All, get_or}
+use Rattle.std.proofs.Common.{ℕ, ℤ, pos, ◌*ℤ◌, List, IsTrue, All, get_or}
 use Rattle.std.proofs.lemmas.List.Elements.{All-weaker}
 use Rattle.geo_shape.specs.Distances.{Apart}
 use Rattle.board_items.specs.declared.parts.Part.{Part}

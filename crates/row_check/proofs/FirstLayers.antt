@@ -1,9 +1,9 @@
 -- The first of the copper layers, found by going through all in stack order.
-use Rattle.std.proofs.Common.{◌≡◌, ℕ, ◌+◌, ◌<◌, ◌≤◌, ◌⊎◌, ℤ, Bool, true, false, List, IsTrue, inl, inr, refl, sym, subst, ◌∙◌, arith}
+use Rattle.std.proofs.Common.{◌≡◌, ℕ, ◌+◌, ◌<◌, ◌⊎◌, Bool, true, List, inl, inr, sym, subst, ◌∙◌, arith}
 use Rattle.board_items.specs.declared.layers.LayerSet.{LayerSet}
 use Rattle.board_items.specs.declared.parts.Part.{Part}
 use Rattle.board_items.specs.Layers.{has_layer}
-use Rattle.row_check.specs.Violations.{IsAmong, IsFirstLayer}
+use Rattle.row_check.specs.Violations.{IsAmong}
 
 -- what is said of slices, said of the lists of parts that they are
 pub along : (P : List Part → List Part → Type 0) (x y a b : List Part) → x ≡ a → y ≡ b → P x y → P a b

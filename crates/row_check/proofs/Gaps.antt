@@ -1,5 +1,5 @@
 -- The gap of lists, part by part: the least of the gaps of the parts.
-use Rattle.std.proofs.Common.{◌≡◌, ◌⊎◌, ℕ, zero, suc, ◌+◌, ◌<◌, ◌≤◌, ℤ, pos, negsuc, ◌*ℤ◌, ◌≤ℤ◌, Bool, true, false, cond, IsTrue, List, [], ◌∷◌, ◌++◌, length, get_or, take, All, inl, inr, refl, sym, ap, subst, ◌∙◌, arith}
+use Rattle.std.proofs.Common.{◌≡◌, ◌⊎◌, ℕ, zero, suc, ◌+◌, ◌<◌, ◌≤◌, ℤ, pos, negsuc, ◌*ℤ◌, ◌≤ℤ◌, Bool, true, false, cond, List, [], ◌∷◌, ◌++◌, length, get_or, take, All, inl, inr, sym, ap, subst, ◌∙◌, arith}
 use Rattle.std.proofs.lemmas.Int.{ints}
 use Rattle.std.specs.List.{filter}
 use Rattle.std.proofs.lemmas.List.Elements.{All-nil, All-cons, All-head, All-tail, All-push, All-weaker, filter_more}
@@ -8,8 +8,7 @@ use Rattle.geo_seg.specs.declared.shapes.Shape.{Shape}
 use Rattle.geo_shape.specs.Distances.{Apart, IsGap}
 use Rattle.geo_shape.proofs.Numbers.{apart_at_less, double_le, double_from}
 use Rattle.board_items.specs.declared.parts.Part.{Part}
-use Rattle.board_items.specs.Layers.{has_layer}
-use Rattle.row_check.specs.Copper.{on_layer, AreApart, Keeps}
+use Rattle.row_check.specs.Copper.{on_layer, Keeps}
 
 pub int_cases : (g : ℤ) → (pos 1 ≤ℤ g) ⊎ (g ≤ℤ pos 0)
 int_cases (pos zero) = inr (omega (arith, ints))

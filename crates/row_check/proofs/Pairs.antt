@@ -1,5 +1,5 @@
 -- What two items break, case by case.
-use Rattle.std.proofs.Common.{◌≡◌, ◌≢◌, ◌⊎◌, ℕ, ◌+◌, ◌<◌, ℤ, pos, ◌≤ℤ◌, ◌<ℤ◌, ◌+ℤ◌, ◌*ℤ◌, List, Option, Some, None, get_or, All, inl, inr, refl, sym, ap, subst, ◌∙◌, arith}
+use Rattle.std.proofs.Common.{◌≡◌, ◌≢◌, ◌⊎◌, ℕ, ◌<◌, ℤ, pos, ◌≤ℤ◌, ◌<ℤ◌, ◌+ℤ◌, ◌*ℤ◌, List, Some, All, inl, inr, refl, sym, ap, subst, ◌∙◌, arith}
 use Rattle.std.proofs.lemmas.Int.{ints}
 use Rattle.std.proofs.lemmas.Bool.{cases_order}
 use Rattle.geo_seg.specs.declared.shapes.Shape.{Shape}
@@ -13,7 +13,7 @@ use Rattle.row_check.specs.declared.rows.Row.{Row}
 use Rattle.row_check.specs.declared.rows.Kind.{Kind}
 use Rattle.row_check.specs.declared.rows.Kind.TheVariants.{Short, Clearance}
 use Rattle.row_check.specs.Copper.{on_layer, SomeMeet, AreApart, MeetOn, KeepOn}
-use Rattle.row_check.specs.Violations.{clearance, IsAmong, IsFirstLayer, DoShort, IsShort, IsTooNear, IsViolation}
+use Rattle.row_check.specs.Violations.{clearance, IsAmong, IsFirstLayer, DoShort, IsShort, IsViolation}
 use Rattle.row_check.proofs.Gaps.{int_cases}
 
 -- what keeps a distance above 0 does not meet

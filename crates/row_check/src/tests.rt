@@ -1,9 +1,9 @@
 //! Boards with known rows.
 
-ghost use Rattle.std.specs.Prelude.{◌≡◌, IfOk};
+ghost use Rattle.std.specs.Prelude.{◌≡◌};
 
 use crate::{CLEARANCE, Kind, Row, rows_of};
-use board_items::{Board, Item, LayerSet, Part, Parts, What};
+use board_items::{Board, Item, ItemError, LayerSet, Part, Parts, What};
 use drc_io::Name;
 use geo_seg::{Core, Point, Poly, Seg, Shape};
 use smallvec::SmallVec;
@@ -19,14 +19,10 @@ const BACK: LayerSet = LayerSet { bits: 0x8000_0000 };
 
 const THROUGH: LayerSet = LayerSet { bits: 0x8000_0001 };
 
+/// The layers of the boards here.
 const ALL: LayerSet = LayerSet { bits: 0x8000_0003 };
 
-/// A part: its layers, the two ends of its line or the corners of its area, and its radius, in half nanometres.
-type Copper<'a> = (LayerSet, &'a [[i64; 2]], i64);
-
-/// A net, and the copper of an item on it.
-type Entry<'a> = (u32, &'a [Copper<'a>]);
-
+// In half nanometres.
 fn at(rt: &impl Abort, corner: [i64; 2]) -> Point {
     let [x, y] = corner;
     assert!(rt; -1_000_000_000 <= x && x <= 1_000_000_000);
@@ -34,173 +30,291 @@ fn at(rt: &impl Abort, corner: [i64; 2]) -> Point {
     Point { x, y }
 }
 
-fn core(rt: &impl Abort, alloc: Global, corners: &[[i64; 2]]) -> Result<Core, AllocError> {
-    if let [a, b] = corners {
-        return Ok(Core::Line(Seg {
-            a: at(rt, *a),
-            b: at(rt, *b),
-        }));
+// The radius is half nanometres, so it is the width in nanometres.
+fn line(rt: &impl Abort, layers: LayerSet, a: [i64; 2], b: [i64; 2], radius: u32) -> Part {
+    assert!(rt; radius <= 500_000_000);
+    Part {
+        layers,
+        shape: Shape {
+            core: Core::Line(Seg {
+                a: at(rt, a),
+                b: at(rt, b),
+            }),
+            radius: i64::from(radius),
+        },
     }
+}
+
+// The copper of a via of 0.8 mm.
+fn disc(rt: &impl Abort, layers: LayerSet, centre: [i64; 2]) -> Part {
+    line(rt, layers, centre, centre, 800_000)
+}
+
+fn area(rt: &impl Abort, alloc: Global, corners: &[[i64; 2]]) -> Result<Part, AllocError> {
     let mut points = Vec::new(alloc);
     for corner in corners {
         points.push(at(rt, *corner))?;
     }
     assert!(rt; 3 <= points.len());
-    Ok(Core::Area(Poly::of(points)))
+    Ok(Part {
+        layers: FRONT,
+        shape: Shape {
+            core: Core::Area(Poly::of(points)),
+            radius: 0,
+        },
+    })
 }
 
-fn copper(rt: &impl Abort, alloc: Global, entry: &[Copper]) -> Result<Parts, AllocError> {
-    let mut list = SmallVec::new(alloc);
-    for (layers, corners, radius) in entry {
-        assert!(rt; 0 <= *radius && *radius <= 500_000_000);
-        list.push(Part {
-            layers: *layers,
-            shape: Shape {
-                core: core(rt, alloc, corners)?,
-                radius: *radius,
-            },
-        })?;
-    }
-    Ok(Parts::of(list))
-}
-
-fn name(alloc: Global) -> Name {
-    Name::of(Vec::new(alloc))
-}
-
-fn item(alloc: Global, net: u32, copper: Parts) -> Item
-    ensures { result.unit ≡ 1 }
-{
-    Item {
-        name: name(alloc),
-        unit: 1,
-        net,
-        x: 0,
-        y: 0,
-        copper,
-        hole: None,
-        local: None,
-        what: What::Graphic,
-    }
-}
-
-fn board(rt: &impl Abort, alloc: Global, entries: &[Entry]) -> Result<Board, Fail> {
+fn new_board(alloc: Global) -> Result<Board, AllocError> {
     let mut board = Board::new(alloc, ALL)?;
     for net in 1..4 {
-        board.declare(net, name(alloc))?;
-    }
-    for (net, entry) in entries {
-        board.add(item(alloc, *net, copper(rt, alloc, entry)?))?;
+        board.declare(net, Name::of(Vec::new(alloc)))?;
     }
     Ok(board)
 }
 
-fn short(first: u32, second: u32, layer: u32) -> Row {
-    Row {
-        first,
-        second,
-        kind: Kind::Short,
-        layer,
-        value: 0,
-        gap: 0,
-    }
+fn add(
+    alloc: Global,
+    board: &mut Board,
+    net: u32,
+    copper: SmallVec<Part, 2>,
+) -> Result<(), ItemError> {
+    let item = Item {
+        name: Name::of(Vec::new(alloc)),
+        unit: 1,
+        net,
+        x: 0,
+        y: 0,
+        copper: Parts::of(copper),
+        hole: None,
+        local: None,
+        what: What::Graphic,
+    };
+    board.add(item)?;
+    Ok(())
 }
 
-fn near(first: u32, second: u32, layer: u32, gap: i64) -> Row {
-    Row {
-        first,
-        second,
-        kind: Kind::Clearance,
-        layer,
-        value: CLEARANCE,
-        gap,
+/// A disc: the place of its item in a list, its layers, and how many nanometres it lies to the right of 100 100.
+type Disc = (usize, LayerSet, i64);
+
+// The discs of an item.
+fn discs_of(
+    rt: &impl Abort,
+    alloc: Global,
+    place: usize,
+    discs: &[Disc],
+) -> Result<SmallVec<Part, 2>, AllocError> {
+    let mut list = SmallVec::new(alloc);
+    for (owner, layers, right) in discs {
+        if *owner == place {
+            assert!(rt; 0 <= *right && *right <= 400_000_000);
+            list.push(disc(rt, *layers, [200_000_000 + 2 * *right, 200_000_000]))?;
+        }
     }
+    Ok(list)
 }
 
-/// The items of a board, and its rows.
-type Case<'a> = (&'a [Entry<'a>], &'a [Row]);
+/// The nets of the items of a board, their discs, and the rows, each with its two ids, kind, layer and gap.
+type Case<'a> = (&'a [u32], &'a [Disc], &'a [(u32, u32, Kind, u32, i64)]);
 
-fn check(rt: &impl Abort, alloc: Global, cases: &[Case]) -> Result<(), Fail> {
-    for (entries, rows) in cases {
-        let found = rows_of(alloc, &board(rt, alloc, entries)?)?;
-        assert_eq!(rt; found.as_slice(), *rows);
+fn check(rt: &impl Abort, alloc: Global, case: Case) -> Result<(), Fail> {
+    let (nets, discs, wanted) = case;
+    let mut board = new_board(alloc)?;
+    for (place, net) in nets.iter().enumerate() {
+        add(alloc, &mut board, *net, discs_of(rt, alloc, place, discs)?)?;
+    }
+    let rows = rows_of(alloc, &board)?;
+    assert_eq!(rt; rows.len(), wanted.len());
+    for (row, wanted) in rows.iter().zip(wanted) {
+        let (first, second, kind, layer, gap) = *wanted;
+        let value = if kind == Kind::Short { 0 } else { CLEARANCE };
+        let wanted = Row {
+            first,
+            second,
+            kind,
+            layer,
+            value,
+            gap,
+        };
+        assert_eq!(rt; *row, wanted);
     }
     Ok(())
 }
 
-/// A via of 0.8 mm at 100 100, and others near it.
-const A: Copper = (
-    THROUGH,
-    &[[200_000_000, 200_000_000], [200_000_000, 200_000_000]],
-    800_000,
-);
-
-const AT_101: Copper = (
-    THROUGH,
-    &[[202_000_000, 200_000_000], [202_000_000, 200_000_000]],
-    800_000,
-);
-
-const NEARER: Copper = (
-    THROUGH,
-    &[[201_999_998, 200_000_000], [201_999_998, 200_000_000]],
-    800_000,
-);
-
-const TOUCHING: Copper = (
-    THROUGH,
-    &[[201_600_000, 200_000_000], [201_600_000, 200_000_000]],
-    800_000,
-);
-
-const BARELY_APART: Copper = (
-    THROUGH,
-    &[[200_000_000, 198_399_998], [200_000_000, 198_399_998]],
-    800_000,
-);
-
 #[test]
 fn two_vias(rt: HostRuntime) -> Result<(), Fail> {
-    let cases: [Case; 10] = [
-        (&[], &[]),
-        (&[(1, &[A]), (2, &[AT_101])], &[]),
-        (&[(1, &[A]), (2, &[NEARER])], &[near(0, 1, 0, 199_999)]),
-        (&[(1, &[A]), (2, &[TOUCHING])], &[short(0, 1, 0)]),
-        (&[(1, &[A]), (2, &[BARELY_APART])], &[near(0, 1, 0, 1)]),
+    // the nets, how far the second lies to the right, and the kind and gap of their row on F.Cu
+    let table = [
+        ([1, 2], 1_000_000, None),
+        ([1, 2], 999_999, Some((Kind::Clearance, 199_999))),
+        ([1, 2], 800_001, Some((Kind::Clearance, 1))),
+        ([1, 2], 800_000, Some((Kind::Short, 0))),
+        ([1, 2], 0, Some((Kind::Short, 0))),
         // one net, no net twice, and no net once
-        (&[(1, &[A]), (1, &[A])], &[]),
-        (&[(0, &[A]), (0, &[A])], &[]),
-        (&[(0, &[A]), (1, &[TOUCHING])], &[near(0, 1, 0, 0)]),
-        (&[(1, &[A]), (0, &[TOUCHING])], &[near(0, 1, 0, 0)]),
-        // no copper
-        (&[(1, &[A]), (2, &[])], &[]),
+        ([1, 1], 0, None),
+        ([0, 0], 0, None),
+        ([0, 1], 0, Some((Kind::Clearance, 0))),
+        ([1, 0], 800_000, Some((Kind::Clearance, 0))),
+        ([1, 0], 900_000, Some((Kind::Clearance, 100_000))),
     ];
-    check(&rt, rt.alloc(), &cases)
+    for (nets, right, row) in table {
+        let discs = [(0, THROUGH, 0), (1, THROUGH, right)];
+        match row {
+            None => check(&rt, rt.alloc(), (&nets, &discs, &[]))?,
+            Some((kind, gap)) => {
+                check(&rt, rt.alloc(), (&nets, &discs, &[(0, 1, kind, 0, gap)]))?;
+            }
+        }
+    }
+    Ok(())
 }
 
-/// Tracks of 0.2 mm that cross, and one that leads past a via.
-const UP: Copper = (
-    FRONT,
-    &[[200_000_000, 220_000_000], [220_000_000, 200_000_000]],
-    200_000,
-);
+#[test]
+fn layers(rt: HostRuntime) -> Result<(), Fail> {
+    const FRONT_AND_INNER: LayerSet = LayerSet { bits: 3 };
+    const INNER_AND_BACK: LayerSet = LayerSet { bits: 0x8000_0002 };
+    let nets = [1, 2];
+    // two discs of each item, and their row
+    let table = [
+        // no layer together
+        (
+            [(0, FRONT, 0), (0, FRONT, 0), (1, INNER, 0), (1, BACK, 0)],
+            None,
+        ),
+        // an inner layer alone
+        (
+            [
+                (0, INNER_AND_BACK, 0),
+                (0, INNER_AND_BACK, 0),
+                (1, FRONT_AND_INNER, 800_000),
+                (1, FRONT, 0),
+            ],
+            Some((Kind::Short, 1, 0)),
+        ),
+        (
+            [
+                (0, INNER_AND_BACK, 0),
+                (0, BACK, 0),
+                (1, FRONT_AND_INNER, 900_000),
+                (1, FRONT, 0),
+            ],
+            Some((Kind::Clearance, 1, 100_000)),
+        ),
+        // the first layer, though another has less
+        (
+            [
+                (0, BACK, 0),
+                (0, FRONT, 0),
+                (1, BACK, 850_000),
+                (1, FRONT, 900_000),
+            ],
+            Some((Kind::Clearance, 0, 100_000)),
+        ),
+        // a short, though an earlier layer has a clearance
+        (
+            [
+                (0, FRONT, 0),
+                (0, BACK, 0),
+                (1, FRONT, 900_000),
+                (1, BACK, 800_000),
+            ],
+            Some((Kind::Short, 31, 0)),
+        ),
+        // the least gap on a layer
+        (
+            [
+                (0, INNER, 0),
+                (0, BACK, 0),
+                (1, BACK, 850_000),
+                (1, BACK, 900_000),
+            ],
+            Some((Kind::Clearance, 31, 50_000)),
+        ),
+    ];
+    for (discs, row) in table {
+        match row {
+            None => check(&rt, rt.alloc(), (&nets, &discs, &[]))?,
+            Some((kind, layer, gap)) => {
+                check(
+                    &rt,
+                    rt.alloc(),
+                    (&nets, &discs, &[(0, 1, kind, layer, gap)]),
+                )?;
+            }
+        }
+    }
+    Ok(())
+}
 
-const DOWN: Copper = (
-    FRONT,
-    &[[200_000_000, 200_000_000], [220_000_000, 220_000_000]],
-    200_000,
-);
+// By the first item, then by the second. The third item has no copper.
+#[test]
+fn order(rt: HostRuntime) -> Result<(), Fail> {
+    let nets = [0, 1, 3, 2, 1];
+    let discs = [
+        (0, FRONT, 0),
+        (1, FRONT, 900_000),
+        (3, FRONT, 500_000),
+        (4, FRONT, 1_000_000),
+    ];
+    let rows = [
+        (0, 1, Kind::Clearance, 0, 100_000),
+        (0, 3, Kind::Clearance, 0, 0),
+        (1, 3, Kind::Short, 0, 0),
+        (3, 4, Kind::Short, 0, 0),
+    ];
+    check(&rt, rt.alloc(), (&nets, &discs, &rows))?;
+    check(&rt, rt.alloc(), (&[], &[], &[]))
+}
 
-const PAST: Copper = (
-    FRONT,
-    &[[200_000_000, 200_000_000], [202_000_000, 202_000_000]],
-    200_000,
-);
+// What two parts on F.Cu break.
+fn check_parts(
+    rt: &impl Abort,
+    alloc: Global,
+    first: Part,
+    second: Part,
+    wanted: Option<(Kind, i64)>,
+) -> Result<(), Fail> {
+    let mut board = new_board(alloc)?;
+    let mut copper = SmallVec::new(alloc);
+    copper.push(first)?;
+    add(alloc, &mut board, 1, copper)?;
+    let mut copper = SmallVec::new(alloc);
+    copper.push(second)?;
+    add(alloc, &mut board, 2, copper)?;
+    let rows = rows_of(alloc, &board)?;
+    let found = match rows.as_slice() {
+        [row] => Some((row.kind, row.gap)),
+        _ => None,
+    };
+    assert_eq!(rt; found, wanted);
+    assert_eq!(rt; rows.is_empty(), wanted.is_none());
+    Ok(())
+}
 
-/// A fill with a hole, joined to its outline by a bridge.
-const FILL: Copper = (
-    FRONT,
-    &[
+#[test]
+fn tracks(rt: HostRuntime) -> Result<(), Fail> {
+    let alloc = rt.alloc();
+    let start = [200_000_000, 200_000_000];
+    let up = line(
+        &rt,
+        FRONT,
+        [200_000_000, 220_000_000],
+        [220_000_000, 200_000_000],
+        200_000,
+    );
+    let down = line(&rt, FRONT, start, [220_000_000, 220_000_000], 200_000);
+    check_parts(&rt, alloc, down, up, Some((Kind::Short, 0)))?;
+    // the boxes overlap; the two are 0.207 mm apart
+    let past = line(&rt, FRONT, start, [202_000_000, 202_000_000], 200_000);
+    let via = disc(&rt, THROUGH, [202_000_000, 200_000_000]);
+    check_parts(&rt, alloc, past, via, None)
+}
+
+#[test]
+fn areas(rt: HostRuntime) -> Result<(), Fail> {
+    let alloc = rt.alloc();
+    // a fill with a hole, joined to its outline by a bridge, and vias in the hole and in the fill
+    let corners = [
         [200_000_000, 200_000_000],
         [240_000_000, 200_000_000],
         [240_000_000, 240_000_000],
@@ -212,139 +326,21 @@ const FILL: Copper = (
         [230_000_000, 210_000_000],
         [210_000_000, 210_000_000],
         [200_000_000, 210_000_000],
-    ],
-    0,
-);
-
-const IN_HOLE: Copper = (
-    THROUGH,
-    &[[211_000_000, 220_000_000], [211_000_000, 220_000_000]],
-    800_000,
-);
-
-const IN_FILL: Copper = (
-    THROUGH,
-    &[[204_000_000, 220_000_000], [204_000_000, 220_000_000]],
-    800_000,
-);
-
-/// A pad with an edge on half a nanometre, and a via beside it.
-const PAD: Copper = (
-    ALL,
-    &[
+    ];
+    let in_hole = disc(&rt, THROUGH, [211_000_000, 220_000_000]);
+    let fill = area(&rt, alloc, &corners)?;
+    check_parts(&rt, alloc, in_hole, fill, Some((Kind::Clearance, 100_000)))?;
+    let in_fill = disc(&rt, THROUGH, [204_000_000, 220_000_000]);
+    let fill = area(&rt, alloc, &corners)?;
+    check_parts(&rt, alloc, in_fill, fill, Some((Kind::Short, 0)))?;
+    // a pad with an edge on half a nanometre
+    let corners = [
         [201_000_000, 199_599_999],
         [203_000_000, 199_599_999],
         [203_000_000, 200_800_001],
         [201_000_000, 200_800_001],
-    ],
-    0,
-);
-
-const BESIDE: Copper = (
-    THROUGH,
-    &[[202_000_000, 198_400_000], [202_000_000, 198_400_000]],
-    800_000,
-);
-
-#[test]
-fn other_shapes(rt: HostRuntime) -> Result<(), Fail> {
-    let cases: [Case; 5] = [
-        (&[(1, &[DOWN]), (2, &[UP])], &[short(0, 1, 0)]),
-        // the boxes overlap; the track and the via are 0.207 mm apart
-        (&[(1, &[PAST]), (2, &[AT_101])], &[]),
-        (&[(1, &[IN_HOLE]), (2, &[FILL])], &[near(0, 1, 0, 100_000)]),
-        (&[(1, &[IN_FILL]), (2, &[FILL])], &[short(0, 1, 0)]),
-        (&[(1, &[PAD]), (2, &[BESIDE])], &[near(0, 1, 0, 199_999)]),
     ];
-    check(&rt, rt.alloc(), &cases)
-}
-
-/// Discs of 0.8 mm at 100 100, and to its right by as many micrometres as the name says.
-const HERE: &[[i64; 2]] = &[[200_000_000, 200_000_000], [200_000_000, 200_000_000]];
-
-const RIGHT_800: &[[i64; 2]] = &[[201_600_000, 200_000_000], [201_600_000, 200_000_000]];
-
-const RIGHT_850: &[[i64; 2]] = &[[201_700_000, 200_000_000], [201_700_000, 200_000_000]];
-
-const RIGHT_900: &[[i64; 2]] = &[[201_800_000, 200_000_000], [201_800_000, 200_000_000]];
-
-const FRONT_0: Copper = (FRONT, HERE, 800_000);
-
-const INNER_0: Copper = (INNER, HERE, 800_000);
-
-const BACK_0: Copper = (BACK, HERE, 800_000);
-
-const BELOW_0: Copper = (LayerSet { bits: 0x8000_0002 }, HERE, 800_000);
-
-const ABOVE_800: Copper = (LayerSet { bits: 3 }, RIGHT_800, 800_000);
-
-const ABOVE_900: Copper = (LayerSet { bits: 3 }, RIGHT_900, 800_000);
-
-const BACK_800: Copper = (BACK, RIGHT_800, 800_000);
-
-const BACK_850: Copper = (BACK, RIGHT_850, 800_000);
-
-const BACK_900: Copper = (BACK, RIGHT_900, 800_000);
-
-const FRONT_900: Copper = (FRONT, RIGHT_900, 800_000);
-
-#[test]
-fn layers(rt: HostRuntime) -> Result<(), Fail> {
-    let cases: [Case; 8] = [
-        // no layer together
-        (&[(1, &[FRONT_0]), (2, &[BACK_0])], &[]),
-        (&[(1, &[FRONT_0, BACK_0]), (2, &[INNER_0])], &[]),
-        // the inner layer alone
-        (&[(1, &[BELOW_0]), (2, &[ABOVE_800])], &[short(0, 1, 1)]),
-        (
-            &[(1, &[BELOW_0]), (2, &[ABOVE_900])],
-            &[near(0, 1, 1, 100_000)],
-        ),
-        // the first layer, though another has less
-        (
-            &[(1, &[FRONT_0, BACK_0]), (2, &[BACK_850, FRONT_900])],
-            &[near(0, 1, 0, 100_000)],
-        ),
-        // a short on a later layer takes the row of an earlier clearance
-        (
-            &[(1, &[FRONT_0, BACK_0]), (2, &[FRONT_900, BACK_800])],
-            &[short(0, 1, 31)],
-        ),
-        // the least gap of the parts on a layer
-        (
-            &[(1, &[BACK_0, FRONT_0]), (2, &[ABOVE_900, BACK_850])],
-            &[near(0, 1, 0, 100_000)],
-        ),
-        (
-            &[(1, &[INNER_0, BACK_0]), (2, &[BACK_850, BACK_900])],
-            &[near(0, 1, 31, 50_000)],
-        ),
-    ];
-    check(&rt, rt.alloc(), &cases)
-}
-
-// By the first item, then by the second.
-#[test]
-fn order(rt: HostRuntime) -> Result<(), Fail> {
-    let between: Copper = (
-        THROUGH,
-        &[[201_000_000, 200_000_000], [201_000_000, 200_000_000]],
-        800_000,
-    );
-    let cases: [Case; 1] = [(
-        &[
-            (0, &[A]),
-            (1, &[(THROUGH, RIGHT_900, 800_000)]),
-            (3, &[]),
-            (2, &[between]),
-            (1, &[AT_101]),
-        ],
-        &[
-            near(0, 1, 0, 100_000),
-            near(0, 3, 0, 0),
-            short(1, 3, 0),
-            short(3, 4, 0),
-        ],
-    )];
-    check(&rt, rt.alloc(), &cases)
+    let pad = area(&rt, alloc, &corners)?;
+    let beside = disc(&rt, THROUGH, [202_000_000, 198_400_000]);
+    check_parts(&rt, alloc, pad, beside, Some((Kind::Clearance, 199_999)))
 }

@@ -1,4 +1,4 @@
-use Rattle.std.proofs.Common.{ℤ, refl, sym, subst, length, All}
+use Rattle.std.proofs.Common.{refl, sym, subst, length, All}
 use Rattle.std.proofs.lemmas.List.Elements.{AllWithin-upto, All-from_all_within}
 use Rattle.geo_seg.proofs.Choices.{fails_by, surely, surely_not}
 use Rattle.geo_seg.proofs.Passed.{passed}

@@ -1,5 +1,4 @@
-use Rattle.std.proofs.Common.{List, sym, ◌∙◌}
-use Rattle.board_items.specs.declared.parts.Part.{Part}
+use Rattle.std.proofs.Common.{sym, ◌∙◌}
 use Rattle.row_check.specs.Copper.{on_layer, SomeMeet, MeetOn}
 use Rattle.row_check.proofs.Scalars.{not_false}
 use Rattle.row_check.proofs.FirstLayers.{along, among, next_layer}

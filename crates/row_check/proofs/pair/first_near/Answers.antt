@@ -1,4 +1,4 @@
-use Rattle.std.proofs.Common.{ℤ, List, sym, refl, arith}
+use Rattle.std.proofs.Common.{sym, refl, arith}
 use Rattle.std.proofs.lemmas.Int.{ints}
 use Rattle.geo_shape.specs.Distances.{IsGap}
 use Rattle.row_check.specs.Copper.{on_layer, Keeps}
