@@ -1,0 +1,4 @@
+pub mod Copper
+pub mod Violations
+pub mod Rows
+pub mod RowsBelow
