@@ -1,0 +1,31 @@
+-- A line that is put together before it goes out.
+use Rattle.std.specs.Prelude.{◌≡◌, ◌≤◌, ◌==◌, ℕ, List, [], ◌∷◌, ◌++◌, Option, Result, MatchResult, OnErr, if◌then◌else◌}
+use Rattle.std.specs.List.{flat_map}
+use Rattle.std.specs.Io.KnownBytes.{Appends}
+use Rattle.drc_io.specs.Causes.{Rose}
+use Rattle.drc_io.specs.Sinks.{AppendsFront}
+
+-- of the text a front part was appended to the sink, and the rest is kept
+pub record Splits (old new : Option (List ℕ)) (text kept : List ℕ) : Type 0 where
+  pub sent : List ℕ
+  pub whole : text ≡ sent ++ kept
+  pub appended : Appends old new sent
+
+-- a piece comes behind what is pending: some of both goes out and the rest is kept, or a fault came in between and a front part went out
+pub record Puts {T E : Type 0} (old new : Option (List ℕ)) (before now : ℕ) (pending piece kept : List ℕ) (result : Result T E) : Type 0 where
+  pub bytes : MatchResult result (λ _. Splits old new (pending ++ piece) kept) (λ _. AppendsFront old new (pending ++ piece))
+  pub later : before ≤ now
+  pub failed : OnErr result (Rose before now)
+
+-- a byte of a name between quotes
+abbrev pub escaped_byte : ℕ → List ℕ
+escaped_byte byte =
+    if byte == 34 then 92 ∷ 34 ∷ []
+    else (if byte == 92 then 92 ∷ 92 ∷ []
+    else (if byte == 10 then 92 ∷ 110 ∷ []
+    else (if byte == 13 then 92 ∷ 114 ∷ []
+    else byte ∷ [])))
+
+-- a name between quotes: a quote and a backslash have a backslash before them, line feed and carriage return are \n and \r
+abbrev pub escaped : List ℕ → List ℕ
+escaped name = flat_map escaped_byte name
