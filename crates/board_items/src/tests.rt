@@ -2,7 +2,7 @@
 
 ghost use Rattle.std.specs.Prelude.{◌≡◌, IfOk};
 
-use crate::{About, Bans, Board, Hole, Item, ItemError, LayerSet, Part, Parts, What};
+use crate::{About, Bans, Board, Hole, Item, ItemError, LayerSet, Part, Parts, What, layer_name};
 use drc_io::Name;
 use geo_seg::{Bounds, Core, Point, Poly, Seg, Shape};
 use smallvec::SmallVec;
@@ -225,6 +225,9 @@ fn layers(rt: HostRuntime) -> Result<(), Fail> {
     ];
     for (bits, a, b, left) in table {
         assert_eq!(rt; LayerSet { bits }.between(a, b), LayerSet { bits: left });
+    }
+    for (layer, text) in [(0, "F.Cu"), (1, "In1.Cu"), (30, "In30.Cu"), (31, "B.Cu")] {
+        assert_eq!(rt; layer_name(layer), text.as_bytes());
     }
     Ok(())
 }

@@ -3,7 +3,7 @@ use Rattle.std.proofs.Common.{◌≡◌, ℕ, zero, suc, ◌+◌, refl, List, []
 use Rattle.std.proofs.lemmas.Slice.Eq.{bytes_eq-Decides}
 use Rattle.sexpr_read.specs.Tree.{Tree, value}
 use Rattle.pcb_read.specs.Elements.{is_text, is_value}
-use Rattle.pcb_read.specs.CopperNames.{layer_names}
+use Rattle.board_items.specs.Layers.{layer_names}
 use Rattle.std.specs.List.{position_from}
 
 pub number_step : (n k : ℕ) (names : List (List ℕ)) (atom : Tree) (name : List ℕ) → slice_get names k ≡ Some name

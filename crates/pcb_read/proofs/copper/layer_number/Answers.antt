@@ -1,6 +1,7 @@
 use Rattle.std.proofs.Common.{◌≡◌, ◌∙◌, sym, ap, arith, cond, Bool, Some, ◌+◌, drop}
 use Rattle.sexpr_read.specs.Views.{tree_of}
-use Rattle.pcb_read.specs.CopperNames.{layer_names, layer_number}
+use Rattle.board_items.specs.Layers.{layer_names}
+use Rattle.pcb_read.specs.CopperNames.{layer_number}
 use Rattle.std.specs.List.{position_from}
 use Rattle.pcb_read.specs.Elements.{is_text}
 use Rattle.pcb_read.proofs.Names.{number_step, none_left, text_is}

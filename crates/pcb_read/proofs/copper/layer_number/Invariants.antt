@@ -1,6 +1,6 @@
 use Rattle.std.proofs.Common.{◌≡◌, drop}
 use Rattle.sexpr_read.specs.Views.{tree_of}
-use Rattle.pcb_read.specs.CopperNames.{layer_names}
+use Rattle.board_items.specs.Layers.{layer_names}
 use Rattle.std.specs.List.{position_from}
 use Rattle.pcb_read.specs.Elements.{is_text}
 use Rattle.pcb_read.proofs.copper.layer_number.Given as goal
