@@ -1,10 +1,11 @@
 -- The texts of the report. Every line ends with a line feed.
-use Rattle.std.specs.Prelude.{◌<◌, ◌≤◌, ℕ, List, [], ◌++◌, length, codes, decimal, unsigned_abs, Option, None, Some, IsSome, ◌==◌, if◌then◌else◌}
+use Rattle.std.specs.Prelude.{◌<◌, ◌≤◌, ℕ, List, [], ◌++◌, length, codes, decimal, unsigned_abs, Option, None, Some, IsSome, unwrap_or, slice_get}
 use Rattle.std.specs.List.{flat_map}
 use Rattle.exact_dec.specs.Written.{mm_text}
 use Rattle.board_items.specs.declared.item.What.{What}
 use Rattle.board_items.specs.declared.item.What.TheVariants.{Track, Via, Pad, Graphic, Fill, Edge, Area, Body, Note}
 use Rattle.board_items.specs.declared.item.Item.{Item}
+use Rattle.board_items.specs.Layers.{layer_names}
 use Rattle.board_items.specs.Boards.{PlainBoard, item_at}
 use Rattle.row_check.specs.declared.rows.Kind.{Kind}
 use Rattle.row_check.specs.declared.rows.Kind.TheVariants.{Short, Clearance}
@@ -16,7 +17,7 @@ abbrev pub named : List ℕ → List ℕ → List ℕ
 named word name = word ++ codes " \"" ++ escaped name ++ codes "\""
 
 -- what an item is called: by its own name, a rule area by its title, a footprint by its reference, and a pad by its number
--- and the reference of its footprint
+-- and the reference of its footprint. No row names a note
 abbrev pub title_of : List ℕ → What → List ℕ
 title_of name (Track width) = named (codes "track") name
 title_of name (Via size drill micro blind) = named (codes "via") name
@@ -41,13 +42,13 @@ abbrev pub kind_word : Kind → List ℕ
 kind_word Short = codes "short"
 kind_word Clearance = codes "clearance"
 
-abbrev pub layer_name : ℕ → List ℕ
-layer_name layer =
-    if layer == 0 then codes "F.Cu" else (if layer == 31 then codes "B.Cu" else codes "In" ++ decimal layer ++ codes ".Cu")
+-- the name of a layer. Those of rows have one
+abbrev pub layer_text : ℕ → List ℕ
+layer_text layer = unwrap_or (slice_get layer_names layer) []
 
 -- the kind and the layer
 abbrev pub head_text : Row → List ℕ
-head_text row = codes "error " ++ kind_word row.kind ++ codes " " ++ layer_name row.layer ++ codes ": "
+head_text row = codes "error " ++ kind_word row.kind ++ codes " " ++ layer_text row.layer ++ codes ": "
 
 -- the two items
 abbrev pub pair_text : PlainBoard → Row → List ℕ

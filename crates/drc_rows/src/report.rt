@@ -11,27 +11,19 @@ use crate::items::push_item_of;
 use crate::line::Line;
 use crate::millimetres::Millimetres;
 use crate::pieces::push_all;
-use board_items::Board;
+use board_items::{Board, layer_name};
 use drc_io::{Failed, Sink};
 use itoa::Buffer;
 use row_check::{Kind, Row};
 
 /// Puts the kind and the layer of a row into the line.
 fn push_head<W: Sink>(line: &mut Line, out: &mut W, row: &Row) -> Result<(), Failed>
+    requires { row.now.layer < 32 }
     ensures { Puts (W.written out.old) (W.written out.new) (W.faults out.old) (W.faults out.new) line.old (head_text row.now) line.new result }
 {
-    let mut digits = Buffer::new();
-    let number = digits.format(row.layer).as_bytes();
     let kind = kind_word(row.kind);
-    match row.layer {
-        0 => push_all(line, out, &[b"error ", kind, b" ", b"F.Cu", b": "]),
-        31 => push_all(line, out, &[b"error ", kind, b" ", b"B.Cu", b": "]),
-        _ => push_all(
-            line,
-            out,
-            &[b"error ", kind, b" ", b"In", number, b".Cu", b": "],
-        ),
-    }
+    let layer = layer_name(row.layer);
+    push_all(line, out, &[b"error ", kind, b" ", layer, b": "])
 }
 
 fn kind_word(kind: Kind) -> &'static [u8]
@@ -100,8 +92,9 @@ fn write_row<W: Sink>(out: &mut W, board: &Board, row: &Row) -> Result<(), Faile
     line.end(out)
 }
 
-/// Writes the lines of rows whose items are in the board, in their order. `Failed` comes only where the sink's count of
-/// faults rose, and then a front part of them was written.
+/// Writes the lines of rows, in their order. Their items are in the board, their layers are below 32, and their lengths at
+/// most 10^12 nanometres. `Failed` comes only where the sink's count of faults rose, and then a front part of the lines
+/// was written.
 pub fn write_rows<W: Sink>(board: &Board, rows: &[Row], out: &mut W) -> Result<(), Failed>
     requires { All (IsPrintable board.now) rows.now }
     ensures { Writes (W.written out.old) (W.written out.new) (W.faults out.old) (W.faults out.new) (flat_map (row_line board.now) rows.now) result }
