@@ -5,6 +5,7 @@ use Rattle.board_items.specs.Boards.{PlainBoard, IsSound, Rise, UnitsBelow, AllA
 use Rattle.board_items.specs.declared.layers.LayerSet.{LayerSet}
 use Rattle.board_items.specs.Refusals.{room_of, refusal_of}
 use Rattle.board_items.proofs.Rising.{rise_added, units_added, marks-append}
+use Rattle.board_items.proofs.Nets.{still_first, distinct_added}
 use Rattle.board_items.proofs.Admitted.{all_kept, all_added, still_declared, admitted_declared, admitted_layered, admitted_unless}
 
 pub no_value : {X : Type 0} (o : Option X) → is_some o ≡ false → o ≡ None
@@ -17,13 +18,16 @@ pub new_net : (board : PlainBoard) (net : ℕ) (name : List ℕ) (nets : List (�
 new_net board net name nets absent e =
     ap (λ ns. record board { nets = ns }) e ∙ sym (ap (λ b. cond b board (record board { nets = board.nets ++ (net, name) ∷ [] })) absent)
 
-pub sound_declared : (b : PlainBoard) (net : ℕ) (name : List ℕ) (nets : List (ℕ × List ℕ)) → IsSound b → nets ≡ b.nets ++ (net, name) ∷ [] → IsSound (record b { nets = nets })
-sound_declared b net name nets s e = subst (λ (ns : List (ℕ × List ℕ)). IsSound (record b { nets = ns })) (sym e) (record {
+pub sound_declared : (b : PlainBoard) (net : ℕ) (name : List ℕ) (nets : List (ℕ × List ℕ)) → IsSound b → name_of b net ≡ None → nets ≡ b.nets ++ (net, name) ∷ []
+    → IsSound (record b { nets = nets })
+sound_declared b net name nets s absent e = subst (λ (ns : List (ℕ × List ℕ)). IsSound (record b { nets = ns })) (sym e) (record {
   ids = s.ids;
   units = s.units;
   last_id = s.last_id;
   last_unit = s.last_unit;
   few = s.few;
+  first_net = still_first (0, []) ((net, name) ∷ []) b.nets s.first_net;
+  distinct = distinct_added net name b.nets absent s.distinct;
   no_net = still_declared (nat_eq 0) ((net, name) ∷ []) b.nets s.no_net;
   admitted = all_kept b (record b { nets = b.nets ++ (net, name) ∷ [] }) (admitted_declared b ((net, name) ∷ [])) b.items s.admitted;
 })
@@ -35,6 +39,8 @@ sound_layered b copper s e = record {
   last_id = s.last_id;
   last_unit = s.last_unit;
   few = s.few;
+  first_net = s.first_net;
+  distinct = s.distinct;
   no_net = s.no_net;
   admitted = all_kept b (record b { copper = copper }) (admitted_layered b copper e) b.items s.admitted;
 }
@@ -55,6 +61,8 @@ sound_added b item items marks more next_unit s m free room unit e f u =
         last_id = omega (arith, left.1);
         last_unit = grind (arith, u, unit, s.last_unit);
         few = let n = ap length e ∙ length-append b.items ((b.next_id, item) ∷ []) in omega (arith, n, left.0);
+        first_net = s.first_net;
+        distinct = s.distinct;
         no_net = s.no_net;
         admitted = all_kept b (record { copper = b.copper; nets = b.nets; items = items; next_id = b.next_id + 1; next_unit = next_unit }) (λ i h. h) items
             (subst (λ (xs : List (ℕ × Item)). AllAdmitted b xs) (sym e) (all_added b b.next_id item (admitted_unless b item free) b.items s.admitted));

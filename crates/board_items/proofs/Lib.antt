@@ -2,4 +2,5 @@ mod LayerLemmas
 mod Around
 mod Rising
 mod Admitted
+mod Nets
 mod Growing

@@ -1,5 +1,5 @@
 -- A board as plain lists. Lengths are nanometres, and the places of its items are their ids.
-use Rattle.std.specs.Prelude.{◌≡◌, ℕ, ◌+◌, ◌<◌, ◌≤◌, max, ℤ, pos, neg_ℤ, Bool, true, false, ◌&&◌, List, [], ◌∷◌, ◌++◌, length, Option, is_some, nat_eq, if◌then◌else◌}
+use Rattle.std.specs.Prelude.{◌≡◌, ℕ, ◌+◌, ◌<◌, ◌≤◌, max, ℤ, pos, neg_ℤ, Bool, true, false, ◌&&◌, List, [], ◌∷◌, ◌++◌, length, Option, None, Some, is_some, slice_get, nat_eq, if◌then◌else◌}
 use Rattle.std.specs.Int.Signed.{le_z}
 use Rattle.std.specs.List.{list_all}
 use Rattle.std.specs.Map.{lookup}
@@ -91,13 +91,21 @@ abbrev pub AllAdmitted : PlainBoard → List (ℕ × Item) → Type 0
 AllAdmitted board [] = Unit {0}
 AllAdmitted board (entry ∷ entries) = (is_admitted board entry.1 ≡ true) × AllAdmitted board entries
 
+-- no number is declared twice: no later net has it
+abbrev pub AreDistinct : List (ℕ × List ℕ) → Type 0
+AreDistinct [] = Unit {0}
+AreDistinct (entry ∷ entries) = (lookup (nat_eq entry.0) entries ≡ None) × AreDistinct entries
+
 -- what holds of each board: ids rise and are below the next one, and unit numbers are below the next one; each id and each
--- unit number is below 2 ^ 32 - 1; there are at most 200,000 items; net 0 is declared; each item may stand there
+-- unit number is below 2 ^ 32 - 1; there are at most 200,000 items; the first net is 0, and its name is empty; no net is
+-- declared twice; each item may stand there
 pub record IsSound (board : PlainBoard) : Type 0 where
   pub ids : Rise 0 board.next_id board.items
   pub units : UnitsBelow board.next_unit board.items
   pub last_id : board.next_id ≤ 4294967295
   pub last_unit : board.next_unit ≤ 4294967295
   pub few : length board.items ≤ 200000
+  pub first_net : slice_get board.nets 0 ≡ Some (0, [])
+  pub distinct : AreDistinct board.nets
   pub no_net : is_some (name_of board 0) ≡ true
   pub admitted : AllAdmitted board board.items

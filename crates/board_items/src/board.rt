@@ -217,7 +217,8 @@ impl Board {
 
     /// All nets with their names, in the order in which they were declared; net 0 is the first.
     pub fn nets(&self) -> BoardNets<'_>
-        ensures { nets_left result ≡ self.now.nets }
+        ensures nets { nets_left result ≡ self.now.nets }
+        ensures sound { IsSound self.now }
     {
         BoardNets {
             nets: self.names.as_slice(),

@@ -16,7 +16,7 @@ pub invariant_of-self-2 : goal.invariant_of-self-2
 invariant_of-self-2 c =
     let before : PlainBoard = record { copper = c.self.inside.copper; nets = c.self.inside.names.entries; items = c.self.inside.items.items; next_id = c.self.inside.next_id; next_unit = c.self.inside.next_unit } in
     let absent = sym c.contains_key.ensures ∙ c.if-contains_key.false in (
-      sound_declared before c.args.net c.args.name c.insert.new.self.entries c.self.invariant.0
+      sound_declared before c.args.net c.args.name c.insert.new.self.entries c.self.invariant.0 (no_value _ absent)
           (c.in_ok-insert.ensures.entries ∙ insert_entry-new nat_eq c.self.inside.names c.args.net c.args.name (no_value _ absent)),
       c.self.invariant.1,
     )
