@@ -16,7 +16,7 @@ int_cases (pos (suc n)) = inl (omega (arith, ints))
 int_cases (negsuc n) = inr (omega (arith, ints))
 
 -- a gap stays where what is kept says the same
-pub gap_as : (K L : ℤ → Type 0) (v gap : ℤ) → ((g : ℤ) → K g → L g) → ((g : ℤ) → pos 1 ≤ℤ g → L g → K g) → IsGap K v gap → IsGap L v gap
+gap_as : (K L : ℤ → Type 0) (v gap : ℤ) → ((g : ℤ) → K g → L g) → ((g : ℤ) → pos 1 ≤ℤ g → L g → K g) → IsGap K v gap → IsGap L v gap
 gap_as K L v gap to from is = record { from = is.from; to = is.to; kept = kept is.kept; greatest = λ g least most h. is.greatest g least most (from g least h) }
   where
     kept : (gap ≡ pos 0) ⊎ K gap → (gap ≡ pos 0) ⊎ L gap

@@ -38,7 +38,7 @@ kept copper a b row far (inl s) = apart_no_meet (on_layer row.layer a.copper) (o
 kept copper a b row far (inr n) = n.where_first.holds (inr (far row.layer))
 
 -- there is one first layer
-pub first_once : (copper : LayerSet) (P : ℕ → Type 0) (l m : ℕ) → IsFirstLayer copper P l → IsFirstLayer copper P m → l ≡ m
+first_once : (copper : LayerSet) (P : ℕ → Type 0) (l m : ℕ) → IsFirstLayer copper P l → IsFirstLayer copper P m → l ≡ m
 first_once copper P l m f g = by_order (cases_order l m)
   where
     by_order : (l ≡ m) ⊎ ((l < m) ⊎ (m < l)) → l ≡ m
@@ -106,22 +106,9 @@ near_only copper a b row first second layer value gap none is f least e g (inr n
     let one : row.gap ≡ gap = gap_once (KeepOn layer a b) clearance row.gap gap (subst (λ (l : ℕ). IsGap (KeepOn l a b) clearance row.gap) same n.gap) least in
     ap Some (built row first second Clearance layer value gap e g n.kind same (n.value ∙ sym is) one)
 
--- a gap below the clearance, and one that reaches it
+-- a gap below the clearance
 pub below : (layer : ℕ) (a b : Item) (gap : ℤ) → IsGap (KeepOn layer a b) clearance gap → gap <ℤ clearance → ¬ (KeepOn layer a b clearance)
 below layer a b gap is less keep = absurd (past (is.greatest clearance (omega (arith, ints)) (omega (arith, ints)) keep))
   where
     past : clearance ≤ℤ gap → ⊥
     past h = omega (arith, ints)
-
-pub reached : (layer : ℕ) (a b : Item) (gap : ℤ) → IsGap (KeepOn layer a b) clearance gap → clearance ≤ℤ gap → KeepOn layer a b clearance
-reached layer a b gap is more = by_kept is.kept
-  where
-    nothing : gap ≡ pos 0 → ⊥
-    nothing e = omega (arith, ints)
-
-    whole : gap ≡ clearance
-    whole = let to = is.to in omega (arith, ints)
-
-    by_kept : (gap ≡ pos 0) ⊎ KeepOn layer a b gap → KeepOn layer a b clearance
-    by_kept (inl e) = absurd (nothing e)
-    by_kept (inr keep) = subst (KeepOn layer a b) whole keep

@@ -12,10 +12,6 @@ not_below : (low high id : ℕ) (es : List (ℕ × Item)) → Rise low high es �
 not_below low high id [] h lt = refl
 not_below low high id (e ∷ es) h lt = passed_over id e es (λ k. omega (arith, h.0, k)) ∙ not_below (e.0 + 1) high id es h.1 (omega (arith, h.0))
 
--- at first all are left
-pub from_start : (high : ℕ) (items : List (ℕ × Item)) → Rise 0 high items → AreFrom 0 items items
-from_start high items h = record { high = high; rise = h; same = λ other le. refl }
-
 module _ (id : ℕ) (items : List (ℕ × Item)) (e : ℕ × Item) (es : List (ℕ × Item)) (from : AreFrom id items (e ∷ es)) where
   pub next_after : id ≤ e.0
   next_after = from.rise.0
@@ -33,7 +29,3 @@ module _ (id : ℕ) (items : List (ℕ × Item)) (e : ℕ × Item) (es : List (�
   -- there is no item before the next one
   pub none_between : (other : ℕ) → id ≤ other → other < e.0 → item_at items other ≡ None
   none_between other le lt = from.same other le ∙ (passed_over other e es (λ k. omega (arith, lt, k)) ∙ not_below (e.0 + 1) from.high other es from.rise.1 (omega (arith, lt)))
-
--- where none is left there is no further item
-pub none_from : (id : ℕ) (items : List (ℕ × Item)) → AreFrom id items [] → (other : ℕ) → id ≤ other → item_at items other ≡ None
-none_from id items from other le = from.same other le

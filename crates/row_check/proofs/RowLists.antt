@@ -1,11 +1,11 @@
 -- The rows of a board, pair by pair in order.
 use Rattle.std.proofs.Common.{◌≡◌, ◌⊎◌, ℕ, ◌+◌, ◌<◌, ◌≤◌, List, [], ◌∷◌, ◌++◌, get_or, Contains, Option, Some, None, inl, inr, refl, sym, ap, subst, ◌∙◌, arith}
-use Rattle.std.proofs.lemmas.List.Elements.{All-nil, All-push, Contains-append_left, Contains-append_right}
+use Rattle.std.proofs.lemmas.List.Elements.{All-push, Contains-append_left, Contains-append_right}
 use Rattle.std.proofs.lemmas.List.Quantifiers.{all_pairs_push}
 use Rattle.board_items.specs.declared.item.Item.{Item}
 use Rattle.board_items.specs.Boards.{PlainBoard, item_at}
 use Rattle.row_check.specs.declared.rows.Row.{Row}
-use Rattle.row_check.specs.Rows.{IsRow, Before, AreRows}
+use Rattle.row_check.specs.Rows.{IsRow, Before}
 use Rattle.row_check.specs.RowsBelow.{IsBelow, AreRowsBelow}
 use Rattle.row_check.specs.Violations.{IsViolation}
 
@@ -18,18 +18,6 @@ cases m n = grind arith
 
 last_case : (m i : ℕ) → m < i + 1 → (m < i) ⊎ (m ≡ i)
 last_case m i k = grind arith
-
-pub rows_start : (board : PlainBoard) → AreRowsBelow board 0 0 []
-rows_start board = record {
-  ordered = λ i j d h k. absurd (omega arith);
-  only = All-nil (IsRow board);
-  below = All-nil (IsBelow 0 0);
-  all = λ row is below. absurd (nothing row below);
-}
-  where
-    nothing : (row : Row) → IsBelow 0 0 row → ⊥
-    nothing row (inl h) = omega arith
-    nothing row (inr h) = let k = h.1 in omega arith
 
 -- where no row lies between, all before the one pair are all before the other
 rows_on : (board : PlainBoard) (i j k l : ℕ) (rows : List Row) → ((row : Row) → IsBelow i j row → IsBelow k l row)
@@ -57,18 +45,6 @@ rows_to board i k rows le none = rows_on board i 0 k 0 rows on back
         by_first (inl lt) = inl lt
         by_first (inr ge) = absurd (there (none row.first ge h) is.first)
 
--- the second of a pair comes after the first
-pub rows_first : (board : PlainBoard) (i : ℕ) (rows : List Row) → AreRowsBelow board i 0 rows → AreRowsBelow board i (i + 1) rows
-rows_first board i rows = rows_on board i 0 i (i + 1) rows on back
-  where
-    on : (row : Row) → IsBelow i 0 row → IsBelow i (i + 1) row
-    on row (inl h) = inl h
-    on row (inr h) = let k = h.1 in absurd (omega arith)
-
-    back : (row : Row) → IsRow board row → IsBelow i (i + 1) row → IsBelow i 0 row
-    back row is (inl h) = inl h
-    back row is (inr h) = let p = h.0 in let q = h.1 in let o = is.ordered in absurd (omega arith)
-
 -- no item is second between j and l
 pub rows_along : (board : PlainBoard) (i j l : ℕ) (rows : List Row) → j ≤ l → ((m : ℕ) → j ≤ m → m < l → item_at board.items m ≡ None) → AreRowsBelow board i j rows → AreRowsBelow board i l rows
 rows_along board i j l rows le none = rows_on board i j i l rows on back
@@ -84,30 +60,6 @@ rows_along board i j l rows le none = rows_on board i j i l rows on back
         by_second : (row.second < j) ⊎ (j ≤ row.second) → IsBelow i j row
         by_second (inl lt) = inr (h.0, lt)
         by_second (inr ge) = absurd (there (none row.second ge h.1) is.second)
-
--- no item comes after the last
-pub rows_next : (board : PlainBoard) (i j : ℕ) (rows : List Row) → ((m : ℕ) → j ≤ m → item_at board.items m ≡ None) → AreRowsBelow board i j rows → AreRowsBelow board (i + 1) 0 rows
-rows_next board i j rows none = rows_on board i j (i + 1) 0 rows on back
-  where
-    on : (row : Row) → IsBelow i j row → IsBelow (i + 1) 0 row
-    on row (inl h) = inl (omega arith)
-    on row (inr h) = let p = h.0 in inl (omega arith)
-
-    back : (row : Row) → IsRow board row → IsBelow (i + 1) 0 row → IsBelow i j row
-    back row is (inr h) = let q = h.1 in absurd (omega arith)
-    back row is (inl h) = by_first (last_case row.first i h) (cases row.second j)
-      where
-        by_first : (row.first < i) ⊎ (row.first ≡ i) → (row.second < j) ⊎ (j ≤ row.second) → IsBelow i j row
-        by_first (inl k) second = inl k
-        by_first (inr k) (inl lt) = inr (k, lt)
-        by_first (inr k) (inr ge) = absurd (there (none row.second ge) is.second)
-
-pub rows_end : (board : PlainBoard) (i : ℕ) (rows : List Row) → ((m : ℕ) → i ≤ m → item_at board.items m ≡ None) → AreRowsBelow board i 0 rows → AreRows board rows
-rows_end board i rows none r = record { ordered = r.ordered; only = r.only; all = λ row is. r.all row is (by_first row is (cases row.first i)) }
-  where
-    by_first : (row : Row) → IsRow board row → (row.first < i) ⊎ (i ≤ row.first) → IsBelow i 0 row
-    by_first row is (inl lt) = inl lt
-    by_first row is (inr ge) = absurd (there (none row.first ge) is.first)
 
 -- a pair without a row
 rows_skip : (board : PlainBoard) (i j : ℕ) (rows : List Row) → ((row : Row) → IsRow board row → row.first ≡ i → row.second ≡ j → ⊥)

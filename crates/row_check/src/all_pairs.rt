@@ -12,6 +12,10 @@ use board_items::{Board, BoardIter, Item};
 use std::alloc::{AllocError, Global};
 
 /// All rows of the board, by the first id, then by the second.
+///
+/// Two items of different nets have a row where their copper is nearer than the clearance on some layer. It is a short
+/// where both nets are there (net 0 is no net) and the copper meets, also by touching; else it is a clearance, with the
+/// gap on the first layer that breaks it. The call fails only where memory runs out.
 pub fn rows_of(alloc: Global, board: &Board) -> Result<Vec<Row>, AllocError>
     ensures { IfOk result (λ rows. AreRows board.now rows.items) }
 {

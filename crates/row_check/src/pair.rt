@@ -13,7 +13,7 @@ use board_items::{Item, LayerSet, Nm};
 /// The clearance in nanometres that is asked for between all copper of different nets: 0.2 mm.
 pub const CLEARANCE: Nm = 200_000;
 
-// A layer on which the clearance is not kept, and the gap there in nanometres.
+// A layer on which the clearance is not kept. The gap is in nanometres.
 #[derive(Clone, Copy)]
 struct Near {
     layer: u32,
@@ -32,7 +32,7 @@ fn first_meeting(copper: LayerSet, a: &Item, b: &Item) -> Option<u32>
     None
 }
 
-// The layer of a short.
+// The layer of a short, if there is one: two nets that are there, and copper that meets.
 fn short_layer(copper: LayerSet, a: &Item, b: &Item) -> Option<u32>
     requires { a.now.net ≢ b.now.net }
     ensures { MatchOption result (¬ (DoShort copper a.now b.now)) (λ layer. DoShort copper a.now b.now × IsFirstLayer copper (λ l. MeetOn l a.now b.now) layer) }
@@ -43,7 +43,7 @@ fn short_layer(copper: LayerSet, a: &Item, b: &Item) -> Option<u32>
     first_meeting(copper, a, b)
 }
 
-// The first layer on which the clearance is not kept.
+// The first layer on which the clearance is not kept, and the gap there.
 fn first_near(copper: LayerSet, a: &Item, b: &Item) -> Option<Near>
     ensures { MatchOption result ((layer : ℕ) → IsAmong copper layer → KeepOn layer a.now b.now clearance)
         (λ near. IsFirstLayer copper (λ layer. ¬ (KeepOn layer a.now b.now clearance)) near.layer × IsGap (KeepOn near.layer a.now b.now) clearance near.gap) }
@@ -59,7 +59,8 @@ fn first_near(copper: LayerSet, a: &Item, b: &Item) -> Option<Near>
     None
 }
 
-/// The row of two items, if they break anything: a short, or else the clearance.
+/// The row of two items, if they break anything: a short, or else the clearance. The layers are gone through only where
+/// some parts are too near to each other.
 pub(crate) fn row_of(copper: LayerSet, first: u32, a: &Item, second: u32, b: &Item) -> Option<Row>
     ensures found { IfSome result (λ row. IsViolation copper a.now b.now row × (row.first ≡ first) × (row.second ≡ second)) }
     ensures only { (row : Row) → row.first ≡ first → row.second ≡ second → IsViolation copper a.now b.now row → result ≡ Some row }
