@@ -5,7 +5,6 @@ use Rattle.std.specs.Int.Bits.{and_zero_l, and_zero_r}
 use Rattle.std.specs.Option.{option_copied}
 use Rattle.std.specs.List.{list_all}
 use Rattle.std.specs.Map.{lookup}
-use Rattle.board_items.specs.declared.errors.ItemError.{ItemError}
 use Rattle.board_items.specs.declared.errors.ItemError.TheVariants.{OutOfBoard, UnknownNet, UnknownLayer, TooMany}
 use Rattle.board_items.specs.declared.layers.LayerSet.{LayerSet}
 use Rattle.board_items.specs.declared.parts.Part.{Part}
@@ -13,7 +12,7 @@ use Rattle.board_items.specs.declared.item.Item.{Item}
 use Rattle.board_items.specs.Layers.{is_within}
 use Rattle.board_items.specs.Parts.{parts_of}
 use Rattle.board_items.specs.Boards.{PlainBoard, name_of, item_at, is_on_board, has_layers_of, is_admitted, AllAdmitted}
-use Rattle.board_items.specs.Refusals.{room_of, refusal_of}
+use Rattle.board_items.specs.Refusals.{refusal_of}
 
 -- ---- lists of items
 pub all_kept : (b c : PlainBoard) → ((item : Item) → is_admitted b item ≡ true → is_admitted c item ≡ true)

@@ -201,7 +201,8 @@ impl Board {
 
     /// How many more items `add` takes before it answers `TooMany`.
     pub fn left(&self) -> u32
-        ensures { result ≡ room_of self.now }
+        ensures room { result ≡ room_of self.now }
+        ensures sound { IsSound self.now }
     {
         let places = MOST_ITEMS - self.items.len();
         (places as u32).min(LAST - self.next_id)
