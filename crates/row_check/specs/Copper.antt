@@ -1,6 +1,7 @@
 -- The copper of two items on one layer. Shapes are in half nanometres, so that half of an odd width is a whole number; the
 -- distances that are kept are nanometres.
-use Rattle.std.specs.Prelude.{◌≡◌, ℕ, ℤ, pos, ◌*ℤ◌, List, ◌⊎◌, filter, Contains}
+use Rattle.std.specs.Prelude.{◌≡◌, ℕ, ℤ, pos, ◌*ℤ◌, List, ◌⊎◌, filter, All}
+use Rattle.std.specs.List.{Any}
 use Rattle.geo_shape.specs.Distances.{Apart, Meet}
 use Rattle.board_items.specs.declared.parts.Part.{Part}
 use Rattle.board_items.specs.declared.item.Item.{Item}
@@ -12,15 +13,11 @@ on_layer layer parts = filter (λ part. has_layer part.layers layer) parts
 
 -- some part of the one list and some part of the other touch or overlap
 pub record SomeMeet (parts others : List Part) : Type 0 where
-  pub part : Part
-  pub other : Part
-  pub of_first : Contains parts part
-  pub of_second : Contains others other
-  pub meet : Meet part.shape other.shape
+  pub some : Any (λ part. Any (λ other. Meet part.shape other.shape) others) parts
 
 -- no part of the one list and part of the other are nearer to each other than v nanometres
 pub record AreApart (parts others : List Part) (v : ℤ) : Type 0 where
-  pub each : (part other : Part) → Contains parts part → Contains others other → Apart part.shape other.shape (pos 2 *ℤ v)
+  pub each : All (λ part. All (λ other. Apart part.shape other.shape (pos 2 *ℤ v)) others) parts
 
 -- the two lists keep the distance v; nothing has to be kept where it is 0
 abbrev pub Keeps : List Part → List Part → ℤ → Type 0
