@@ -1,5 +1,5 @@
 -- Tracks and vias from what was read of them.
-use Rattle.std.proofs.Common.{◌≡◌, refl, ℕ, ℤ, pos, List, [], ◌∷◌, Bool, true, false, ◌&&◌, is_some, codes, Option, None, Some, Result, Ok, Err, unwrap_or}
+use Rattle.std.proofs.Common.{◌≡◌, refl, ℕ, ℤ, pos, [], ◌∷◌, Bool, true, false, ◌&&◌, is_some, IsTrue, ◌++◌, codes, Option, None, Some, Ok, Err, unwrap_or}
 use Rattle.sexpr_read.specs.Tree.{Tree}
 use Rattle.geo_seg.specs.declared.points.Point.{Point}
 use Rattle.geo_seg.specs.declared.shapes.Shape.{Shape}
@@ -8,7 +8,9 @@ use Rattle.board_items.specs.declared.errors.BoardError.TheVariants.{OutOfBoard}
 use Rattle.board_items.specs.declared.layers.LayerSet.{LayerSet}
 use Rattle.board_items.specs.declared.item.Hole.{Hole}
 use Rattle.board_items.specs.declared.item.What.TheVariants.{Track, Via}
-use Rattle.board_items.specs.Layers.{single_layer}
+use Rattle.std.specs.List.{list_all}
+use Rattle.board_items.specs.Layers.{single_layer, is_within}
+use Rattle.board_items.specs.Parts.{hole_parts}
 use Rattle.board_items.specs.declared.item.Item.{Item}
 use Rattle.board_items.specs.Boards.{PlainBoard, name_of, is_near, is_on_board, has_layers_of, is_admitted}
 use Rattle.pcb_read.specs.OnBoard.{point_by, point_of, strip_between}
@@ -78,3 +80,10 @@ is_near_start x y w q s e =
 
 pub admitted_by : (board : PlainBoard) (item : Item) → is_on_board item ≡ true → is_some (name_of board item.net) ≡ true → has_layers_of board item ≡ true → is_admitted board item ≡ true
 admitted_by board item h k m = both _ _ (both _ _ h k) m
+
+-- a via has one part of copper and perhaps a hole, on layers of the board
+pub via_layers : (copper layers : LayerSet) (shape : Shape) (hole : Option Hole) → IsTrue (is_within layers copper)
+    → list_all (λ part. is_within part.layers copper) (hole_parts hole) ≡ true
+    → list_all (λ part. is_within part.layers copper) (record { layers = layers; shape = shape } ∷ (hole_parts hole ++ [])) ≡ true
+via_layers copper layers shape None h k = both _ _ h k
+via_layers copper layers shape (Some hole) h k = both _ _ h k

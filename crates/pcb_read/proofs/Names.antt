@@ -1,18 +1,19 @@
 -- The search for a name goes on behind the names that were passed.
-use Rattle.std.proofs.Common.{◌≡◌, ℕ, zero, suc, ◌+◌, refl, List, [], ◌∷◌, drop, slice_get, Option, Some, None, Bool, IsTrue, ◌↔◌, true, false, sym, ap, bytes_eq, arith, if◌then◌else◌}
+use Rattle.std.proofs.Common.{◌≡◌, ℕ, zero, suc, ◌+◌, refl, List, [], ◌∷◌, drop, slice_get, Option, Some, None, Bool, IsTrue, ◌↔◌, true, false, sym, ap, bytes_eq, arith, cond}
 use Rattle.std.proofs.lemmas.Slice.Eq.{bytes_eq-Decides}
 use Rattle.sexpr_read.specs.Tree.{Tree, value}
 use Rattle.pcb_read.specs.Elements.{is_text, is_value}
-use Rattle.pcb_read.specs.CopperNames.{layer_names, number_from}
+use Rattle.board_items.specs.Layers.{layer_names}
+use Rattle.std.specs.List.{position_from}
 
 pub number_step : (n k : ℕ) (names : List (List ℕ)) (atom : Tree) (name : List ℕ) → slice_get names k ≡ Some name
-    → number_from n (drop k names) atom ≡ (if is_text atom name then Some n else number_from (n + 1) (drop (k + 1) names) atom)
+    → position_from (is_text atom) n (drop k names) ≡ cond (is_text atom name) (Some n) (position_from (is_text atom) (n + 1) (drop (k + 1) names))
 number_step n k [] atom name h = absurd cc
 number_step n zero (x ∷ xs) atom name h = cc
 number_step n (suc k) (x ∷ xs) atom name h = let e : suc k + 1 ≡ suc (k + 1) = omega arith in rw e (number_step n k xs atom name h)
 
 -- there are 32 names
-pub none_left : (n : ℕ) (atom : Tree) → n ≡ 32 → number_from n (drop n layer_names) atom ≡ None
+pub none_left : (n : ℕ) (atom : Tree) → n ≡ 32 → position_from (is_text atom) n (drop n layer_names) ≡ None
 unfolding layer_names
 none_left n atom e = rw e refl
 

@@ -1,5 +1,5 @@
 -- Points and shapes are the same where their numbers and their cores are: what bounds them has one proof.
-use Rattle.std.proofs.Common.{◌≡◌, refl, ap, subst, sym, ◌∙◌, ℕ, ℤ, pos, negsuc, neg_ℤ, ◌*ℤ◌, ◌≤ℤ◌, ◌≤◌, unsigned_abs, Bool, true, false, ◌&&◌, Option, None, Some, w64, arith}
+use Rattle.std.proofs.Common.{◌≡◌, refl, ap, subst, sym, ◌∙◌, ℤ, pos, negsuc, neg_ℤ, ◌*ℤ◌, ◌≤ℤ◌, ◌≤◌, unsigned_abs, Bool, true, false, ◌&&◌, Some, w64, arith}
 use Rattle.std.proofs.Math.Bridge.{le_prop}
 use Rattle.std.proofs.Math.Dec.{T_prop}
 use Rattle.std.proofs.Math.Facts.{to_z-of_z}

@@ -1,7 +1,7 @@
 -- The board of a tree: (kicad_pcb (version 20221018) PART ..), its parts read in the order of the text. The formats are those of
--- the KiCad developer documentation. A list with another head is passed over, and so is what stands in a list beside the
--- elements that are named here; of two elements with one head the first counts.
-use Rattle.std.specs.Prelude.{ℕ, nat_lt, List, [], ◌∷◌, find, codes, Bool, true, false, ◌&&◌, Option, None, Some, Result, Ok, Err, if◌then◌else◌}
+-- the KiCad developer documentation. Some lists are refused (`refused_part`), those with any other head are passed over, and so
+-- is what stands in a list beside the elements that are named here; of two elements with one head the first counts.
+use Rattle.std.specs.Prelude.{ℕ, nat_lt, List, [], ◌∷◌, find, codes, Bool, true, false, ◌&&◌, Result, Ok, Err, if◌then◌else◌}
 use Rattle.std.specs.List.{list_any}
 use Rattle.sexpr_read.specs.Tree.{Tree, parts, is_list}
 use Rattle.board_items.specs.declared.errors.BoardError.{BoardError}
@@ -49,10 +49,11 @@ refused_part tree =
     else if list_any (λ head. has_head head tree) not_built then Err (NotBuilt (place tree))
     else Ok tt
 
--- the part of the root that an item is read from
+-- the item of a segment goes last, as a unit of its own
 unfoldable pub with_track : PlainBoard → Tree → Result PlainBoard BoardError
 with_track board tree = track_of board board.next_unit tree >>= with_item_of board tree
 
+-- and so does that of a via
 unfoldable pub with_via : PlainBoard → Tree → Result PlainBoard BoardError
 with_via board tree = via_of board board.next_unit tree >>= with_item_of board tree
 

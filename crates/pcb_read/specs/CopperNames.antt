@@ -1,27 +1,16 @@
--- Names of copper layers: F.Cu, In1.Cu to In30.Cu, B.Cu, numbered in stack order.
-use Rattle.std.specs.Prelude.{ℕ, ◌+◌, Bool, List, [], ◌∷◌, codes, Option, None, Some, Result, Ok, Err, if◌then◌else◌}
+-- Copper layers by their names: the list of layers of a board, and the layers of an item.
+use Rattle.std.specs.Prelude.{ℕ, List, [], ◌∷◌, codes, Option, None, Some, Result, Ok, Err, if◌then◌else◌}
+use Rattle.std.specs.List.{position_from}
 use Rattle.sexpr_read.specs.Tree.{Tree, parts, is_list}
 use Rattle.board_items.specs.declared.layers.LayerSet.{LayerSet}
 use Rattle.board_items.specs.declared.errors.BoardError.{BoardError}
 use Rattle.board_items.specs.declared.errors.BoardError.TheVariants.{UnknownLayer}
-use Rattle.board_items.specs.Layers.{has_layer, single_layer, union_of, layers_between}
+use Rattle.board_items.specs.Layers.{has_layer, layer_names, single_layer, union_of, layers_between}
 use Rattle.pcb_read.specs.Elements.{◌>>=◌, place, is_text, element_of, atom_of}
 
-unfoldable pub layer_names : List (List ℕ)
-layer_names =
-    codes "F.Cu" ∷ codes "In1.Cu" ∷ codes "In2.Cu" ∷ codes "In3.Cu" ∷ codes "In4.Cu" ∷ codes "In5.Cu" ∷ codes "In6.Cu" ∷ codes "In7.Cu"
-    ∷ codes "In8.Cu" ∷ codes "In9.Cu" ∷ codes "In10.Cu" ∷ codes "In11.Cu" ∷ codes "In12.Cu" ∷ codes "In13.Cu" ∷ codes "In14.Cu" ∷ codes "In15.Cu"
-    ∷ codes "In16.Cu" ∷ codes "In17.Cu" ∷ codes "In18.Cu" ∷ codes "In19.Cu" ∷ codes "In20.Cu" ∷ codes "In21.Cu" ∷ codes "In22.Cu" ∷ codes "In23.Cu"
-    ∷ codes "In24.Cu" ∷ codes "In25.Cu" ∷ codes "In26.Cu" ∷ codes "In27.Cu" ∷ codes "In28.Cu" ∷ codes "In29.Cu" ∷ codes "In30.Cu" ∷ codes "B.Cu" ∷ []
-
--- the place among names of the one that an atom stands for, where the first has this number
-abbrev pub number_from : ℕ → List (List ℕ) → Tree → Option ℕ
-number_from n [] atom = None
-number_from n (name ∷ names) atom = if is_text atom name then Some n else number_from (n + 1) names atom
-
--- the layer that an atom names, if it is one of copper
+-- the layer that an atom names, if it is one of copper: the place of its name
 unfoldable pub layer_number : Tree → Option ℕ
-layer_number atom = number_from 0 layer_names atom
+layer_number atom = position_from (is_text atom) 0 layer_names
 
 -- ---- the list of layers
 

@@ -1,5 +1,5 @@
 -- Tracks and vias: the item that a list of the board gives, in this unit.
-use Rattle.std.specs.Prelude.{ℕ, ℤ, pos, List, [], ◌∷◌, codes, Bool, true, Option, None, Some, unwrap_or, Result, Ok, Err}
+use Rattle.std.specs.Prelude.{ℕ, ℤ, pos, List, [], ◌∷◌, codes, Bool, true, Option, None, Some, unwrap_or, Result, Ok}
 use Rattle.std.specs.List.{list_any}
 use Rattle.sexpr_read.specs.Tree.{Tree, parts}
 use Rattle.geo_seg.specs.declared.points.Point.{Point}

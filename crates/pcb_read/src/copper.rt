@@ -1,56 +1,14 @@
 //! Names of copper layers, the list of layers, and the layers of an item.
 
-ghost use Rattle.std.specs.Prelude.{◌≡◌, ◌<◌, ℕ, Some, slice_get, IfOk, IfSome, IsTrue};
+ghost use Rattle.std.specs.Prelude.{◌≡◌, ◌<◌, IfOk, IfSome, IsTrue};
 ghost use Rattle.board_items.specs.Layers.{has_layer, is_within};
 ghost use Rattle.sexpr_read.specs.Tree.{parts};
 ghost use Rattle.sexpr_read.specs.Views.{tree_of, trees_left};
-ghost use Rattle.pcb_read.specs.CopperNames.{layer_names, layer_number, layers_in, with_layer, copper_in, layer_of, span_of};
+ghost use Rattle.pcb_read.specs.CopperNames.{layer_number, layers_in, with_layer, copper_in, layer_of, span_of};
 
 use crate::elements::{element_of, first_atom, place, second_atom};
-use board_items::{BoardError, LayerSet};
+use board_items::{BoardError, LayerSet, layer_name};
 use sexpr_read::Node;
-
-/// The name of a copper layer.
-#[tactic(auto, unfolding(crate::specs::CopperNames::layer_names))]
-fn layer_name(layer: u32) -> &'static [u8]
-    requires { layer < 32 }
-    ensures { slice_get layer_names layer ≡ Some result.now }
-{
-    match layer {
-        0 => b"F.Cu",
-        1 => b"In1.Cu",
-        2 => b"In2.Cu",
-        3 => b"In3.Cu",
-        4 => b"In4.Cu",
-        5 => b"In5.Cu",
-        6 => b"In6.Cu",
-        7 => b"In7.Cu",
-        8 => b"In8.Cu",
-        9 => b"In9.Cu",
-        10 => b"In10.Cu",
-        11 => b"In11.Cu",
-        12 => b"In12.Cu",
-        13 => b"In13.Cu",
-        14 => b"In14.Cu",
-        15 => b"In15.Cu",
-        16 => b"In16.Cu",
-        17 => b"In17.Cu",
-        18 => b"In18.Cu",
-        19 => b"In19.Cu",
-        20 => b"In20.Cu",
-        21 => b"In21.Cu",
-        22 => b"In22.Cu",
-        23 => b"In23.Cu",
-        24 => b"In24.Cu",
-        25 => b"In25.Cu",
-        26 => b"In26.Cu",
-        27 => b"In27.Cu",
-        28 => b"In28.Cu",
-        29 => b"In29.Cu",
-        30 => b"In30.Cu",
-        _ => b"B.Cu",
-    }
-}
 
 /// The layer that an atom names, if it is one of copper.
 #[tactic(auto, using(crate::proofs::Names::number_step), unfolding(crate::specs::CopperNames::layer_number))]

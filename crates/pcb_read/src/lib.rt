@@ -17,18 +17,23 @@ mod on_board;
 mod root;
 mod tracks;
 
+use crate::laws::one_reading;
 use crate::root::board_of;
 use board_items::{Board, BoardError};
 use sexpr_read::{TextError, parse_one};
 use std::alloc::Global;
 
-/// The board of a text, or the first reason in the text why there is none, with its place.
+/// The board of a text of at most 33,554,432 bytes, or the first reason in the text why there is none, with its place.
 ///
-/// Tracks and vias are read, and the nets and copper layers that they name. The reasons are those of [`BoardError`].
+/// All nets and copper layers that the text lists are kept, and its tracks and vias. Graphics, texts, dimensions,
+/// footprints and zones are refused as `NotBuilt`, arcs as `Arc`, and other lists are passed over. The reasons are those
+/// of [`BoardError`], exactly where the board of a tree (`specs/BoardOf`) has them; want of memory alone is free.
 pub fn read_board(alloc: Global, text: &[u8]) -> Result<Board, BoardError>
     requires { length text.now ≤ 33_554_432 }
-    ensures { MatchResult result (λ board. Says text.now (Ok board)) (λ e. (e ≡ BoardError.OutOfMemory) ⊎ Says text.now (Err e)) }
+    ensures says { MatchResult result (λ board. Says text.now (Ok board)) (λ e. (e ≡ BoardError.OutOfMemory) ⊎ Says text.now (Err e)) }
+    ensures only { (answer : Result PlainBoard BoardError) → Says text.now answer → MatchResult result (λ board. answer ≡ Ok board) (λ e. (e ≡ BoardError.OutOfMemory) ⊎ (answer ≡ Err e)) }
 {
+    one_reading();
     match parse_one(alloc, text) {
         Ok(doc) => board_of(alloc, doc.root()),
         Err(TextError::OutOfMemory) => Err(BoardError::OutOfMemory),

@@ -1,6 +1,7 @@
 //! Tracks and vias.
 
-ghost use Rattle.std.specs.Prelude.{◌≡◌, ◌∷◌, [], true, is_some, IfOk};
+ghost use Rattle.std.specs.Prelude.{◌≡◌, ◌∷◌, [], true, is_some, IfOk, IsTrue};
+ghost use Rattle.board_items.specs.declared.layers.LayerSet.{LayerSet};
 ghost use Rattle.std.specs.List.{list_all};
 ghost use Rattle.board_items.specs.Layers.{is_within};
 ghost use Rattle.board_items.specs.Parts.{hole_parts};
@@ -82,7 +83,7 @@ fn hole_through(
     drill: Option<Nm>,
 ) -> Result<Option<Hole>, BoardError>
     ensures hole { result ≡ hole_through (tree_of node.entry) at layers drill }
-    ensures within { IfOk result (λ hole. list_all (λ part. is_within part.layers layers) (hole_parts hole) ≡ true) }
+    ensures within { (copper : LayerSet) → IsTrue (is_within layers copper) → IfOk result (λ hole. list_all (λ part. is_within part.layers copper) (hole_parts hole) ≡ true) }
 {
     let Some(drill) = drill else {
         return Ok(None);

@@ -1,6 +1,9 @@
-use Rattle.std.proofs.Common.{◌≡◌, ◌∙◌, sym, ap, refl, arith, cond, Bool, Some, Option, ℕ, ◌+◌, drop}
+use Rattle.std.proofs.Common.{◌≡◌, ◌∙◌, sym, ap, arith, cond, Bool, Some, ◌+◌, drop}
 use Rattle.sexpr_read.specs.Views.{tree_of}
-use Rattle.pcb_read.specs.CopperNames.{layer_names, layer_number, number_from}
+use Rattle.board_items.specs.Layers.{layer_names}
+use Rattle.pcb_read.specs.CopperNames.{layer_number}
+use Rattle.std.specs.List.{position_from}
+use Rattle.pcb_read.specs.Elements.{is_text}
 use Rattle.pcb_read.proofs.Names.{number_step, none_left, text_is}
 use Rattle.pcb_read.proofs.copper.layer_number.Goals as goal
 
@@ -11,7 +14,7 @@ returns-then-is-clause-number c =
     let layer = c.loop-layer.layer in
     let step = number_step layer layer layer_names atom c.layer_name.result.now c.layer_name.ensures in
     let named = text_is atom c.layer_name.result.now c.is.result c.is.ensures ∙ c.if-is.true in
-    sym (ap (λ (b : Bool). cond b (Some layer) (number_from (layer + 1) (drop (layer + 1) layer_names) atom)) named) ∙ sym step ∙ c.loop-layer.invariant
+    sym (ap (λ (b : Bool). cond b (Some layer) (position_from (is_text atom) (layer + 1) (drop (layer + 1) layer_names))) named) ∙ sym step ∙ c.loop-layer.invariant
 
 pub loop-layer-preserved : goal.loop-layer-preserved
 loop-layer-preserved c =
@@ -19,7 +22,7 @@ loop-layer-preserved c =
     let layer = c.loop-layer.layer in
     let step = number_step layer layer layer_names atom c.layer_name.result.now c.layer_name.ensures in
     let named = text_is atom c.layer_name.result.now c.is.result c.is.ensures ∙ c.if-is.false in
-    sym (ap (λ (b : Bool). cond b (Some layer) (number_from (layer + 1) (drop (layer + 1) layer_names) atom)) named) ∙ sym step ∙ c.loop-layer.invariant
+    sym (ap (λ (b : Bool). cond b (Some layer) (position_from (is_text atom) (layer + 1) (drop (layer + 1) layer_names))) named) ∙ sym step ∙ c.loop-layer.invariant
 
 pub returns-clause-number : goal.returns-clause-number
 unfolding layer_number

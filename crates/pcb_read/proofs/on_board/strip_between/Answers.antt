@@ -1,4 +1,4 @@
-use Rattle.std.proofs.Common.{refl, w64}
+use Rattle.std.proofs.Common.{refl}
 use Rattle.pcb_read.proofs.Shapes.{line_is, width_by_tests, clean}
 use Rattle.pcb_read.proofs.on_board.strip_between.Goals as goal
 
