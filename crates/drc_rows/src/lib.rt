@@ -6,5 +6,7 @@ mod line;
 mod millimetres;
 mod pieces;
 mod report;
+#[cfg(test)]
+mod tests;
 
 pub use report::{write_line, write_rows};
