@@ -3,7 +3,7 @@
 ghost use Rattle.std.specs.Prelude.{◌≡◌, ℕ, List, Option, Some};
 ghost use Rattle.drc_run.specs.Output.{Output, IsOutputFor};
 
-use pcb_read::one_reading;
+use pcb_read::laws::one_reading;
 
 /// The words and the files have one output at most.
 pub fn one_output()

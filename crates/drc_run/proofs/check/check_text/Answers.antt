@@ -10,7 +10,7 @@ use Rattle.drc_run.proofs.check.check_text.Goals as goal
 
 pub returns-in-Err-clause-ends : goal.returns-in-Err-clause-ends
 returns-in-Err-clause-ends g c =
-    let says = c.in-Err.ensures {u = tt} in
+    let says = c.in-Err.ensures.says in
     ends_as _ (IsOutputOf c.args.text.now) ⊥ ⊥ _ _ c.refuse.result (λ out is. refusal_for c.args.text.now c.in-Err.e out c.requires says is) (λ none. none) c.refuse.ensures.ends
 
 pub returns-clause-ends : goal.returns-clause-ends
@@ -18,7 +18,7 @@ returns-clause-ends g c =
     let board = c.in-Ok.board in
     let rows = c.in-Ok-rows_of.rows.items in
     let IsIt = IsOutputOf c.args.text.now in
-    let is = report_of c.args.text.now board rows c.requires c.in-Ok.ensures c.in-Ok-rows_of.ensures in
+    let is = report_of c.args.text.now board rows c.requires c.in-Ok.ensures.says c.in-Ok-rows_of.ensures in
     let status : c.report_status.result ≡ report_status rows = c.report_status.ensures ∙ ap report_status c.deref-2.ensures.value in
     written IsIt ⊥ _ _ _ _ (record { text = report board rows; status = status_of rows }) c.write_report.result c.report_status.result c.after.result is
     (λ w. subst (Ends IsIt ⊥ _ _) (sym status) (reporting IsIt ⊥ _ _ rows w))
