@@ -370,6 +370,12 @@ fn refuses_texts(rt: HostRuntime) -> Result<(), Fail> {
         3,
         "refused board: Text.NotUtf8 (1.1) at 1\n",
     )?;
+    Ok(())
+}
+
+#[test]
+fn refuses_long_texts(rt: HostRuntime) -> Result<(), Fail> {
+    let alloc = rt.alloc();
     check_text(
         &rt,
         vec![in alloc; b' '; 33_554_432]?,
