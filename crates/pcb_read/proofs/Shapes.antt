@@ -21,17 +21,17 @@ use Rattle.pcb_read.specs.OnBoard.{point_by, point_of, is_width, line_by, double
 pub one_point : (p q : Point) → p.x ≡ q.x → p.y ≡ q.y → p ≡ q
 one_point p q e f =
     let in_x = subst (λ (x : ℤ). (h : unsigned_abs x ≤ 1000000000) → p ≡ record { x = x; y = p.y; x_in_range = h; y_in_range = p.y_in_range }) e
-        (λ h. ap (λ (k : unsigned_abs p.x ≤ 1000000000). record p { x_in_range = k }) (le_prop p.x_in_range h)) in
+    (λ h. ap (λ (k : unsigned_abs p.x ≤ 1000000000). record p { x_in_range = k }) (le_prop p.x_in_range h)) in
     subst (λ (y : ℤ). (h : unsigned_abs y ≤ 1000000000) → p ≡ record { x = q.x; y = y; x_in_range = q.x_in_range; y_in_range = h }) f
-        (λ h. in_x q.x_in_range ∙ ap (λ (k : unsigned_abs p.y ≤ 1000000000). record { x = q.x; y = p.y; x_in_range = q.x_in_range; y_in_range = k }) (le_prop p.y_in_range h)) q.y_in_range
+    (λ h. in_x q.x_in_range ∙ ap (λ (k : unsigned_abs p.y ≤ 1000000000). record { x = q.x; y = p.y; x_in_range = q.x_in_range; y_in_range = k }) (le_prop p.y_in_range h)) q.y_in_range
 
 pub one_shape : (s t : Shape) → s.core ≡ t.core → s.radius ≡ t.radius → s ≡ t
 one_shape s t e f =
     subst (λ (r : ℤ). (h : pos 0 ≤ℤ r) (k : r ≤ℤ pos 500000000) → s ≡ record { core = t.core; radius = r; radius_from = h; radius_to = k }) f
-        (λ h k. ap (λ (c : Core). record s { core = c }) e
-            ∙ ap (λ (h : pos 0 ≤ℤ s.radius). record { core = t.core; radius = s.radius; radius_from = h; radius_to = s.radius_to }) (≤ℤ_prop _ _ s.radius_from h)
-            ∙ ap (λ (k : s.radius ≤ℤ pos 500000000). record { core = t.core; radius = s.radius; radius_from = h; radius_to = k }) (≤ℤ_prop _ _ s.radius_to k))
-        t.radius_from t.radius_to
+    (λ h k. ap (λ (c : Core). record s { core = c }) e
+    ∙ ap (λ (h : pos 0 ≤ℤ s.radius). record { core = t.core; radius = s.radius; radius_from = h; radius_to = s.radius_to }) (≤ℤ_prop _ _ s.radius_from h)
+    ∙ ap (λ (k : s.radius ≤ℤ pos 500000000). record { core = t.core; radius = s.radius; radius_from = h; radius_to = k }) (≤ℤ_prop _ _ s.radius_to k))
+    t.radius_from t.radius_to
 
 doubled_fits : (x : ℤ) → unsigned_abs (pos 2 *ℤ x) ≤ 1000000000 → FitsSigned w64 (pos 2 *ℤ x)
 doubled_fits x h = fits_by (pos 2 *ℤ x) h

@@ -14,7 +14,11 @@ mod elements;
 pub mod laws;
 mod nets;
 mod on_board;
+#[cfg(test)]
+mod refusal_tests;
 mod root;
+#[cfg(test)]
+mod tests;
 mod tracks;
 
 use crate::laws::one_reading;

@@ -49,11 +49,7 @@ fn check_version(root: Node<'_, '_>) -> Result<(), BoardError>
 
 /// Takes the layers of the first list of layers; a second one is passed over.
 #[tactic(auto, unfolding(crate::specs::BoardOf::with_layers))]
-fn read_layers(
-    board: &mut Board,
-    layered: &mut bool,
-    list: Node<'_, '_>,
-) -> Result<(), BoardError>
+fn read_layers(board: &mut Board, layered: &mut bool, list: Node<'_, '_>) -> Result<(), BoardError>
     requires { layered.old ≡ false → board.old.copper.bits ≡ 0 }
     ensures read { Leaves result (record { board = board.new; layered = layered.new }) (with_layers (record { board = board.old; layered = layered.old }) (tree_of list.entry)) }
     ensures unlisted { OnOk result (layered.new ≡ false → board.new.copper.bits ≡ 0) }

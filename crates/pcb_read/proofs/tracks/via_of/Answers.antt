@@ -66,8 +66,14 @@ returns-clause-admitted c no_net =
     let on = rw c.copper.ensures at c.in_ok-layers.ensures.on in
     let layers = via_layers c.args.board.now.copper c.in_ok-layers.layers c.in-Some.shape c.in_ok-hole.hole on (c.in_ok-hole.ensures.within c.args.board.now.copper on) in
     let item : Item = record {
-      name = c.in_ok-name_in.field-0; unit = c.args.unit; net = c.in_ok-net.net; x = c.in_ok-x.x; y = c.in_ok-x.y;
-      copper = record { layers = c.in_ok-layers.layers; shape = c.in-Some.shape } ∷ []; hole = c.in_ok-hole.hole; local = None;
+      name = c.in_ok-name_in.field-0;
+      unit = c.args.unit;
+      net = c.in_ok-net.net;
+      x = c.in_ok-x.x;
+      y = c.in_ok-x.y;
+      copper = record { layers = c.in_ok-layers.layers; shape = c.in-Some.shape } ∷ [];
+      hole = c.in_ok-hole.hole;
+      local = None;
       what = Via c.in_ok-size.size c.unwrap_or.result c.has_word.result c.has_word-2.result;
     } in
     rw (clean c.in_ok-x.x fit_x, clean c.in_ok-x.y fit_y, c.one_part.ensures) (admitted_by c.args.board.now item near (c.in_ok-net.ensures.declared no_net) layers)
