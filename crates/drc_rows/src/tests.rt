@@ -152,7 +152,9 @@ fn writes_clearance_rows(rt: HostRuntime) -> Result<(), Fail> {
         assert_eq!(rt; write_row(&board, Kind::Clearance, layer, &mut out), Ok(()));
         let mut line = "error clearance ".to_string(alloc)?;
         line.push_str(layer_name)?;
-        line.push_str(": zone \"a\\\"\\\\\\n\\r\" at 1.500000 -0.000002 | zone \"a\\\"\\\\\\n\\r\" at 1.500000 -0.000002 | needs 0.200000 | has 1.234567 | default\n")?;
+        line.push_str(
+            ": zone \"a\\\"\\\\\\n\\r\" at 1.500000 -0.000002 | zone \"a\\\"\\\\\\n\\r\" at 1.500000 -0.000002 | needs 0.200000 | has 1.234567 | default\n",
+        )?;
         assert_eq!(rt; out.bytes(), line.as_bytes());
     }
     Ok(())
@@ -164,7 +166,10 @@ fn writes_lines(rt: HostRuntime) -> Result<(), Fail> {
     let mut out = MemSink::new(alloc, 3, 64, Vec::new(alloc))?;
     assert_eq!(rt; write_line(b"rows ", 0, b"", &mut out), Ok(()));
     assert_eq!(rt; write_line(b"", u64::MAX, b" of", &mut out), Ok(()));
-    assert_eq!(rt; out.bytes(), b"rows 0\n18446744073709551615 of\n".as_slice());
+    assert_eq!(rt;
+        out.bytes(),
+        b"rows 0\n18446744073709551615 of\n".as_slice()
+    );
     let mut full = MemSink::new(alloc, 3, 4, Vec::new(alloc))?;
     assert_eq!(rt; write_line(b"rows ", 0, b"", &mut full), Err(Failed));
     assert_eq!(rt; full.bytes(), b"rows".as_slice());

@@ -103,13 +103,13 @@ module _ (one_reading : (text : List ℕ) (a b : Result PlainBoard BoardError) �
 
   pub one_output_of : (text : List ℕ) (a b : Output) → IsOutputOf text a → IsOutputOf text b → a ≡ b
   one_output_of text a b (longer h e) (longer k f) = e ∙ sym f
-  one_output_of text a b (longer h e) (refused k d s f) = absurd (omega arith)
+  one_output_of text a b (longer h e) (refused k d s n f) = absurd (omega arith)
   one_output_of text a b (longer h e) (reported k board s r) = absurd (omega arith)
-  one_output_of text a b (refused h d s e) (longer k f) = absurd (omega arith)
-  one_output_of text a b (refused h d s e) (refused k c t f) = e ∙ (ap refusal (one_refusal text d c s t) ∙ sym f)
-  one_output_of text a b (refused h d s e) (reported k board t r) = absurd (not_both text d board s t)
+  one_output_of text a b (refused h d s n e) (longer k f) = absurd (omega arith)
+  one_output_of text a b (refused h d s n e) (refused k c t m f) = e ∙ (ap refusal (one_refusal text d c s t) ∙ sym f)
+  one_output_of text a b (refused h d s n e) (reported k board t r) = absurd (not_both text d board s t)
   one_output_of text a b (reported h board s r) (longer k f) = absurd (omega arith)
-  one_output_of text a b (reported h board s r) (refused k d t f) = absurd (not_both text d board t s)
+  one_output_of text a b (reported h board s r) (refused k d t n f) = absurd (not_both text d board t s)
   one_output_of text a b (reported h board s r) (reported k other t q) = one_report other a b (subst (λ x. IsReported x a) (one_board text board other s t) r) q
 
   pub one_output : (reading : Option (List ℕ)) (files : List (List ℕ × List ℕ)) (a b : Output) → IsOutputFor reading (Some files) a → IsOutputFor reading (Some files) b → a ≡ b

@@ -45,7 +45,7 @@ report_of text board rows short says are = reported short board says (record { r
 pub refusal_for : (text : List ℕ) (e : BoardError) (out : Output) → length text ≤ 33554432 → (e ≡ WantOfMemory) ⊎ Says text (Err e) → (reason e ≢ []) × (out ≡ refusal e)
     → IsOutputOf text out
 refusal_for text e out short (inl want) is = absurd (is.0 (ap reason want))
-refusal_for text e out short (inr says) is = refused short e says is.1
+refusal_for text e out short (inr says) is = refused short e says is.0 is.1
 
 whole_as : (IsIt Other : Output → Type 0) (old new : Option (List ℕ)) (status : ℕ) → ((out : Output) → IsIt out → Other out) → Whole IsIt old new status → Whole Other old new status
 whole_as IsIt Other old new status wider w = (w.0, wider w.0 w.1, w.2, w.3)

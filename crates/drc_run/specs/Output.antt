@@ -1,5 +1,5 @@
 -- The whole output of the program, as a relation between its words, the files of its shelf and what it writes.
-use Rattle.std.specs.Prelude.{◌≡◌, ℕ, ◌<◌, ◌≤◌, List, [], ◌∷◌, length, Option, None, Some, Ok, Err, codes}
+use Rattle.std.specs.Prelude.{◌≡◌, ◌≢◌, ℕ, ◌<◌, ◌≤◌, List, [], ◌∷◌, length, Option, None, Some, Ok, Err, codes}
 use Rattle.drc_io.specs.Causes.{Rose}
 use Rattle.drc_io.specs.Files.{IsWhole}
 use Rattle.board_items.specs.declared.errors.BoardError.{BoardError}
@@ -8,7 +8,7 @@ use Rattle.pcb_read.specs.BoardText.{Says}
 use Rattle.row_check.specs.declared.rows.Row.{Row}
 use Rattle.row_check.specs.Rows.{AreRows}
 use Rattle.drc_rows.specs.Report.{report}
-use Rattle.drc_run.specs.Refusal.{refusal_line}
+use Rattle.drc_run.specs.Refusal.{reason, refusal_line}
 
 -- a text, and the status with which the program ends once it is written
 pub record Output : Type 0 where
@@ -43,10 +43,11 @@ pub record IsReported (board : PlainBoard) (out : Output) : Type 0 where
   pub text : out.text ≡ report board rows
   pub status : out.status ≡ status_of rows
 
--- the output for a text of the board: that it is too long, or why it is refused, or the report of the board that it says
+-- the output for a text of the board: that it is too long, or why it is refused, by name, or the report of the board that it
+-- says
 pub data IsOutputOf (text : List ℕ) (out : Output) : Type 0 where
   longer : limit < length text → out ≡ too_long → IsOutputOf text out
-  refused : length text ≤ limit → (e : BoardError) → Says text (Err e) → out ≡ refusal e → IsOutputOf text out
+  refused : length text ≤ limit → (e : BoardError) → Says text (Err e) → reason e ≢ [] → out ≡ refusal e → IsOutputOf text out
   reported : length text ≤ limit → (board : PlainBoard) → Says text (Ok board) → IsReported board out → IsOutputOf text out
 
 -- the whole output for a reading of the words. The text of the board is what the shelf tells of its file, or else any

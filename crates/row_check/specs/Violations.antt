@@ -1,5 +1,6 @@
 -- What two items break: the short and the clearance of KiCad's board rules. Only items whose nets differ are compared; a
--- short needs two nets that are there, and where there is a short there is no row for the clearance.
+-- short needs two nets that are there, and where there is a short there is no row for the clearance. So it is said for tracks,
+-- vias and fills; what graphics and pads are spared, and clearances that an item has of its own, come with their readers.
 use Rattle.std.specs.Prelude.{◌≡◌, ◌≢◌, ℕ, ℤ, pos, ◌<◌, IsTrue, ◌⊎◌}
 use Rattle.geo_shape.specs.Distances.{IsGap}
 use Rattle.board_items.specs.declared.layers.LayerSet.{LayerSet}

@@ -88,7 +88,7 @@ fn add(
         copper: Parts::of(copper),
         hole: None,
         local: None,
-        what: What::Graphic,
+        what: What::Fill,
     };
     board.add(item)?;
     Ok(())
