@@ -1,9 +1,11 @@
 // Reads a text, and prints how many bytes it has and how many parts its root.
 //
 // Without words it reads small texts of its own a few times. With `plain FILE` it adds the file's bytes up, with
-// `sexpr FILE` it reads the file as one S-expression, and with `json FILE` as JSON.
+// `sexpr FILE` it reads the file as one S-expression, with `board FILE` as a board, whose items it counts, and with
+// `json FILE` as JSON.
 #![tactic(auto)]
 
+use pcb_read::read_board;
 use sexpr_read::parse_one;
 use std::alloc::Global;
 use std::io::Print;
@@ -30,6 +32,19 @@ fn parts(alloc: Global, text: &[u8]) -> Option<u64> {
     let doc = parse_one(alloc, text).ok()?;
     let mut count = 0u64;
     for _ in doc.root().children() {
+        count = count.wrapping_add(1);
+    }
+    Some(count)
+}
+
+/// How many items the board of the text has.
+fn items_on_board(alloc: Global, text: &[u8]) -> Option<u64> {
+    if text.len() > LIMIT {
+        return None;
+    }
+    let board = read_board(alloc, text).ok()?;
+    let mut count = 0u64;
+    for _ in board.iter() {
         count = count.wrapping_add(1);
     }
     Some(count)
@@ -63,6 +78,10 @@ fn stored<R: Print + AllocGlobal>(rt: &R) -> anyhow::Result<()> {
         show(rt, "sexpr", text.len(), parts(rt.alloc(), text))?;
     }
     show(rt, "sexpr", 4, parts(rt.alloc(), b"(()x"))?;
+    let track =
+        b"(kicad_pcb (version 20221018) (layers (0 F.Cu signal)) (segment (start 1 2) (end 3 4) (width 0.2) (layer F.Cu)))";
+    show(rt, "board", track.len(), items_on_board(rt.alloc(), track))?;
+    show(rt, "board", text.len(), items_on_board(rt.alloc(), text))?;
     show(rt, "json", 15, items(rt.alloc(), b"[1, {}, \"a\", 2]"))?;
     show(rt, "json", 3, items(rt.alloc(), b"[1,"))
 }
@@ -71,6 +90,7 @@ fn bench<R: Runtime + Print + AllocGlobal>(rt: &R, kind: &str, path: &str) -> an
     let text = fs::read(rt, path)?;
     match kind {
         "sexpr" => show(rt, kind, text.len(), parts(rt.alloc(), &text)),
+        "board" => show(rt, kind, text.len(), items_on_board(rt.alloc(), &text)),
         "json" => show(rt, kind, text.len(), items(rt.alloc(), &text)),
         _ => show(rt, "plain", text.len(), Some(checksum(&text))),
     }

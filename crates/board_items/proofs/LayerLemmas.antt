@@ -1,9 +1,13 @@
--- A set of layers lies within another exactly where each of its layers does.
-use Rattle.std.proofs.Common.{◌≡◌, ℕ, ◌<◌, IsTrue, ◌↔◌, min, bit_and, sym, ◌∙◌, ap, arith, zero, suc, rules, ◌==◌}
-use Rattle.std.proofs.lemmas.Nat.Bits.{bit_at_and, same_from_bits}
+-- Sets of layers: a set lies within another exactly where each of its layers does; the set of one layer; the layers from one
+-- to another.
+use Rattle.std.proofs.Common.{◌≡◌, ℕ, ◌+◌, ◌-◌, ◌*◌, ◌/◌, ◌%◌, ◌^◌, ◌<◌, ◌≤◌, IsTrue, ◌↔◌, min, max, ◌⊎◌, inl, inr, bit_and, sym, ◌∙◌, ap, subst, arith, zero, suc, rules, ◌==◌}
+use Rattle.std.proofs.lemmas.Bool.{cases_eq}
+use Rattle.std.proofs.lemmas.Nat.{one_shl, pow_pos}
+use Rattle.std.proofs.lemmas.Nat.Bits.{bit_at_and, bit_at-pow_same, bit_at-pow_other, bit_at_mask_inside, bit_at_mask_below, bit_at_mask_above, ones_shr, same_from_bits}
+use Rattle.std.proofs.Math.Pow.{pow_mono}
 use Rattle.std.specs.Int.{bit_at}
 use Rattle.board_items.specs.declared.layers.LayerSet.{LayerSet}
-use Rattle.board_items.specs.Layers.{has_layer, is_within}
+use Rattle.board_items.specs.Layers.{has_layer, is_within, single_layer, layers_between}
 
 -- a bit is 0 or 1
 bit_at-small : (n i : ℕ) → bit_at n i < 2
@@ -36,3 +40,69 @@ within_of_each s t h = same_from_bits (bit_and s.bits t.bits) s.bits
 
 pub within_layers : (s t : LayerSet) → (IsTrue (is_within s t) ↔ ((layer : ℕ) → IsTrue (has_layer s layer) → IsTrue (has_layer t layer)))
 within_layers s t = (λ h. each_of_within s t (search (rules, h)), λ h. let e = within_of_each s t h in search (rules, e))
+
+-- ---- the set of one layer
+pub single_is : (layer : ℕ) → layer < 32 → 1 * 2 ^ layer % 4294967296 ≡ 2 ^ layer
+single_is layer lt = one_shl layer 32 lt
+
+has_single : (layer : ℕ) → IsTrue (has_layer (single_layer layer) layer)
+has_single layer = test_by (2 ^ layer) layer (bit_at-pow_same layer)
+
+single_alone : (layer other : ℕ) → IsTrue (has_layer (single_layer layer) other) → other ≡ layer
+single_alone layer other h = by (cases_eq other layer)
+  where
+    by : (other ≡ layer) ⊎ (other ≡ layer → ⊥) → other ≡ layer
+    by (inl e) = e
+    by (inr n) = absurd (omega (arith, test_of (2 ^ layer) other h, bit_at-pow_other layer other n))
+
+pub single_within : (layer : ℕ) (set : LayerSet) → (IsTrue (is_within (single_layer layer) set) ↔ IsTrue (has_layer set layer))
+single_within layer set = (
+  λ h. (within_layers (single_layer layer) set).0 h layer (has_single layer),
+  λ h. (within_layers (single_layer layer) set).1 (λ other e. subst (λ (n : ℕ). IsTrue (has_layer set n)) (sym (single_alone layer other e)) h),
+)
+
+-- ---- the layers from one to another
+shifted : (high : ℕ) → high < 32 → 4294967295 / 2 ^ (31 - high) ≡ 2 ^ (high + 1) - 1
+shifted high lt =
+    let places : 32 - (31 - high) ≡ high + 1 = omega arith in
+    ones_shr 32 (31 - high) (omega arith) ∙ ap (λ k. 2 ^ k - 1) places
+
+pub mask_fits : (low high : ℕ) → low ≤ high → high < 32 → 1 * 2 ^ low % 4294967296 - 1 ≤ 4294967295 / 2 ^ (31 - high)
+mask_fits low high le lt =
+    let above : 2 ^ low ≤ 2 ^ (high + 1) = pow_mono (omega arith) in
+    omega (arith, single_is low (omega arith), shifted high lt, above)
+
+pub mask_is : (a b low high : ℕ) → low ≡ min a b → high ≡ max a b → a < 32 → b < 32
+    → 4294967295 / 2 ^ (31 - high) - (1 * 2 ^ low % 4294967296 - 1) ≡ 2 ^ (max a b + 1) - 2 ^ min a b
+mask_is a b low high e f h k =
+    let above : 2 ^ low ≤ 2 ^ (high + 1) = pow_mono (omega arith) in
+    let same : 4294967295 / 2 ^ (31 - high) - (1 * 2 ^ low % 4294967296 - 1) ≡ 2 ^ (high + 1) - 2 ^ low = omega (arith, single_is low (omega arith), shifted high (omega arith), above, pow_pos low) in
+    same ∙ ap (λ n. 2 ^ (n + 1) - 2 ^ low) f ∙ ap (λ n. 2 ^ (max a b + 1) - 2 ^ n) e
+
+both_bits : (a b : ℕ) → min a b ≡ 1 → a < 2 → b < 2 → (a ≡ 1) × (b ≡ 1)
+both_bits a b e h k = (omega arith, omega arith)
+
+both_ones : (a b : ℕ) → a ≡ 1 → b ≡ 1 → min a b ≡ 1
+both_ones a b h k = omega arith
+
+-- where a place outside has the bit 0, one with the bit 1 is not outside
+not_outside : (a b bit : ℕ) → (b < a → bit ≡ 0) → bit ≡ 1 → a ≤ b
+not_outside a b bit h e = grind arith
+
+pub between_layers : (s : LayerSet) (a b layer : ℕ) → (IsTrue (has_layer (layers_between s a b) layer) ↔ (IsTrue (has_layer s layer) × (min a b ≤ layer) × (layer ≤ max a b)))
+between_layers s a b layer =
+    let low : ℕ = min a b in
+    let high : ℕ = max a b + 1 in
+    let mask : ℕ = 2 ^ high - 2 ^ low in
+    let joined : bit_at (bit_and s.bits mask) layer ≡ min (bit_at s.bits layer) (bit_at mask layer) = bit_at_and s.bits mask layer in (
+      λ h.
+          let both = both_bits (bit_at s.bits layer) (bit_at mask layer) (sym joined ∙ test_of (bit_and s.bits mask) layer h) (bit_at-small s.bits layer) (bit_at-small mask layer) in (
+            test_by s.bits layer both.0,
+            not_outside low layer _ (bit_at_mask_below low high layer) both.1,
+            omega (arith, not_outside layer (max a b) _ (λ lt. bit_at_mask_above low high layer (omega arith)) both.1),
+          ),
+      λ h. test_by (bit_and s.bits mask) layer (joined ∙ both_ones (bit_at s.bits layer) (bit_at mask layer) (test_of s.bits layer h.0) (bit_at_mask_inside low high layer h.1 (omega (arith, h.2)))),
+    )
+
+pub between_within : (s : LayerSet) (a b : ℕ) → IsTrue (is_within (layers_between s a b) s)
+between_within s a b = (within_layers (layers_between s a b) s).1 (λ layer h. ((between_layers s a b layer).0 h).0)

@@ -1,4 +1,6 @@
 mod LayerLemmas
 mod Around
 mod Rising
+mod Admitted
+mod Nets
 mod Growing

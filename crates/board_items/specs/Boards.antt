@@ -1,10 +1,14 @@
 -- A board as plain lists. Lengths are nanometres, and the places of its items are their ids.
-use Rattle.std.specs.Prelude.{◌≡◌, ℕ, ◌+◌, ◌<◌, ◌≤◌, max, Bool, true, false, List, [], ◌∷◌, ◌++◌, length, Option, is_some, nat_eq, if◌then◌else◌}
+use Rattle.std.specs.Prelude.{◌≡◌, ℕ, ◌+◌, ◌<◌, ◌≤◌, max, ℤ, pos, neg_ℤ, Bool, true, false, ◌&&◌, List, [], ◌∷◌, ◌++◌, length, Option, None, Some, is_some, slice_get, nat_eq, if◌then◌else◌}
+use Rattle.std.specs.Int.Signed.{le_z}
+use Rattle.std.specs.List.{list_all}
 use Rattle.std.specs.Map.{lookup}
 use Rattle.board_items.specs.declared.layers.LayerSet.{LayerSet}
 use Rattle.board_items.specs.declared.item.What.{What}
 use Rattle.board_items.specs.declared.item.What.TheVariants.{Area, Body}
 use Rattle.board_items.specs.declared.item.Item.{Item}
+use Rattle.board_items.specs.Layers.{is_within}
+use Rattle.board_items.specs.Parts.{parts_of}
 
 -- the layers of its copper, its nets by number in the order of the file, its items with their ids in order, and the id and
 -- the unit number that are given next
@@ -40,6 +44,22 @@ with_item board item = record board {
   next_unit = max board.next_unit (item.unit + 1);
 }
 
+-- at most 500 mm from 0, in nanometres
+abbrev pub is_near : ℤ → Bool
+is_near z = le_z (neg_ℤ (pos 500000000)) z && le_z z (pos 500000000)
+
+-- the position lies on the board; the points of all shapes do so by their type
+abbrev pub is_on_board : Item → Bool
+is_on_board item = is_near item.x && is_near item.y
+
+-- the board has all layers of all parts
+abbrev pub has_layers_of : PlainBoard → Item → Bool
+has_layers_of board item = list_all (λ part. is_within part.layers board.copper) (parts_of item)
+
+-- the item may stand on the board: its position lies there, its net is declared, and the board has all its layers
+abbrev pub is_admitted : PlainBoard → Item → Bool
+is_admitted board item = is_on_board item && is_some (name_of board item.net) && has_layers_of board item
+
 -- the kinds that facts of other items speak of: areas and bodies
 abbrev pub is_mark : What → Bool
 is_mark (Area title bans shape) = true
@@ -66,12 +86,26 @@ abbrev pub UnitsBelow : ℕ → List (ℕ × Item) → Type 0
 UnitsBelow high [] = Unit {0}
 UnitsBelow high (entry ∷ entries) = (entry.1.unit < high) × UnitsBelow high entries
 
+-- each item may stand on the board
+abbrev pub AllAdmitted : PlainBoard → List (ℕ × Item) → Type 0
+AllAdmitted board [] = Unit {0}
+AllAdmitted board (entry ∷ entries) = (is_admitted board entry.1 ≡ true) × AllAdmitted board entries
+
+-- no number is declared twice: no later net has it
+abbrev pub AreDistinct : List (ℕ × List ℕ) → Type 0
+AreDistinct [] = Unit {0}
+AreDistinct (entry ∷ entries) = (lookup (nat_eq entry.0) entries ≡ None) × AreDistinct entries
+
 -- what holds of each board: ids rise and are below the next one, and unit numbers are below the next one; each id and each
--- unit number is below 2 ^ 32 - 1; there are at most 200,000 items; net 0 is declared
+-- unit number is below 2 ^ 32 - 1; there are at most 200,000 items; the first net is 0, and its name is empty; no net is
+-- declared twice; each item may stand there
 pub record IsSound (board : PlainBoard) : Type 0 where
   pub ids : Rise 0 board.next_id board.items
   pub units : UnitsBelow board.next_unit board.items
   pub last_id : board.next_id ≤ 4294967295
   pub last_unit : board.next_unit ≤ 4294967295
   pub few : length board.items ≤ 200000
+  pub first_net : slice_get board.nets 0 ≡ Some (0, [])
+  pub distinct : AreDistinct board.nets
   pub no_net : is_some (name_of board 0) ≡ true
+  pub admitted : AllAdmitted board board.items

@@ -5,8 +5,8 @@ ghost use Rattle.std.specs.Option.{option_copied};
 ghost use Rattle.std.specs.List.{list_all};
 ghost use Rattle.board_items.specs.Layers.{is_within};
 ghost use Rattle.board_items.specs.Parts.{parts_of};
-ghost use Rattle.board_items.specs.Refusals.{is_near, refusal_of, reason_in, room_of};
-ghost use Rattle.board_items.specs.Boards.{PlainBoard, IsSound, IsRising, Rise, empty_board, name_of, with_net, item_at, with_item, is_mark, marks_of};
+ghost use Rattle.board_items.specs.Refusals.{refusal_of, reason_in, room_of};
+ghost use Rattle.board_items.specs.Boards.{PlainBoard, IsSound, IsRising, Rise, empty_board, name_of, with_net, item_at, with_item, is_near, is_admitted, is_mark, marks_of};
 ghost use Rattle.board_items.specs.Walks.{items_left, nets_left};
 
 use crate::errors::ItemError;
@@ -121,6 +121,16 @@ impl Board {
         })
     }
 
+    /// Sets the copper layers of a board that has none yet. It takes no memory.
+    ///
+    /// A reader may meet items before the list of layers. Their parts lie on no copper layer, so they may stay.
+    pub fn set_copper(&mut self, copper: LayerSet)
+        requires { self.old.copper.bits ≡ 0 }
+        ensures { self.new ≡ record self.old { copper = copper } }
+    {
+        self.copper = copper;
+    }
+
     /// Declares a net. A number that is there keeps its first name.
     pub fn declare(&mut self, net: u32, name: Name) -> Result<(), AllocError>
         ensures ok { OnOk result (self.new ≡ with_net self.old net name) }
@@ -173,9 +183,10 @@ impl Board {
         Ok(())
     }
 
-    /// The item with this id. It is found by halves, since ids rise.
+    /// The item with this id. It is found by halves, since ids rise. It is one that `add` took.
     pub fn get(&self, id: u32) -> Option<&Item>
-        ensures { option_copied result ≡ item_at self.now.items id }
+        ensures found { option_copied result ≡ item_at self.now.items id }
+        ensures admitted { IfSome result (λ item. is_admitted self.now item.now ≡ true) }
     {
         find(&self.items, id)
     }
@@ -190,7 +201,8 @@ impl Board {
 
     /// How many more items `add` takes before it answers `TooMany`.
     pub fn left(&self) -> u32
-        ensures { result ≡ room_of self.now }
+        ensures room { result ≡ room_of self.now }
+        ensures sound { IsSound self.now }
     {
         let places = MOST_ITEMS - self.items.len();
         (places as u32).min(LAST - self.next_id)
@@ -205,7 +217,8 @@ impl Board {
 
     /// All nets with their names, in the order in which they were declared; net 0 is the first.
     pub fn nets(&self) -> BoardNets<'_>
-        ensures { nets_left result ≡ self.now.nets }
+        ensures nets { nets_left result ≡ self.now.nets }
+        ensures sound { IsSound self.now }
     {
         BoardNets {
             nets: self.names.as_slice(),

@@ -16,6 +16,6 @@ mod walk;
 pub use board::Board;
 pub use errors::{BoardError, Found, ItemError};
 pub use item::{About, Bans, Hole, Item, Nm, What};
-pub use layers::LayerSet;
+pub use layers::{LayerSet, layer_name};
 pub use parts::{Part, Parts};
 pub use walk::{BoardIter, BoardNets};

@@ -2,7 +2,7 @@
 
 ghost use Rattle.std.specs.Prelude.{◌≡◌, IfOk};
 
-use crate::{About, Bans, Board, Hole, Item, ItemError, LayerSet, Part, Parts, What};
+use crate::{About, Bans, Board, Hole, Item, ItemError, LayerSet, Part, Parts, What, layer_name};
 use drc_io::Name;
 use geo_seg::{Bounds, Core, Point, Poly, Seg, Shape};
 use smallvec::SmallVec;
@@ -208,6 +208,42 @@ fn nets(rt: HostRuntime) -> Result<(), Fail> {
     }
     assert!(rt; nets.next().is_none());
     assert!(rt; board.net_name(1).is_none());
+    Ok(())
+}
+
+#[test]
+fn layers(rt: HostRuntime) -> Result<(), Fail> {
+    assert_eq!(rt; LayerSet::of(0).union(LayerSet::of(31)), BOTH);
+    assert_eq!(rt; FRONT.union(FRONT), FRONT);
+    // a set, two layers, and those of the set from the one to the other
+    let table = [
+        (u32::MAX, 0, 31, u32::MAX),
+        (u32::MAX, 3, 1, 14),
+        (u32::MAX, 31, 31, 0x8000_0000),
+        (0x8000_0001, 0, 30, 1),
+        (0x8000_0001, 30, 1, 0),
+    ];
+    for (bits, a, b, left) in table {
+        assert_eq!(rt; LayerSet { bits }.between(a, b), LayerSet { bits: left });
+    }
+    for (layer, text) in [(0, "F.Cu"), (1, "In1.Cu"), (30, "In30.Cu"), (31, "B.Cu")] {
+        assert_eq!(rt; layer_name(layer), text.as_bytes());
+    }
+    Ok(())
+}
+
+// The layers are set once an item is there.
+#[test]
+fn late_layers(rt: HostRuntime) -> Result<(), Fail> {
+    let alloc = rt.alloc();
+    let mut board = Board::new(alloc, NO_LAYER)?;
+    board.add(bare(alloc, 1, edge(alloc)?)?)?;
+    let early = board.add(track(alloc, (0, 0), 0, FRONT)?);
+    assert_eq!(rt; early, Err(ItemError::UnknownLayer));
+    board.set_copper(BOTH);
+    assert_eq!(rt; board.copper(), BOTH);
+    assert_eq!(rt; board.get(0).ok_or("its id")?.unit, 1);
+    assert_eq!(rt; board.add(track(alloc, (0, 0), 0, FRONT)?), Ok(1));
     Ok(())
 }
 

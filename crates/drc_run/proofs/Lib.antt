@@ -1,11 +1,4 @@
-pub mod Lines
-pub mod NetLists
-pub mod Atoms
-pub mod Scalars
-pub mod ViaCopper
-pub mod Pairs
-pub mod RowLists
-pub mod ReportLines
+pub mod Printable
 pub mod Written
 pub mod OneOutput
 pub mod Exact

@@ -1,14 +1,13 @@
 -- The words and the files have one output.
-use Rattle.std.proofs.Common.{◌≡◌, ◌⊎◌, ℕ, zero, suc, ◌<◌, List, [], ◌∷◌, length, get_or, All, Contains, Option, Some, None, inl, inr, refl, sym, ap, subst, ◌∙◌, arith}
+use Rattle.std.proofs.Common.{◌≡◌, ◌⊎◌, ℕ, zero, suc, ◌<◌, List, [], ◌∷◌, length, get_or, All, Contains, Option, Some, None, Result, Ok, Err, inl, inr, refl, sym, ap, subst, ◌∙◌, arith}
 use Rattle.std.specs.List.{AllPairs}
-use Rattle.sexpr_read.specs.Tree.{Tree}
-use Rattle.sexpr_read.specs.Spelling.{Spells}
-use Rattle.drc_run.specs.declared.rows.Row.{Row}
-use Rattle.drc_run.specs.Board.{PlainBoard}
-use Rattle.drc_run.specs.BoardOf.{board_of}
-use Rattle.drc_run.specs.Rows.{Before, AreRows, IsRow}
-use Rattle.drc_run.specs.Report.{report}
-use Rattle.drc_run.specs.Output.{Output, IsOutputOf, IsOutputFor, longer, refused, reported, status_of, IsReported, IsBoardText}
+use Rattle.board_items.specs.declared.errors.BoardError.{BoardError}
+use Rattle.board_items.specs.Boards.{PlainBoard}
+use Rattle.pcb_read.specs.BoardText.{Says}
+use Rattle.row_check.specs.declared.rows.Row.{Row}
+use Rattle.row_check.specs.Rows.{Before, AreRows, IsRow}
+use Rattle.drc_rows.specs.Report.{report}
+use Rattle.drc_run.specs.Output.{Output, IsOutputOf, IsOutputFor, longer, refused, reported, refusal, status_of, IsReported}
 
 -- ---- the rows
 
@@ -92,23 +91,26 @@ one_report board a b p q =
     let status : a.status ≡ b.status = p.status ∙ (ap status_of rows ∙ sym q.status) in
     ap (λ t. record { text = t; status = a.status }) text ∙ ap (λ s. record { text = b.text; status = s }) status
 
-module _ (one_tree : (text : List ℕ) (s t : Tree) → Spells text s → Spells text t → s ≡ t) where
-  one_board : (text : List ℕ) (a b : PlainBoard) → IsBoardText text a → IsBoardText text b → a ≡ b
-  one_board text a b p q =
-      let trees = one_tree text p.tree q.tree p.spelled q.spelled in
-      let both : Some a ≡ Some b = sym p.read ∙ (ap board_of trees ∙ q.read) in
-      cc
+module _ (one_reading : (text : List ℕ) (a b : Result PlainBoard BoardError) → Says text a → Says text b → a ≡ b) where
+  one_refusal : (text : List ℕ) (e d : BoardError) → Says text (Err e) → Says text (Err d) → e ≡ d
+  one_refusal text e d p q = let both = one_reading text (Err e) (Err d) p q in cc
+
+  one_board : (text : List ℕ) (a b : PlainBoard) → Says text (Ok a) → Says text (Ok b) → a ≡ b
+  one_board text a b p q = let both = one_reading text (Ok a) (Ok b) p q in cc
+
+  not_both : (text : List ℕ) (e : BoardError) (board : PlainBoard) → Says text (Err e) → Says text (Ok board) → ⊥
+  not_both text e board p q = let both = one_reading text (Err e) (Ok board) p q in cc
 
   pub one_output_of : (text : List ℕ) (a b : Output) → IsOutputOf text a → IsOutputOf text b → a ≡ b
   one_output_of text a b (longer h e) (longer k f) = e ∙ sym f
-  one_output_of text a b (longer h e) (refused k n f) = absurd (omega arith)
-  one_output_of text a b (longer h e) (reported k board t r) = absurd (omega arith)
-  one_output_of text a b (refused h n e) (longer k f) = absurd (omega arith)
-  one_output_of text a b (refused h n e) (refused k m f) = e ∙ sym f
-  one_output_of text a b (refused h n e) (reported k board t r) = absurd (n board t)
-  one_output_of text a b (reported h board t r) (longer k f) = absurd (omega arith)
-  one_output_of text a b (reported h board t r) (refused k m f) = absurd (m board t)
-  one_output_of text a b (reported h board t r) (reported k other u q) = one_report other a b (subst (λ x. IsReported x a) (one_board text board other t u) r) q
+  one_output_of text a b (longer h e) (refused k d s n f) = absurd (omega arith)
+  one_output_of text a b (longer h e) (reported k board s r) = absurd (omega arith)
+  one_output_of text a b (refused h d s n e) (longer k f) = absurd (omega arith)
+  one_output_of text a b (refused h d s n e) (refused k c t m f) = e ∙ (ap refusal (one_refusal text d c s t) ∙ sym f)
+  one_output_of text a b (refused h d s n e) (reported k board t r) = absurd (not_both text d board s t)
+  one_output_of text a b (reported h board s r) (longer k f) = absurd (omega arith)
+  one_output_of text a b (reported h board s r) (refused k d t n f) = absurd (not_both text d board t s)
+  one_output_of text a b (reported h board s r) (reported k other t q) = one_report other a b (subst (λ x. IsReported x a) (one_board text board other s t) r) q
 
   pub one_output : (reading : Option (List ℕ)) (files : List (List ℕ × List ℕ)) (a b : Output) → IsOutputFor reading (Some files) a → IsOutputFor reading (Some files) b → a ≡ b
   one_output None files a b p q = p ∙ sym q

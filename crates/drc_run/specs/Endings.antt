@@ -4,7 +4,7 @@ use Rattle.std.specs.Io.KnownBytes.{Appends, Keeps}
 use Rattle.drc_io.specs.Sinks.{AppendsFront}
 use Rattle.drc_run.specs.declared.status.Status.{Status}
 use Rattle.drc_run.specs.declared.status.Status.TheVariants.{Clean, Rows, Usage, Refused, ReadFault, WriteFault, OutOfMemory}
-use Rattle.drc_run.specs.declared.rows.Row.{Row}
+use Rattle.row_check.specs.declared.rows.Row.{Row}
 use Rattle.drc_run.specs.Output.{Output, cannot_read}
 
 -- an output with this status was written whole

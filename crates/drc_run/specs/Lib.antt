@@ -1,13 +1,4 @@
 pub mod Words
-pub mod Board
-pub mod BoardOf
-pub mod Nodes
-pub mod Nets
-pub mod Copper
-pub mod Violations
-pub mod Rows
-pub mod RowsBelow
-pub mod Line
-pub mod Report
+pub mod Refusal
 pub mod Output
 pub mod Endings

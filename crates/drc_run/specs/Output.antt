@@ -1,14 +1,14 @@
 -- The whole output of the program, as a relation between its words, the files of its shelf and what it writes.
-use Rattle.std.specs.Prelude.{◌≡◌, ℕ, ◌<◌, ◌≤◌, List, [], ◌∷◌, length, Option, None, Some, codes}
+use Rattle.std.specs.Prelude.{◌≡◌, ◌≢◌, ℕ, ◌<◌, ◌≤◌, List, [], ◌∷◌, length, Option, None, Some, Ok, Err, codes}
 use Rattle.drc_io.specs.Causes.{Rose}
 use Rattle.drc_io.specs.Files.{IsWhole}
-use Rattle.sexpr_read.specs.Tree.{Tree, levels}
-use Rattle.sexpr_read.specs.Spelling.{Spells}
-use Rattle.drc_run.specs.declared.rows.Row.{Row}
-use Rattle.drc_run.specs.Board.{PlainBoard}
-use Rattle.drc_run.specs.BoardOf.{board_of}
-use Rattle.drc_run.specs.Rows.{AreRows}
-use Rattle.drc_run.specs.Report.{report}
+use Rattle.board_items.specs.declared.errors.BoardError.{BoardError}
+use Rattle.board_items.specs.Boards.{PlainBoard}
+use Rattle.pcb_read.specs.BoardText.{Says}
+use Rattle.row_check.specs.declared.rows.Row.{Row}
+use Rattle.row_check.specs.Rows.{AreRows}
+use Rattle.drc_rows.specs.Report.{report}
+use Rattle.drc_run.specs.Refusal.{reason, refusal_line}
 
 -- a text, and the status with which the program ends once it is written
 pub record Output : Type 0 where
@@ -25,18 +25,11 @@ usage = record { text = codes "usage: drc BOARD\n"; status = 2 }
 abbrev pub too_long : Output
 too_long = record { text = codes "refused board: TooLong (0) at 33554432\n"; status = 3 }
 
-abbrev pub not_built : Output
-not_built = record { text = codes "refused board: NotBuilt (15) at 0\n"; status = 3 }
+abbrev pub refusal : BoardError → Output
+refusal e = record { text = refusal_line e; status = 3 }
 
 abbrev pub cannot_read : List ℕ
 cannot_read = codes "cannot read board\n"
-
--- the text spells one tree, of at most 64 levels, and the tree is this board
-pub record IsBoardText (text : List ℕ) (board : PlainBoard) : Type 0 where
-  pub tree : Tree
-  pub spelled : Spells text tree
-  pub shallow : levels tree ≤ 64
-  pub read : board_of tree ≡ Some board
 
 -- the status of a board with these rows
 abbrev pub status_of : List Row → ℕ
@@ -50,11 +43,12 @@ pub record IsReported (board : PlainBoard) (out : Output) : Type 0 where
   pub text : out.text ≡ report board rows
   pub status : out.status ≡ status_of rows
 
--- the output for a text of the board
+-- the output for a text of the board: that it is too long, or why it is refused, by name, or the report of the board that it
+-- says
 pub data IsOutputOf (text : List ℕ) (out : Output) : Type 0 where
   longer : limit < length text → out ≡ too_long → IsOutputOf text out
-  refused : length text ≤ limit → ((board : PlainBoard) → IsBoardText text board → ⊥) → out ≡ not_built → IsOutputOf text out
-  reported : length text ≤ limit → (board : PlainBoard) → IsBoardText text board → IsReported board out → IsOutputOf text out
+  refused : length text ≤ limit → (e : BoardError) → Says text (Err e) → reason e ≢ [] → out ≡ refusal e → IsOutputOf text out
+  reported : length text ≤ limit → (board : PlainBoard) → Says text (Ok board) → IsReported board out → IsOutputOf text out
 
 -- the whole output for a reading of the words. The text of the board is what the shelf tells of its file, or else any
 abbrev pub IsOutputFor : Option (List ℕ) → Option (List (List ℕ × List ℕ)) → Output → Type 0

@@ -1,19 +1,21 @@
 //! From the bytes of a board to its report.
 
-ghost use Rattle.std.specs.Prelude.{◌≡◌, ◌≢◌, ◌≤◌, ◌+◌, ℕ, List, Option, length, MatchResult, Some};
+ghost use Rattle.std.specs.Prelude.{◌≡◌, ◌≢◌, ◌≤◌, ◌+◌, ℕ, List, [], Option, length, MatchResult, Some};
 ghost use Rattle.drc_io.specs.Causes.{Rose};
 ghost use Rattle.drc_io.specs.Sinks.{Writes};
 ghost use Rattle.drc_run.specs.declared.status.Status.{Status};
-ghost use Rattle.drc_run.specs.Output.{IsOutputOf, IsOutputFor, HasReadFault, usage, not_built, too_long, cannot_read};
+ghost use Rattle.drc_run.specs.Refusal.{reason};
+ghost use Rattle.drc_run.specs.Output.{IsOutputOf, IsOutputFor, HasReadFault, usage, refusal, too_long, cannot_read};
 ghost use Rattle.drc_run.specs.Endings.{Ends, report_status};
 
-use crate::all_pairs::rows_of;
-use crate::board_text::board_of;
+use crate::refusal::refusal_of;
 use crate::report::write_report;
-use crate::rows::Row;
 use crate::status::Status;
+use board_items::BoardError;
 use drc_io::{Failed, FetchError, Shelf, Sink, fetch, put_all};
-use sexpr_read::{TextError, parse_one};
+use drc_rows::write_line;
+use pcb_read::read_board;
+use row_check::{Row, rows_of};
 use std::alloc::Global;
 
 /// The most bytes of a text.
@@ -37,15 +39,18 @@ pub(crate) fn usage<W: Sink>(out: &mut W) -> Status
     after(put_all(out, b"usage: drc BOARD\n"), Status::Usage)
 }
 
-/// Refuses a text that is no board of vias.
-fn refuse<W: Sink>(out: &mut W) -> Status
-    ensures ends { Ends (λ o. o ≡ not_built) ⊥ (W.written out.old) (W.written out.new) result }
+/// Writes why a board is refused. Want of memory is not written.
+fn refuse<W: Sink>(e: BoardError, out: &mut W) -> Status
+    ensures ends { Ends (λ o. (reason e ≢ []) × (o ≡ refusal e)) ⊥ (W.written out.old) (W.written out.new) result }
     ensures fault { result ≡ Status.WriteFault → Rose (W.faults out.old) (W.faults out.new) }
 {
-    after(
-        put_all(out, b"refused board: NotBuilt (15) at 0\n"),
-        Status::Refused,
-    )
+    match refusal_of(e) {
+        None => Status::OutOfMemory,
+        Some(line) => after(
+            write_line(line.before, u64::from(line.at), b"", out),
+            Status::Refused,
+        ),
+    }
 }
 
 /// Checks the board of a text.
@@ -54,21 +59,15 @@ fn check_text<W: Sink>(alloc: Global, text: &[u8], out: &mut W) -> Status
     ensures ends { Ends (IsOutputOf text.now) ⊥ (W.written out.old) (W.written out.new) result }
     ensures fault { result ≡ Status.WriteFault → Rose (W.faults out.old) (W.faults out.new) }
 {
-    let doc = match parse_one(alloc, text) {
-        Ok(doc) => doc,
-        Err(TextError::OutOfMemory) => return Status::OutOfMemory,
-        Err(_) => return refuse(out),
-    };
-    let board = match board_of(alloc, doc.root()) {
-        Ok(Some(board)) => board,
-        Ok(None) => return refuse(out),
-        Err(_) => return Status::OutOfMemory,
+    let board = match read_board(alloc, text) {
+        Ok(board) => board,
+        Err(e) => return refuse(e, out),
     };
     let rows = match rows_of(alloc, &board) {
         Ok(rows) => rows,
         Err(_) => return Status::OutOfMemory,
     };
-    after(write_report(out, &board, &rows), report_status(&rows))
+    after(write_report(&board, &rows, out), report_status(&rows))
 }
 
 fn report_status(rows: &[Row]) -> Status

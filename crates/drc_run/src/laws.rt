@@ -3,11 +3,11 @@
 ghost use Rattle.std.specs.Prelude.{◌≡◌, ℕ, List, Option, Some};
 ghost use Rattle.drc_run.specs.Output.{Output, IsOutputFor};
 
-use sexpr_read::laws::one_tree;
+use pcb_read::laws::one_reading;
 
 /// The words and the files have one output at most.
 pub fn one_output()
     ensures { (reading : Option (List ℕ)) (files : List (List ℕ × List ℕ)) (a b : Output) → IsOutputFor reading (Some files) a → IsOutputFor reading (Some files) b → a ≡ b }
 {
-    one_tree();
+    one_reading();
 }

@@ -9,22 +9,15 @@ ghost use Rattle.drc_run.specs.Words.{reading_of, words_of};
 ghost use Rattle.drc_run.specs.Output.{Output, IsOutputFor, HasReadFault, cannot_read};
 ghost use Rattle.drc_run.specs.Endings.{Whole, Front};
 
-mod all_pairs;
-mod board;
-mod board_text;
 mod check;
-mod copper;
 pub mod laws;
-mod line;
-mod millimetres;
-mod pair;
+mod refusal;
 mod report;
-mod rows;
 mod status;
-mod violation;
 mod words;
 
 use crate::check::{check, usage};
+use crate::laws::one_output;
 use crate::words::reading;
 use drc_io::{Shelf, Sink};
 
@@ -57,6 +50,8 @@ pub fn run<R: AllocGlobal, F: Shelf, W: Sink>(
     // The files stay as they were.
     ensures same { F.files shelf.new ≡ F.files shelf.old }
 {
+    // What is written whole is the one output.
+    one_output();
     match reading(words) {
         Some(name) => check(rt.alloc(), name, shelf, out) as u8,
         None => usage(out) as u8,

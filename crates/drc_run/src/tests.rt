@@ -20,32 +20,52 @@ fn joined(alloc: Global, pieces: &[&str]) -> Result<Vec<u8>, AllocError> {
 }
 
 /// That the program ends on the text of the board with this status, and what it writes.
+fn check_bytes<R: Abort + AllocGlobal>(
+    rt: &R,
+    text: Vec<u8>,
+    status: u8,
+    written: &[u8],
+) -> Result<(), AllocError> {
+    let alloc = rt.alloc();
+    let mut shelf = shelf_with(alloc, text, Vec::new(alloc))?;
+    let mut out = MemSink::new(alloc, 4096, 4096, Vec::new(alloc))?;
+    assert_eq!(rt; run(rt, &["board"], &mut shelf, &mut out), status);
+    assert_eq!(rt; out.bytes(), written);
+    Ok(())
+}
+
 fn check_text<R: Abort + AllocGlobal>(
     rt: &R,
     text: Vec<u8>,
     status: u8,
     written: &str,
 ) -> Result<(), AllocError> {
-    let alloc = rt.alloc();
-    let mut shelf = shelf_with(alloc, text, Vec::new(alloc))?;
-    let mut out = MemSink::new(alloc, 4096, 4096, Vec::new(alloc))?;
-    assert_eq!(rt; run(rt, &["board"], &mut shelf, &mut out), status);
-    assert_eq!(rt; out.bytes(), written.as_bytes());
-    Ok(())
+    check_bytes(rt, text, status, written.as_bytes())
 }
 
-/// What stands before the nets, and the nets.
-const HEAD: &str =
-    "(kicad_pcb (version 20221018) (generator pcbnew) (layers (0 \"F.Cu\" signal) (31 \"B.Cu\" signal))";
+/// The text of a board up to its items.
+const P: &str =
+    "(kicad_pcb (version 20221018) (generator pcbnew) (layers (0 \"F.Cu\" signal) (31 \"B.Cu\" signal)) (net 0 \"\") (net 1 \"N1\") (net 2 \"N2\") ";
 
-const NETS: &str = "(net 0 \"\") (net 1 \"N1\") (net 2 \"N2\")";
+/// A board of these items, with one space between them.
+fn board_of(alloc: Global, items: &[&str]) -> Result<Vec<u8>, AllocError> {
+    let mut text = joined(alloc, &[P])?;
+    for (i, item) in items.iter().enumerate() {
+        if i > 0 {
+            text.push(b' ')?;
+        }
+        text.extend_from_slice(item.as_bytes())?;
+    }
+    text.push(b')')?;
+    Ok(text)
+}
 
 /// A board of vias, each by its position, size, net and name.
-fn text_of(alloc: Global, vias: &[[&str; 4]]) -> Result<Vec<u8>, AllocError> {
+fn board_of_vias(alloc: Global, vias: &[[&str; 4]]) -> Result<Vec<u8>, AllocError> {
     const SIZE: &str = ") (size ";
     const NET: &str = ") (drill 0.4) (layers \"F.Cu\" \"B.Cu\") (net ";
     const NAME: &str = ") (tstamp ";
-    let mut text = joined(alloc, &[HEAD, NETS])?;
+    let mut text = joined(alloc, &[P])?;
     for [at, size, net, name] in vias {
         let parts = ["(via (at ", at, SIZE, size, NET, net, NAME, name, "))"];
         text.extend_from_slice(&joined(alloc, &parts)?)?;
@@ -62,7 +82,7 @@ const NO_ROW: &str = "report 0\nrows 0\n";
 type Case<'a> = (&'a [[&'a str; 4]], &'a str);
 
 #[test]
-fn reports_boards(rt: HostRuntime) -> Result<(), Fail> {
+fn reports_vias(rt: HostRuntime) -> Result<(), Fail> {
     let table: [Case; 17] = [
         (&[], NO_ROW),
         // just the clearance apart, and a nanometre less
@@ -151,7 +171,145 @@ fn reports_boards(rt: HostRuntime) -> Result<(), Fail> {
     ];
     for (vias, report) in table.iter() {
         let status = if *report == NO_ROW { 0 } else { 1 };
-        check_text(&rt, text_of(rt.alloc(), vias)?, status, report)?;
+        check_text(&rt, board_of_vias(rt.alloc(), vias)?, status, report)?;
+    }
+    Ok(())
+}
+
+#[test]
+fn reports_tracks(rt: HostRuntime) -> Result<(), Fail> {
+    let table: [(&[&str], &str); 14] = [
+        // across each other, and the longest diagonals
+        (
+            &[
+                "(segment (start 100 100) (end 110 110) (width 0.2) (layer \"F.Cu\") (net 1) (tstamp a))",
+                "(segment (start 100 110) (end 110 100) (width 0.2) (layer \"F.Cu\") (net 2) (tstamp b))",
+            ],
+            "report 0\nerror short F.Cu: track \"a\" at 100.000000 100.000000 | track \"b\" at 100.000000 110.000000\nrows 1\n",
+        ),
+        (
+            &[
+                "(segment (start -500 -500) (end 500 500) (width 0.25) (layer \"F.Cu\") (net 1) (tstamp a))",
+                "(segment (start 500 -500) (end -500 500) (width 0.25) (layer \"F.Cu\") (net 2) (tstamp b))",
+            ],
+            "report 0\nerror short F.Cu: track \"a\" at -500.000000 -500.000000 | track \"b\" at 500.000000 -500.000000\nrows 1\n",
+        ),
+        // on two layers, on the back, and of one net
+        (
+            &[
+                "(segment (start 100 100) (end 110 110) (width 0.2) (layer \"F.Cu\") (net 1) (tstamp a))",
+                "(segment (start 100 110) (end 110 100) (width 0.2) (layer \"B.Cu\") (net 2) (tstamp b))",
+            ],
+            NO_ROW,
+        ),
+        (
+            &[
+                "(segment (start 100 100) (end 110 110) (width 0.2) (layer \"B.Cu\") (net 1) (tstamp a))",
+                "(segment (start 100 110) (end 110 100) (width 0.2) (layer \"B.Cu\") (net 2) (tstamp b))",
+            ],
+            "report 0\nerror short B.Cu: track \"a\" at 100.000000 100.000000 | track \"b\" at 100.000000 110.000000\nrows 1\n",
+        ),
+        (
+            &[
+                "(segment (start 100 100) (end 110 110) (width 0.2) (layer \"F.Cu\") (net 1) (tstamp a))",
+                "(segment (start 100 110) (end 110 100) (width 0.2) (layer \"F.Cu\") (net 1) (tstamp b))",
+            ],
+            NO_ROW,
+        ),
+        // side by side: 0.2 mm apart, and a nanometre less
+        (
+            &[
+                "(segment (start 100 100) (end 110 100) (width 0.2) (layer \"F.Cu\") (net 1) (tstamp a))",
+                "(segment (start 100 100.4) (end 110 100.4) (width 0.2) (layer \"F.Cu\") (net 2) (tstamp b))",
+            ],
+            NO_ROW,
+        ),
+        (
+            &[
+                "(segment (start 100 100) (end 110 100) (width 0.2) (layer \"F.Cu\") (net 1) (tstamp a))",
+                "(segment (start 100 100.399999) (end 110 100.399999) (width 0.2) (layer \"F.Cu\") (net 2) (tstamp b))",
+            ],
+            "report 0\nerror clearance F.Cu: track \"a\" at 100.000000 100.000000 | track \"b\" at 100.000000 100.399999 | needs 0.200000 | has 0.199999 | default\nrows 1\n",
+        ),
+        // a via beside a sloping track, at half of the root of 2 from its middle line
+        (
+            &[
+                "(segment (start 100 100) (end 101 101) (width 0.2) (layer \"F.Cu\") (net 1) (tstamp a))",
+                "(via (at 101 100) (size 0.8) (drill 0.4) (layers \"F.Cu\" \"B.Cu\") (net 2) (tstamp b))",
+            ],
+            NO_ROW,
+        ),
+        (
+            &[
+                "(segment (start 100 100) (end 101 101) (width 0.22) (layer \"B.Cu\") (net 1) (tstamp a))",
+                "(via (at 101 100) (size 0.8) (drill 0.4) (layers \"F.Cu\" \"B.Cu\") (net 2) (tstamp b))",
+            ],
+            "report 0\nerror clearance B.Cu: track \"a\" at 100.000000 100.000000 | via \"b\" at 101.000000 100.000000 | needs 0.200000 | has 0.197106 | default\nrows 1\n",
+        ),
+        // a track of no length in a via, of one net and of two
+        (
+            &[
+                "(via (at 100 100) (size 0.8) (drill 0.4) (layers \"F.Cu\" \"B.Cu\") (net 1) (tstamp a))",
+                "(segment (start 100.4 100) (end 100.4 100) (width 0.2) (layer \"F.Cu\") (net 1) (tstamp b))",
+                "(via (at 105 100) (size 0.8) (drill 0.4) (layers \"F.Cu\" \"B.Cu\") (net 1) (tstamp c))",
+            ],
+            NO_ROW,
+        ),
+        (
+            &[
+                "(via (at 100 100) (size 0.8) (drill 0.4) (layers \"F.Cu\" \"B.Cu\") (net 1) (tstamp a))",
+                "(segment (start 100.4 100) (end 100.4 100) (width 0.2) (layer \"B.Cu\") (net 2) (tstamp b))",
+            ],
+            "report 0\nerror short B.Cu: via \"a\" at 100.000000 100.000000 | track \"b\" at 100.400000 100.000000\nrows 1\n",
+        ),
+        // no net is a net of its own
+        (
+            &[
+                "(segment (start 100 100) (end 110 110) (width 0.2) (layer \"F.Cu\") (tstamp a))",
+                "(segment (start 100 110) (end 110 100) (width 0.2) (layer \"F.Cu\") (net 2) (tstamp b))",
+            ],
+            "report 0\nerror clearance F.Cu: track \"a\" at 100.000000 100.000000 | track \"b\" at 100.000000 110.000000 | needs 0.200000 | has 0.000000 | default\nrows 1\n",
+        ),
+        // a via without a drill and a name, and elements in another order
+        (
+            &[
+                "(via (net 1) (layers \"B.Cu\" \"F.Cu\") (size 0.8) (at 100 100))",
+                "(segment (tstamp b) (net 2) (layer \"F.Cu\") (width 0.2) (end 110 100) (start 100.4 100))",
+            ],
+            "report 0\nerror short F.Cu: via \"\" at 100.000000 100.000000 | track \"b\" at 100.400000 100.000000\nrows 1\n",
+        ),
+        // lists that are passed over
+        (&["(general (thickness 1.6))", "(setup (x))", "(y)"], NO_ROW),
+    ];
+    for (items, report) in table.iter() {
+        let status = if *report == NO_ROW { 0 } else { 1 };
+        check_text(&rt, board_of(rt.alloc(), items)?, status, report)?;
+    }
+    Ok(())
+}
+
+#[test]
+fn reports_inner_layers(rt: HostRuntime) -> Result<(), Fail> {
+    const FOUR: &str =
+        "(kicad_pcb (version 20221018) (layers (0 \"F.Cu\" signal) (1 \"In1.Cu\" signal) (2 \"In2.Cu\" power) (31 \"B.Cu\" signal)) (net 1 \"N1\") (net 2 \"N2\") ";
+    let table = [
+        (
+            "(segment (start 100 100) (end 110 110) (width 0.2) (layer \"In2.Cu\") (net 1) (tstamp a)) (segment (start 100 110) (end 110 100) (width 0.2) (layer \"In2.Cu\") (net 2) (tstamp b)))",
+            "report 0\nerror short In2.Cu: track \"a\" at 100.000000 100.000000 | track \"b\" at 100.000000 110.000000\nrows 1\n",
+        ),
+        // vias that share one layer, and none
+        (
+            "(via blind (at 1 1) (size 0.8) (drill 0.4) (layers \"F.Cu\" \"In1.Cu\") (net 1) (tstamp a)) (via blind (at 1 1) (size 0.8) (drill 0.4) (layers \"B.Cu\" \"In1.Cu\") (net 2) (tstamp b)))",
+            "report 0\nerror short In1.Cu: via \"a\" at 1.000000 1.000000 | via \"b\" at 1.000000 1.000000\nrows 1\n",
+        ),
+        (
+            "(via blind (at 1 1) (size 0.8) (drill 0.4) (layers \"F.Cu\" \"In1.Cu\") (net 1) (tstamp a)) (via blind (at 1 1) (size 0.8) (drill 0.4) (layers \"In2.Cu\" \"B.Cu\") (net 2) (tstamp b)))",
+            NO_ROW,
+        ),
+    ];
+    for (items, report) in table {
+        let status = if report == NO_ROW { 0 } else { 1 };
+        check_text(&rt, joined(rt.alloc(), &[FOUR, items])?, status, report)?;
     }
     Ok(())
 }
@@ -168,55 +326,118 @@ fn accepts_other_spellings(rt: HostRuntime) -> Result<(), Fail> {
 }
 
 #[test]
-fn refuses_other_texts(rt: HostRuntime) -> Result<(), Fail> {
+fn refuses_texts(rt: HostRuntime) -> Result<(), Fail> {
     let alloc = rt.alloc();
-    const NOT_BUILT: &str = "refused board: NotBuilt (15) at 0\n";
-    for text in [
-        "",
-        " \n",
-        "(kicad_pcb)",
-        "(board (version 20221018) (generator g) (layers (0 \"F.Cu\" signal) (31 \"B.Cu\" signal)) (net 1 N))",
-        "(kicad_pcb (version 20221017) (generator g) (layers (0 \"F.Cu\" signal) (31 \"B.Cu\" signal)) (net 1 N))",
-        "(kicad_pcb (generator g) (version 20221018) (layers (0 \"F.Cu\" signal) (31 \"B.Cu\" signal)) (net 1 N))",
-        "(kicad_pcb (version 20221018) (generator (g)) (layers (0 \"F.Cu\" signal) (31 \"B.Cu\" signal)) (net 1 N))",
-        "(kicad_pcb (version 20221018) (generator g) (layers (31 \"B.Cu\" signal) (0 \"F.Cu\" signal)) (net 1 N))",
-        "(kicad_pcb (version 20221018) (generator g) (layers (0 \"F.Cu\" signal) (31 \"B.Cu\" power)) (net 1 N))",
+    for (text, refusal) in [
+        ("", "refused board: Text.EmptyText (1.6) at 0\n"),
+        (" \n", "refused board: Text.EmptyText (1.6) at 0\n"),
+        // the first 64 bytes of a board
+        (
+            "(kicad_pcb (version 20221018) (generator pcbnew) (layers (0 \"F.C",
+            "refused board: Text.EndInside (1.3) at 64\n",
+        ),
+        // 65 levels
+        (
+            "(((((((((((((((((((((((((((((((((((((((((((((((((((((((((((((((((",
+            "refused board: Text.TooDeep (1.4) at 64\n",
+        ),
+        (")", "refused board: Text.CloseWithoutOpen (1.2) at 0\n"),
+        ("kicad_pcb", "refused board: Text.ExtraText (1.5) at 0\n"),
+        (
+            "(board (version 20221018) (layers))",
+            "refused board: NotABoard (2) at 0\n",
+        ),
+        (
+            " (kicad_pcb (version 20221017) (layers))",
+            "refused board: Version (3) at 21\n",
+        ),
+        (" (kicad_pcb)", "refused board: Missing (4) at 1\n"),
+        (
+            "(kicad_pcb (layers) (version 20221018))",
+            "refused board: Missing (4) at 0\n",
+        ),
+        (
+            "(kicad_pcb (version 20221018))",
+            "refused board: Missing (4) at 0\n",
+        ),
     ] {
-        check_text(&rt, joined(alloc, &[text])?, 3, NOT_BUILT)?;
+        check_text(&rt, joined(alloc, &[text])?, 3, refusal)?;
     }
-    for rest in [
-        "",
-        ") ()",
-        "))",
-        "(net 4294967296 N))",
-        "(net 3 (N)))",
-        "via)",
-        "(segment (start 1 1) (end 2 2) (width 0.2) (layer \"F.Cu\") (net 1) (tstamp u)))",
-        "(via (at 1 2) (size 1) (drill 0) (layers \"F.Cu\" \"B.Cu\") (net 1) (tstamp u)) (net 3 N))",
-        "(via (at 1 2) (size 1) (drill 0) (layers \"F.Cu\" \"B.Cu\") (net 3) (tstamp u)))",
-        "(via (at 1 2) (size 1) (drill 0) (layers \"B.Cu\" \"F.Cu\") (net 1) (tstamp u)))",
-        "(via (at 1 2) (size 1) (drill 0) (layers \"F.Cu\" \"B.Cu\") (net 1) (tstamp (u))))",
-        "(via (at 1 2) (size 1) (drill 0) (layers \"F.Cu\" \"B.Cu\") (net 1) (tstamp u) (free)))",
-        "(via (at 1 2) (size 1) (drill 0) (layers \"F.Cu\" \"B.Cu\") (net 1)))",
-        "(via (at 1 2) (size 1) (layers \"F.Cu\" \"B.Cu\") (net 1) (tstamp u)))",
-        "(via (at 1 2 0) (size 1) (drill 0) (layers \"F.Cu\" \"B.Cu\") (net 1) (tstamp u)))",
-        "(via (at 1 \"\\2\") (size 1) (drill 0) (layers \"F.Cu\" \"B.Cu\") (net 1) (tstamp u)))",
-        "(via (at 500.000001 2) (size 1) (drill 0) (layers \"F.Cu\" \"B.Cu\") (net 1) (tstamp u)))",
-        "(via (at 1 -500.000001) (size 1) (drill 0) (layers \"F.Cu\" \"B.Cu\") (net 1) (tstamp u)))",
-        "(via (at 1 2) (size 500.000001) (drill 0) (layers \"F.Cu\" \"B.Cu\") (net 1) (tstamp u)))",
-        "(via (at 1 2) (size -0.000001) (drill 0) (layers \"F.Cu\" \"B.Cu\") (net 1) (tstamp u)))",
-        "(via (at 1 2) (size 1) (drill 500.000001) (layers \"F.Cu\" \"B.Cu\") (net 1) (tstamp u)))",
-    ] {
-        check_text(&rt, joined(alloc, &[HEAD, NETS, rest])?, 3, NOT_BUILT)?;
-    }
-    check_text(&rt, joined(alloc, &[HEAD, ")"])?, 3, NOT_BUILT)?;
-    check_text(&rt, vec![in alloc; b' '; 33_554_432]?, 3, NOT_BUILT)?;
+    let ill_formed = vec![in alloc; b'(', 0xff]?;
+    check_text(
+        &rt,
+        ill_formed,
+        3,
+        "refused board: Text.NotUtf8 (1.1) at 1\n",
+    )?;
+    Ok(())
+}
+
+#[test]
+fn refuses_long_texts(rt: HostRuntime) -> Result<(), Fail> {
+    let alloc = rt.alloc();
+    check_text(
+        &rt,
+        vec![in alloc; b' '; 33_554_432]?,
+        3,
+        "refused board: Text.EmptyText (1.6) at 0\n",
+    )?;
     check_text(
         &rt,
         vec![in alloc; b' '; 33_554_433]?,
         3,
         "refused board: TooLong (0) at 33554432\n",
     )?;
+    Ok(())
+}
+
+#[test]
+fn refuses_items(rt: HostRuntime) -> Result<(), Fail> {
+    for (item, refusal) in [
+        ("(net 4294967296 N)", "BadNumber (5) at 137"),
+        (
+            "(segment (start 1 x) (end 2 2) (width 0.2) (layer \"F.Cu\") (net 1))",
+            "BadNumber (5) at 150",
+        ),
+        (
+            "(segment (start 1 1) (end 2 2) (width -0.2) (layer \"F.Cu\") (net 1))",
+            "BadNumber (5) at 170",
+        ),
+        (
+            "(segment (start 1 1) (end 2 2) (layer \"F.Cu\") (net 1))",
+            "Missing (4) at 132",
+        ),
+        (
+            "(via (at 1) (size 1) (layers \"F.Cu\" \"B.Cu\") (net 1))",
+            "Missing (4) at 137",
+        ),
+        (
+            "(segment (start 1 1) (end 2 2) (width 0.2) (layer \"In1.Cu\") (net 1))",
+            "UnknownLayer (12) at 182",
+        ),
+        (
+            "(segment (start 1 1) (end 2 2) (width 0.2) (layer \"F.Cu\") (net 3))",
+            "UnknownNet (11) at 195",
+        ),
+        // one nanometre beyond the longest diagonal, and beyond the greatest size
+        (
+            "(segment (start -500.000001 -500) (end 500 500) (width 0.25) (layer \"F.Cu\") (net 1) (tstamp a)) (segment (start 500 -500) (end -500 500) (width 0.25) (layer \"F.Cu\") (net 2) (tstamp b))",
+            "OutOfBoard (6) at 132",
+        ),
+        (
+            "(via (at 1 2) (size 500.000001) (drill 0) (layers \"F.Cu\" \"B.Cu\") (net 1))",
+            "OutOfBoard (6) at 132",
+        ),
+        (
+            "(arc (start 100 100) (mid 101 101) (end 102 100) (width 0.2) (layer \"F.Cu\") (net 1) (tstamp a))",
+            "Arc (7) at 132",
+        ),
+        ("(zone (net 1))", "NotBuilt (15) at 132"),
+    ] {
+        let text = board_of(rt.alloc(), &[item])?;
+        let line = joined(rt.alloc(), &["refused board: ", refusal, "\n"])?;
+        check_bytes(&rt, text, 3, &line)?;
+    }
     Ok(())
 }
 
@@ -243,7 +464,7 @@ fn ends_by_words_and_faults(rt: HostRuntime) -> Result<(), Fail> {
         (&[], 0, 1, 5, ""),
     ];
     for (words, no_read, no_write, status, written) in table.iter() {
-        let text = joined(alloc, &[HEAD, NETS, ")"])?;
+        let text = board_of(alloc, &[])?;
         let mut shelf = shelf_with(alloc, text, vec![in alloc; *no_read]?)?;
         let mut out = MemSink::new(alloc, 1, 64, vec![in alloc; *no_write]?)?;
         assert_eq!(rt; run(&rt, words, &mut shelf, &mut out), *status);

@@ -13,3 +13,5 @@ pub mod FromText
 pub mod Lines
 pub mod FormFaults
 pub mod Ordered
+pub mod Escapes
+pub mod Texts

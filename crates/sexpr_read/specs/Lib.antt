@@ -1,5 +1,6 @@
 pub mod Bytes
 pub mod Tree
+pub mod Texts
 pub mod Comments
 pub mod Spelling
 pub mod Refusals

@@ -1,6 +1,7 @@
 ghost use Rattle.std.specs.Prelude.{◌≡◌};
 ghost use Rattle.std.proofs.Props.{props};
-ghost use Rattle.sexpr_read.specs.Cells.{cells_of, forest_of, IsPlaced, ArePlaced, ArePlaced-prop};
+ghost use Rattle.sexpr_read.specs.Cells.{cells_of, forest_of, tree_at, IsPlaced, ArePlaced, ArePlaced-prop};
+ghost use Rattle.sexpr_read.specs.Texts.{AreTexts, AreTexts-prop, HasTexts, HasTexts-prop};
 ghost use Rattle.sexpr_read.specs.declared.arena.Kind.TheVariants.{List as Nested};
 
 use crate::arena::{Cell, Kind, kind_of};
@@ -18,6 +19,7 @@ pub struct Doc<'t> {
     ghost placed: { IsPlaced text.now Nested span.at span.end },
     ghost whole: { cells_of (forest_of text.now cells.items) ≡ cells.items } by { Prim.hlevel props },
     ghost each_placed: { ArePlaced text.now cells.items } by { ArePlaced-prop text.now cells.items },
+    ghost texts: { AreTexts (forest_of text.now cells.items) } by { AreTexts-prop (forest_of text.now cells.items) },
 }
 
 #[tactic(auto, unfolding(crate::specs::Views::root_of, crate::specs::Views::tree_of))]
@@ -48,11 +50,12 @@ pub struct Node<'d, 't> {
     ghost placed: { IsPlaced text.now kind span.at span.end },
     ghost whole: { cells_of (forest_of text.now cells.now) ≡ cells.now } by { Prim.hlevel props },
     ghost each_placed: { ArePlaced text.now cells.now } by { ArePlaced-prop text.now cells.now },
+    ghost texts: { HasTexts (tree_at text.now kind span cells.now) } by { HasTexts-prop (tree_at text.now kind span cells.now) },
 }
 
 #[tactic(auto, unfolding(crate::specs::Views::tree_of, crate::specs::Views::trees_left))]
 impl<'d, 't> Node<'d, 't> {
-    ghost use Rattle.std.specs.Prelude.{◌≡◌, ◌++◌, ◌↔◌, ◌<◌, ◌^◌, [], length, IsTrue, Some, option_copied, unwrap_or, OnOk, OnErr};
+    ghost use Rattle.std.specs.Prelude.{◌≡◌, ◌++◌, ◌↔◌, ◌<◌, ◌^◌, [], length, IsTrue, Some, option_copied, unwrap_or, IsUtf8, OnOk, OnErr};
     ghost use Rattle.sexpr_read.specs.Tree.{is_list, content, quoted, span, parts, value};
     ghost use Rattle.sexpr_read.specs.Views.{tree_of, trees_left};
 
@@ -127,10 +130,11 @@ impl<'d, 't> Node<'d, 't> {
         }
     }
 
-    /// Appends what an atom stands for; a list appends nothing.
+    /// Appends what an atom stands for; a list appends nothing. What is appended is UTF-8.
     pub fn value(self, out: &mut Vec<u8>) -> Result<(), AllocError>
         ensures ok { OnOk result (out.new.items ≡ out.old.items ++ unwrap_or (value (tree_of self.entry)) []) }
         ensures err { OnErr result (out.new.items ≡ out.old.items) }
+        ensures utf8 { IsUtf8 (unwrap_or (value (tree_of self.entry)) []) }
     {
         match self.atom() {
             None => Ok(()),
@@ -149,6 +153,7 @@ pub struct Children<'d, 't> {
     pub(crate) cells: &'d [Cell],
     ghost whole: { cells_of (forest_of text.now cells.now) ≡ cells.now } by { Prim.hlevel props },
     ghost each_placed: { ArePlaced text.now cells.now } by { ArePlaced-prop text.now cells.now },
+    ghost texts: { AreTexts (forest_of text.now cells.now) } by { AreTexts-prop (forest_of text.now cells.now) },
 }
 
 impl<'d, 't> Iterator for Children<'d, 't> {

@@ -1,4 +1,5 @@
 use Rattle.std.proofs.Common.{◌≡◌, inr, ◌<◌, ℕ, false, ◌∙◌, ap, length, arith}
+use Rattle.std.proofs.lemmas.Str.{IsCharBoundary-start}
 use Rattle.sexpr_read.specs.declared.place.Span.{Span}
 use Rattle.sexpr_read.specs.Comments.{shown}
 use Rattle.sexpr_read.specs.Cells.{cells_of, forest_of}
@@ -8,6 +9,7 @@ use Rattle.sexpr_read.proofs.Lines.{line_first, sign_shown}
 use Rattle.sexpr_read.proofs.Faults.{stands_first}
 use Rattle.sexpr_read.proofs.HeadFaults.{close_outside}
 use Rattle.sexpr_read.proofs.FromText.{forest_of-spelled, are_placed-spelled}
+use Rattle.sexpr_read.proofs.Texts.{are_texts-spelled}
 use Rattle.sexpr_read.proofs.reader.read_all.Goals as goal
 
 pub read_forest-requires-clause-line : goal.read_forest-requires-clause-line
@@ -26,10 +28,13 @@ pub invariant_of-result : goal.invariant_of-result
 invariant_of-result c =
     let text = c.args.text.now in
     let read = c.in_ok-stop.ensures.ok in
+    let forest_is : forest_of text c.read_forest.new.arena.cells.items ≡ read.forest =
+    ap (forest_of text) read.kept ∙ forest_of-spelled text (shown text) (sign_shown false text) read.forest _ _ read.spelled in
     record {
       placed = record { wide = omega arith; within = read.within };
       whole = rw read.kept (ap cells_of (forest_of-spelled text (shown text) (sign_shown false text) read.forest _ _ read.spelled));
       each_placed = rw read.kept (are_placed-spelled text (shown text) (sign_shown false text) read.forest _ _ read.within read.spelled);
+      texts = rw forest_is (are_texts-spelled false text c.requires.utf8 read.forest _ _ (IsCharBoundary-start text c.requires.utf8) read.within read.spelled);
     }
 
 pub returns-clause-spelled : goal.returns-clause-spelled

@@ -1,4 +1,5 @@
 use Rattle.std.proofs.Common.{refl, ◌≡◌, ◌<◌, ◌≤◌, ◌+◌, suc, true, ◌∙◌, ap, length, arith}
+use Rattle.std.specs.Str.{IsCharBoundary}
 use Rattle.sexpr_read.specs.Bytes.{sign_of}
 use Rattle.sexpr_read.specs.Cells.{cells_of, forest_of}
 use Rattle.sexpr_read.specs.Spelling.{Spells, SpellsForest}
@@ -7,6 +8,7 @@ use Rattle.sexpr_read.proofs.Machine.{over_gap, over_first, over_close}
 use Rattle.sexpr_read.proofs.Faults.{stands_first, blank_gap, not_blank}
 use Rattle.sexpr_read.proofs.Unique.{forest_ordered}
 use Rattle.sexpr_read.proofs.FromText.{forest_of-spelled, are_placed-spelled}
+use Rattle.sexpr_read.proofs.Texts.{are_texts-spelled, cut_behind_open}
 use Rattle.sexpr_read.proofs.reader.read_one.Goals as goal
 
 pub read_forest-requires-clause-stands : goal.read_forest-requires-clause-stands
@@ -36,10 +38,16 @@ invariant_of-result c =
     let text = c.args.text.now in
     let read = c.in_ok-close.ensures.ok in
     let behind : c.in_ok-start.start + 1 ≤ c.in_ok-close.close = forest_ordered (sign_of text) text read.forest _ _ read.spelled in
+    let next : c.in_ok-start.start + 1 ≡ suc c.in_ok-start.start = omega arith in
+    let begins : IsCharBoundary text (c.in_ok-start.start + 1) =
+    rw next (cut_behind_open text _ c.requires.utf8 c.in_ok-start.ensures.within c.in_ok-start.ensures.bracket) in
+    let forest_is : forest_of text c.read_forest.new.arena.cells.items ≡ read.forest =
+    ap (forest_of text) read.kept ∙ forest_of-spelled text (sign_of text) (λ p s. refl) read.forest _ _ read.spelled in
     record {
       placed = record { wide = omega arith; within = omega (arith, read.within, c.if-close-text.false) };
       whole = rw read.kept (ap cells_of (forest_of-spelled text (sign_of text) (λ p s. refl) read.forest _ _ read.spelled));
       each_placed = rw read.kept (are_placed-spelled text (sign_of text) (λ p s. refl) read.forest _ _ read.within read.spelled);
+      texts = rw forest_is (are_texts-spelled true text c.requires.utf8 read.forest _ _ begins read.within read.spelled);
     }
 
 pub returns-clause-spelled : goal.returns-clause-spelled

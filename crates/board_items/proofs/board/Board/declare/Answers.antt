@@ -1,7 +1,7 @@
 use Rattle.std.proofs.Common.{◌∙◌, nat_eq, sym, ap}
 use Rattle.indexmap.proofs.CallerLemmas.{insert_entry-new}
 use Rattle.board_items.specs.Boards.{PlainBoard, with_net}
-use Rattle.board_items.proofs.Growing.{no_value, new_net}
+use Rattle.board_items.proofs.Growing.{no_value, new_net, sound_declared}
 use Rattle.board_items.proofs.board.Board.declare.Goals as goal
 
 pub returns-clause-ok : goal.returns-clause-ok
@@ -11,3 +11,12 @@ returns-clause-ok c =
     new_net before c.args.net c.args.name c.insert.new.self.entries absent
     (c.in_ok-insert.ensures.entries ∙ insert_entry-new nat_eq c.self.inside.names c.args.net c.args.name (no_value _ absent))
     ∙ ap (λ (b : PlainBoard). with_net b c.args.net c.args.name) c.self.view_is
+
+pub invariant_of-self-2 : goal.invariant_of-self-2
+invariant_of-self-2 c =
+    let before : PlainBoard = record { copper = c.self.inside.copper; nets = c.self.inside.names.entries; items = c.self.inside.items.items; next_id = c.self.inside.next_id; next_unit = c.self.inside.next_unit } in
+    let absent = sym c.contains_key.ensures ∙ c.if-contains_key.false in (
+      sound_declared before c.args.net c.args.name c.insert.new.self.entries c.self.invariant.0 (no_value _ absent)
+          (c.in_ok-insert.ensures.entries ∙ insert_entry-new nat_eq c.self.inside.names c.args.net c.args.name (no_value _ absent)),
+      c.self.invariant.1,
+    )

@@ -3,6 +3,7 @@ use Rattle.sexpr_read.specs.Cells.{forest_of}
 use Rattle.sexpr_read.specs.Tree.{trees}
 use Rattle.sexpr_read.specs.Views.{tree_of, trees_left}
 use Rattle.sexpr_read.proofs.Splits.{splits_at, placed_at, no_trees, placed-take, placed-drop}
+use Rattle.sexpr_read.proofs.Texts.{texts_of_split}
 use Rattle.sexpr_read.proofs.view.ChildrenIterator.next.Goals as goal
 
 pub returns-in_err-cell-clause-steps : goal.returns-in_err-cell-clause-steps
@@ -22,9 +23,12 @@ invariant_of-self c =
     c.args.self.now.whole in
     let p = placed_at c.args.self.now.text.now c.args.self.now.cells.now c.in_ok-cell.cell.now c.in_ok-cell.after.now c.in_ok-cell.ensures.cases.0
     c.args.self.now.each_placed in
+    let t = texts_of_split c.args.self.now.text.now c.args.self.now.cells.now c.in_ok-cell.cell.now c.in_ok-cell.after.now c.in_ok-cell.ensures.cases.0
+    s c.args.self.now.texts in
     record {
       whole = rw c.split_at.ensures.back s.outer;
       each_placed = rw c.split_at.ensures.back (placed-drop c.args.self.now.text.now c.in_ok-cell.cell.now.inside c.in_ok-cell.after.now p.2);
+      texts = rw c.split_at.ensures.back t.1;
     }
 
 pub invariant_of-result : goal.invariant_of-result
@@ -33,10 +37,13 @@ invariant_of-result c =
     c.args.self.now.whole in
     let p = placed_at c.args.self.now.text.now c.args.self.now.cells.now c.in_ok-cell.cell.now c.in_ok-cell.after.now c.in_ok-cell.ensures.cases.0
     c.args.self.now.each_placed in
+    let t = texts_of_split c.args.self.now.text.now c.args.self.now.cells.now c.in_ok-cell.cell.now c.in_ok-cell.after.now c.in_ok-cell.ensures.cases.0
+    s c.args.self.now.texts in
     record {
       placed = rw (c.kind_of-kind.ensures, c.sign_at.ensures) p.1;
       whole = rw c.split_at.ensures.front s.inner;
       each_placed = rw c.split_at.ensures.front (placed-take c.args.self.now.text.now c.in_ok-cell.cell.now.inside c.in_ok-cell.after.now p.2);
+      texts = rw (c.split_at.ensures.front, c.kind_of-kind.ensures, c.sign_at.ensures) t.0;
     }
 
 pub returns-clause-steps : goal.returns-clause-steps

@@ -1,0 +1,37 @@
+-- Lengths that can be written, and items whose places can be.
+use Rattle.std.proofs.Common.{◌≡◌, ◌≤◌, ℤ, pos, negsuc, neg_ℤ, Bool, true, false, ◌&&◌, is_some, refl, w64, arith}
+use Rattle.std.proofs.lemmas.Int.{ints}
+use Rattle.std.specs.Int.Signed.{le_z}
+use Rattle.std.specs.Prelude.{FitsSigned, unsigned_abs}
+use Rattle.board_items.specs.declared.item.Item.{Item}
+use Rattle.board_items.specs.Boards.{PlainBoard, is_near, is_on_board, is_admitted, name_of, has_layers_of}
+
+-- a length that can be written stands for itself
+pub fits_far : (z : ℤ) → unsigned_abs z ≤ 1000000000000 → FitsSigned w64 z
+fits_far (pos n) h = record { sfits = omega (arith, ints) }
+fits_far (negsuc n) h = record { sfits = omega (arith, ints) }
+
+near : (z : ℤ) → is_near z ≡ true → unsigned_abs z ≤ 1000000000000
+near z h = by (le_z (neg_ℤ (pos 500000000)) z) (le_z z (pos 500000000)) refl refl h
+  where
+    by : (a b : Bool) → le_z (neg_ℤ (pos 500000000)) z ≡ a → le_z z (pos 500000000) ≡ b → a && b ≡ true → unsigned_abs z ≤ 1000000000000
+    by true true k l h = omega (arith, ints, k, l)
+    by true false k l h = absurd cc
+    by false b k l h = absurd cc
+
+both : (a b : Bool) → a && b ≡ true → (a ≡ true) × (b ≡ true)
+both true true h = (refl, refl)
+both true false h = absurd cc
+both false b h = absurd cc
+
+-- the place of an item on the board
+pub x_near : (item : Item) → is_on_board item ≡ true → unsigned_abs item.x ≤ 1000000000000
+x_near item h = near item.x (both (is_near item.x) (is_near item.y) h).0
+
+pub y_near : (item : Item) → is_on_board item ≡ true → unsigned_abs item.y ≤ 1000000000000
+y_near item h = near item.y (both (is_near item.x) (is_near item.y) h).1
+
+pub on_board : (board : PlainBoard) (item : Item) → is_admitted board item ≡ true → is_on_board item ≡ true
+on_board board item h =
+    let has = is_some (name_of board item.net) in
+    (both (is_on_board item) has (both (is_on_board item && has) (has_layers_of board item) h).0).0

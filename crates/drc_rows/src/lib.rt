@@ -1,0 +1,12 @@
+//! The lines of a report, written to a sink one at a time. No call takes memory.
+#![tactic(auto)]
+
+mod items;
+mod line;
+mod millimetres;
+mod pieces;
+mod report;
+#[cfg(test)]
+mod tests;
+
+pub use report::{write_line, write_rows};

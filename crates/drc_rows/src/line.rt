@@ -1,0 +1,68 @@
+//! A line that is put together on the stack and goes out in one write.
+
+ghost use Rattle.std.specs.Prelude.{◌≡◌, ◌≤◌, ◌+◌, ◌++◌, ℕ, List, [], length, take};
+ghost use Rattle.drc_io.specs.Sinks.{Writes};
+ghost use Rattle.drc_rows.specs.Line.{Puts, escaped};
+
+use drc_io::{Failed, Sink, put_all};
+use std::marker::Model;
+
+/// The bytes that a line has room for. What is longer goes out in several writes.
+const ROOM: usize = 512;
+
+/// What was put together and has not gone out yet: at most [`ROOM`] bytes.
+#[derive(Drop)]
+pub(crate) struct Line {
+    bytes: [u8; ROOM],
+    len: usize,
+}
+
+impl Model for Line {
+    ghost Value = { List ℕ };
+
+    ghost view = { λ l. take l.len l.bytes };
+
+    ghost invariant = { λ l. l.len ≤ 512 };
+}
+
+impl Line {
+    pub fn new() -> Line
+        ensures { result ≡ [] }
+    {
+        Line {
+            bytes: [0; ROOM],
+            len: 0,
+        }
+    }
+
+    /// Puts a piece at the end. Where there is no room, what came before it goes out first.
+    pub fn push<W: Sink>(&mut self, out: &mut W, piece: &[u8]) -> Result<(), Failed>
+        ensures { Puts (W.written out.old) (W.written out.new) (W.faults out.old) (W.faults out.new) self.old piece.now self.new result }
+    {
+        if piece.len() > ROOM - self.len {
+            put_all(out, &self.bytes[..self.len])?;
+            self.len = 0;
+            if piece.len() > ROOM {
+                return put_all(out, piece);
+            }
+        }
+        place(&mut self.bytes, self.len, piece);
+        self.len += piece.len();
+        Ok(())
+    }
+
+    /// Lets all that is left go out.
+    pub fn end<W: Sink>(self, out: &mut W) -> Result<(), Failed>
+        ensures { Writes (W.written out.old) (W.written out.new) (W.faults out.old) (W.faults out.new) self result }
+    {
+        put_all(out, &self.bytes[..self.len])
+    }
+}
+
+/// Copies the piece into the bytes from a place on.
+fn place(bytes: &mut [u8], at: usize, piece: &[u8])
+    requires { at + length piece.now ≤ length bytes.old }
+    ensures { take (at + length piece.now) bytes.new ≡ take at bytes.old ++ piece.now }
+{
+    bytes[at..at + piece.len()].copy_from_slice(piece);
+}

@@ -1,0 +1,15 @@
+//! Laws of what texts say. The functions do nothing: each clause holds for all texts.
+
+ghost use Rattle.std.specs.Prelude.{◌≡◌, ℕ, List, Result};
+ghost use Rattle.board_items.specs.declared.errors.BoardError.{BoardError};
+ghost use Rattle.board_items.specs.Boards.{PlainBoard};
+ghost use Rattle.pcb_read.specs.BoardText.{Says};
+
+use sexpr_read::laws::one_tree;
+
+/// No text says two things.
+pub fn one_reading()
+    ensures { (text : List ℕ) (a b : Result PlainBoard BoardError) → Says text a → Says text b → a ≡ b }
+{
+    one_tree();
+}

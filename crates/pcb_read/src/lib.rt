@@ -1,0 +1,46 @@
+//! Boards of KiCad 7, read from their text.
+//!
+//! The format is that of the KiCad developer documentation, version 20221018. Lengths are millimetres in the text and
+//! whole nanometres on the board, what is finer cut off.
+#![tactic(auto)]
+
+ghost use Rattle.std.specs.Prelude.{◌≡◌, ◌≤◌, ◌⊎◌, ℕ, List, length, MatchResult, Result, Ok, Err};
+ghost use Rattle.board_items.specs.declared.errors.BoardError.{BoardError};
+ghost use Rattle.board_items.specs.Boards.{PlainBoard};
+ghost use Rattle.pcb_read.specs.BoardText.{Says};
+
+mod copper;
+mod elements;
+pub mod laws;
+mod nets;
+mod on_board;
+#[cfg(test)]
+mod refusal_tests;
+mod root;
+#[cfg(test)]
+mod tests;
+mod tracks;
+
+use crate::laws::one_reading;
+use crate::root::board_of;
+use board_items::{Board, BoardError};
+use sexpr_read::{TextError, parse_one};
+use std::alloc::Global;
+
+/// The board of a text of at most 33,554,432 bytes, or the first reason in the text why there is none, with its place.
+///
+/// All nets and copper layers that the text lists are kept, and its tracks and vias. Graphics, texts, dimensions,
+/// footprints and zones are refused as `NotBuilt`, arcs as `Arc`, and other lists are passed over. The reasons are those
+/// of [`BoardError`], exactly where the board of a tree (`specs/BoardOf`) has them; want of memory alone is free.
+pub fn read_board(alloc: Global, text: &[u8]) -> Result<Board, BoardError>
+    requires { length text.now ≤ 33_554_432 }
+    ensures says { MatchResult result (λ board. Says text.now (Ok board)) (λ e. (e ≡ BoardError.OutOfMemory) ⊎ Says text.now (Err e)) }
+    ensures only { (answer : Result PlainBoard BoardError) → Says text.now answer → MatchResult result (λ board. answer ≡ Ok board) (λ e. (e ≡ BoardError.OutOfMemory) ⊎ (answer ≡ Err e)) }
+{
+    one_reading();
+    match parse_one(alloc, text) {
+        Ok(doc) => board_of(alloc, doc.root()),
+        Err(TextError::OutOfMemory) => Err(BoardError::OutOfMemory),
+        Err(error) => Err(BoardError::Text(error)),
+    }
+}

@@ -1,0 +1,10 @@
+pub mod Scalars
+pub mod SharedLayers
+pub mod Chosen
+pub mod ClearLists
+pub mod Gaps
+pub mod FirstLayers
+pub mod Pairs
+pub mod RisingIds
+pub mod RowLists
+pub mod Stages

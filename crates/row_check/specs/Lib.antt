@@ -1,0 +1,5 @@
+pub mod Copper
+pub mod Clear
+pub mod Violations
+pub mod Rows
+pub mod RowsBelow
