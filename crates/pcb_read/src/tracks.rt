@@ -11,7 +11,7 @@ ghost use Rattle.pcb_read.specs.Nodes.{Gives};
 ghost use Rattle.pcb_read.specs.Tracks.{track_of, drill_in, hole_through, has_word, via_of};
 
 use crate::copper::{layer_of, layers_through};
-use crate::elements::{element, size_in, size_of, first_atom, name_in, pair_of, place};
+use crate::elements::{element, first_atom, name_in, pair_of, place, size_in, size_of};
 use crate::nets::net_in;
 use crate::on_board::{point_of, strip_between};
 use board_items::{Board, BoardError, Hole, Item, LayerSet, Nm, Part, Parts, What};
