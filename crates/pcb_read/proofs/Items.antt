@@ -14,14 +14,14 @@ use Rattle.board_items.specs.Parts.{hole_parts}
 use Rattle.board_items.specs.declared.item.Item.{Item}
 use Rattle.board_items.specs.Boards.{PlainBoard, name_of, is_near, is_on_board, has_layers_of, is_admitted}
 use Rattle.pcb_read.specs.OnBoard.{point_by, point_of, strip_between}
-use Rattle.pcb_read.specs.Elements.{place, pair_of, extent_of, name_in}
-use Rattle.pcb_read.specs.CopperNames.{layer_of, span_of}
+use Rattle.pcb_read.specs.Elements.{place, pair_of, size_of, name_in}
+use Rattle.pcb_read.specs.CopperNames.{layer_of, layers_through}
 use Rattle.pcb_read.specs.Nets.{net_in}
 use Rattle.pcb_read.specs.Tracks.{track_of, drill_in, hole_through, has_word, via_of}
 
 module _ (board : PlainBoard) (unit : ℕ) (tree : Tree) (x y end_x end_y width : ℤ) (layer net : ℕ)
     (starts : Ok (x, y) ≡ pair_of (codes "start") tree) (ends : Ok (end_x, end_y) ≡ pair_of (codes "end") tree)
-    (wide : Ok width ≡ extent_of (codes "width") tree) (on : Ok layer ≡ layer_of board.copper tree) (of : Ok net ≡ net_in board tree) where
+    (wide : Ok width ≡ size_of (codes "width") tree) (on : Ok layer ≡ layer_of board.copper tree) (of : Ok net ≡ net_in board tree) where
   pub track_off : None ≡ strip_between (point_of x y) (point_of end_x end_y) width → track_of board unit tree ≡ Err (OutOfBoard (place tree))
   unfolding track_of
   track_off none = rw (← starts, ← ends, ← wide, ← on, ← of, ← none) refl
@@ -42,8 +42,8 @@ module _ (board : PlainBoard) (unit : ℕ) (tree : Tree) (x y end_x end_y width 
   track_is shape some = rw (← starts, ← ends, ← wide, ← on, ← of, ← some) refl
 
 module _ (board : PlainBoard) (unit : ℕ) (tree : Tree) (x y size : ℤ) (drill : Option ℤ) (layers : LayerSet) (net : ℕ)
-    (at : Ok (x, y) ≡ pair_of (codes "at") tree) (wide : Ok size ≡ extent_of (codes "size") tree) (drilled : Ok drill ≡ drill_in tree)
-    (on : Ok layers ≡ span_of board.copper tree) (of : Ok net ≡ net_in board tree) where
+    (at : Ok (x, y) ≡ pair_of (codes "at") tree) (wide : Ok size ≡ size_of (codes "size") tree) (drilled : Ok drill ≡ drill_in tree)
+    (on : Ok layers ≡ layers_through board.copper tree) (of : Ok net ≡ net_in board tree) where
   pub via_off : None ≡ strip_between (point_of x y) (point_of x y) size → via_of board unit tree ≡ Err (OutOfBoard (place tree))
   unfolding via_of
   via_off none = rw (← at, ← wide, ← drilled, ← on, ← of, ← none) refl

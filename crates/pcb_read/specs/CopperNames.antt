@@ -47,8 +47,8 @@ layer_of copper tree = do
   copper_in copper atom
 
 -- the layers of the board from the one to the other of (layers NAME NAME), whichever is above
-unfoldable pub span_of : LayerSet → Tree → Result LayerSet BoardError
-span_of copper tree = do
+unfoldable pub layers_through : LayerSet → Tree → Result LayerSet BoardError
+layers_through copper tree = do
   list ← element_of (codes "layers") tree
   first ← atom_of 1 list
   one ← copper_in copper first

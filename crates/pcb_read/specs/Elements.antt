@@ -72,9 +72,9 @@ length_in tree = do
   text ← needed (BadNumber (place tree)) (content tree)
   read_as (BadNumber (place tree)) (mm_cut_answer text)
 
--- a length that is not negative
-unfoldable pub extent_in : Tree → Result ℤ BoardError
-extent_in tree = do
+-- a size: a length that is not negative
+unfoldable pub size_in : Tree → Result ℤ BoardError
+size_in tree = do
   n ← length_in tree
   if int_le (pos 0) n then Ok n else Err (BadNumber (place tree))
 
@@ -94,12 +94,12 @@ pair_of head tree = do
   y ← length_in second
   Ok (x, y)
 
--- the one length of (HEAD N), which is not negative
-unfoldable pub extent_of : List ℕ → Tree → Result ℤ BoardError
-extent_of head tree = do
+-- the one size of (HEAD N)
+unfoldable pub size_of : List ℕ → Tree → Result ℤ BoardError
+size_of head tree = do
   list ← element_of head tree
   atom ← atom_of 1 list
-  extent_in atom
+  size_in atom
 
 abbrev pub text_in : Result Tree BoardError → List ℕ
 text_in (Ok atom) = text_of atom

@@ -12,8 +12,8 @@ use Rattle.board_items.specs.declared.item.What.TheVariants.{Track, Via}
 use Rattle.board_items.specs.Layers.{single_layer}
 use Rattle.board_items.specs.Boards.{PlainBoard}
 use Rattle.pcb_read.specs.OnBoard.{point_of, strip_between}
-use Rattle.pcb_read.specs.Elements.{◌>>=◌, needed, place, is_text, element, atom_of, extent_in, pair_of, extent_of, name_in}
-use Rattle.pcb_read.specs.CopperNames.{layer_of, span_of}
+use Rattle.pcb_read.specs.Elements.{◌>>=◌, needed, place, is_text, element, atom_of, size_in, pair_of, size_of, name_in}
+use Rattle.pcb_read.specs.CopperNames.{layer_of, layers_through}
 use Rattle.pcb_read.specs.Nets.{net_in}
 
 -- (segment (start X Y) (end X Y) (width W) (layer NAME) (net N) (tstamp NAME)): a line with half the width around it
@@ -21,7 +21,7 @@ unfoldable pub track_of : PlainBoard → ℕ → Tree → Result Item BoardError
 track_of board unit tree = do
   start ← pair_of (codes "start") tree
   end ← pair_of (codes "end") tree
-  width ← extent_of (codes "width") tree
+  width ← size_of (codes "width") tree
   layer ← layer_of board.copper tree
   net ← net_in board tree
   shape ← needed (OutOfBoard (place tree)) (strip_between (point_of start.0 start.1) (point_of end.0 end.1) width)
@@ -43,7 +43,7 @@ abbrev pub drill_among : Option Tree → Result (Option ℤ) BoardError
 drill_among None = Ok None
 drill_among (Some list) = do
   atom ← atom_of 1 list
-  drill ← extent_in atom
+  drill ← size_in atom
   Ok (Some drill)
 
 -- the drill of (drill D), if there is one
@@ -65,9 +65,9 @@ has_word word tree = list_any (λ t. is_text t word) (parts tree)
 unfoldable pub via_of : PlainBoard → ℕ → Tree → Result Item BoardError
 via_of board unit tree = do
   at ← pair_of (codes "at") tree
-  size ← extent_of (codes "size") tree
+  size ← size_of (codes "size") tree
   drill ← drill_in tree
-  layers ← span_of board.copper tree
+  layers ← layers_through board.copper tree
   net ← net_in board tree
   shape ← needed (OutOfBoard (place tree)) (strip_between (point_of at.0 at.1) (point_of at.0 at.1) size)
   hole ← hole_through tree (point_of at.0 at.1) layers drill

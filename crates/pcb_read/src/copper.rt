@@ -4,7 +4,7 @@ ghost use Rattle.std.specs.Prelude.{◌≡◌, ◌<◌, IfOk, IfSome, IsTrue};
 ghost use Rattle.board_items.specs.Layers.{has_layer, is_within};
 ghost use Rattle.sexpr_read.specs.Tree.{parts};
 ghost use Rattle.sexpr_read.specs.Views.{tree_of, trees_left};
-ghost use Rattle.pcb_read.specs.CopperNames.{layer_number, layers_in, with_layer, copper_in, layer_of, span_of};
+ghost use Rattle.pcb_read.specs.CopperNames.{layer_number, layers_in, with_layer, copper_in, layer_of, layers_through};
 
 use crate::elements::{element_of, first_atom, place, second_atom};
 use board_items::{BoardError, LayerSet, layer_name};
@@ -79,9 +79,9 @@ pub(crate) fn layer_of(copper: LayerSet, node: Node<'_, '_>) -> Result<u32, Boar
 }
 
 /// The layers of the board from the one to the other of `(layers NAME NAME)`, whichever is above.
-#[tactic(auto, unfolding(crate::specs::CopperNames::span_of))]
-pub(crate) fn span_of(copper: LayerSet, node: Node<'_, '_>) -> Result<LayerSet, BoardError>
-    ensures layers { result ≡ span_of copper (tree_of node.entry) }
+#[tactic(auto, unfolding(crate::specs::CopperNames::layers_through))]
+pub(crate) fn layers_through(copper: LayerSet, node: Node<'_, '_>) -> Result<LayerSet, BoardError>
+    ensures layers { result ≡ layers_through copper (tree_of node.entry) }
     ensures on { IfOk result (λ layers. IsTrue (is_within layers copper)) }
 {
     let list = element_of(node, b"layers")?;

@@ -2,7 +2,7 @@
 
 ghost use Rattle.std.specs.Prelude.{◌≡◌, ℕ, IfErr, IfOk, option_map, OnErr};
 ghost use Rattle.sexpr_read.specs.Views.{tree_of, trees_left};
-ghost use Rattle.pcb_read.specs.Elements.{place, text_of, has_head, element, element_of, atom_of, length_in, extent_in, number_in, pair_of, extent_of, name_in};
+ghost use Rattle.pcb_read.specs.Elements.{place, text_of, has_head, element, element_of, atom_of, length_in, size_in, number_in, pair_of, size_of, name_in};
 ghost use Rattle.pcb_read.specs.Nodes.{tree_in};
 
 use board_items::{BoardError, Nm};
@@ -101,7 +101,7 @@ pub(crate) fn second_atom<'d, 't>(list: Node<'d, 't>) -> Result<Node<'d, 't>, Bo
 }
 
 /// What an atom stands for, as a name.
-pub(crate) fn name_of(alloc: Global, atom: Node<'_, '_>) -> Result<Name, AllocError>
+pub(crate) fn name_from(alloc: Global, atom: Node<'_, '_>) -> Result<Name, AllocError>
     ensures { IfOk result (λ name. name ≡ text_of (tree_of atom.entry)) }
 {
     let mut bytes = Vec::new(alloc);
@@ -118,7 +118,7 @@ pub(crate) fn name_in(alloc: Global, node: Node<'_, '_>) -> Result<Name, AllocEr
         return Ok(Name::of(Vec::new(alloc)));
     };
     match first_atom(list) {
-        Ok(atom) => name_of(alloc, atom),
+        Ok(atom) => name_from(alloc, atom),
         Err(_) => Ok(Name::of(Vec::new(alloc))),
     }
 }
@@ -139,10 +139,10 @@ fn length_in(atom: Node<'_, '_>) -> Result<Nm, BoardError>
     }
 }
 
-/// A length that is not negative.
-#[tactic(auto, unfolding(crate::specs::Elements::extent_in))]
-pub(crate) fn extent_in(atom: Node<'_, '_>) -> Result<Nm, BoardError>
-    ensures { result ≡ extent_in (tree_of atom.entry) }
+/// A size: a length that is not negative.
+#[tactic(auto, unfolding(crate::specs::Elements::size_in))]
+pub(crate) fn size_in(atom: Node<'_, '_>) -> Result<Nm, BoardError>
+    ensures { result ≡ size_in (tree_of atom.entry) }
 {
     let length = length_in(atom)?;
     if 0 <= length {
@@ -177,11 +177,11 @@ pub(crate) fn pair_of(node: Node<'_, '_>, head: &[u8]) -> Result<(Nm, Nm), Board
     Ok((x, y))
 }
 
-/// The one length of `(HEAD N)`, which is not negative.
-#[tactic(auto, unfolding(crate::specs::Elements::extent_of))]
-pub(crate) fn extent_of(node: Node<'_, '_>, head: &[u8]) -> Result<Nm, BoardError>
-    ensures { result ≡ extent_of head.now (tree_of node.entry) }
+/// The one size of `(HEAD N)`.
+#[tactic(auto, unfolding(crate::specs::Elements::size_of))]
+pub(crate) fn size_of(node: Node<'_, '_>, head: &[u8]) -> Result<Nm, BoardError>
+    ensures { result ≡ size_of head.now (tree_of node.entry) }
 {
     let list = element_of(node, head)?;
-    extent_in(first_atom(list)?)
+    size_in(first_atom(list)?)
 }

@@ -6,7 +6,7 @@ ghost use Rattle.sexpr_read.specs.Views.{tree_of};
 ghost use Rattle.pcb_read.specs.Nodes.{Leaves};
 ghost use Rattle.pcb_read.specs.Nets.{with_net_of, declared_in, net_in};
 
-use crate::elements::{element, first_atom, name_of, number_in, place, second_atom};
+use crate::elements::{element, first_atom, name_from, number_in, place, second_atom};
 use board_items::{Board, BoardError};
 use sexpr_read::Node;
 use std::alloc::Global;
@@ -22,7 +22,7 @@ pub(crate) fn read_net(
     ensures copper { OnOk result (board.new.copper ≡ board.old.copper) }
 {
     let number = number_in(first_atom(list)?)?;
-    let name = name_of(alloc, second_atom(list)?)?;
+    let name = name_from(alloc, second_atom(list)?)?;
     board.declare(number, name)?;
     Ok(())
 }

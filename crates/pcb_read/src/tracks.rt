@@ -10,8 +10,8 @@ ghost use Rattle.sexpr_read.specs.Views.{tree_of, trees_left};
 ghost use Rattle.pcb_read.specs.Nodes.{Gives};
 ghost use Rattle.pcb_read.specs.Tracks.{track_of, drill_in, hole_through, has_word, via_of};
 
-use crate::copper::{layer_of, span_of};
-use crate::elements::{element, extent_in, extent_of, first_atom, name_in, pair_of, place};
+use crate::copper::{layer_of, layers_through};
+use crate::elements::{element, first_atom, name_in, pair_of, place, size_in, size_of};
 use crate::nets::net_in;
 use crate::on_board::{point_of, strip_between};
 use board_items::{Board, BoardError, Hole, Item, LayerSet, Nm, Part, Parts, What};
@@ -43,7 +43,7 @@ pub(crate) fn track_of(
 {
     let (x, y) = pair_of(node, b"start")?;
     let (end_x, end_y) = pair_of(node, b"end")?;
-    let width = extent_of(node, b"width")?;
+    let width = size_of(node, b"width")?;
     let layer = layer_of(board.copper(), node)?;
     let net = net_in(board, node)?;
     let Some(shape) = strip_between(point_of(x, y), point_of(end_x, end_y), width) else {
@@ -71,7 +71,7 @@ fn drill_in(node: Node<'_, '_>) -> Result<Option<Nm>, BoardError>
 {
     match element(node, b"drill") {
         None => Ok(None),
-        Some(list) => Ok(Some(extent_in(first_atom(list)?)?)),
+        Some(list) => Ok(Some(size_in(first_atom(list)?)?)),
     }
 }
 
@@ -125,9 +125,9 @@ pub(crate) fn via_of(
     ensures admitted { is_some (name_of board.now 0) ≡ true → IfOk result (λ item. is_admitted board.now item ≡ true) }
 {
     let (x, y) = pair_of(node, b"at")?;
-    let size = extent_of(node, b"size")?;
+    let size = size_of(node, b"size")?;
     let drill = drill_in(node)?;
-    let layers = span_of(board.copper(), node)?;
+    let layers = layers_through(board.copper(), node)?;
     let net = net_in(board, node)?;
     let at = point_of(x, y);
     let Some(shape) = strip_between(at, at, size) else {
