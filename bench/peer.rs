@@ -125,33 +125,72 @@ fn seg_within(a: Seg, b: Seg, d: i64) -> bool {
             || point_within(b.b, a, d))
 }
 
+// The boxes of the runs of 8, 64, 512 and 4096 edges, of a polygon of more than 32 corners.
 struct Poly {
     corners: Vec<Point>,
+    rows: Vec<Vec<[i32; 4]>>,
     bounds: Bounds,
+}
+
+const SIZES: [usize; 4] = [8, 64, 512, 4096];
+
+fn row(corners: &[Point], size: usize) -> Vec<[i32; 4]> {
+    let mut from = last(corners);
+    let mut row = Vec::new();
+    for part in corners.chunks(size) {
+        let b = path_box(from, part);
+        row.push([b.left as i32, b.top as i32, b.right as i32, b.bottom as i32]);
+        from = last(part);
+    }
+    row
 }
 
 impl Poly {
     fn of(corners: Vec<Point>) -> Poly {
         let bounds = path_box(corners[0], &corners);
-        Poly { corners, bounds }
+        Poly { corners, rows: Vec::new(), bounds }
+    }
+
+    fn indexed(corners: Vec<Point>) -> Poly {
+        if corners.len() <= 32 {
+            return Poly::of(corners);
+        }
+        let rows = SIZES.iter().map(|size| row(&corners, *size)).collect();
+        Poly { rows, ..Poly::of(corners) }
+    }
+
+    fn run_box(&self, low: usize, k: usize) -> Option<Bounds> {
+        if low % SIZES[k] != 0 {
+            return None;
+        }
+        let b = self.rows.get(k)?.get(low / SIZES[k])?;
+        Some(Bounds { left: b[0] as i64, top: b[1] as i64, right: b[2] as i64, bottom: b[3] as i64 })
     }
 }
 
 fn path_box(from: Point, part: &[Point]) -> Bounds {
-    let mut bounds = Bounds::at(from);
-    for p in part {
-        bounds = Bounds {
-            left: bounds.left.min(p.x),
-            top: bounds.top.min(p.y),
-            right: bounds.right.max(p.x),
-            bottom: bounds.bottom.max(p.y),
+    let mut b = Bounds::at(from);
+    for c in part {
+        b = Bounds {
+            left: b.left.min(c.x),
+            top: b.top.min(c.y),
+            right: b.right.max(c.x),
+            bottom: b.bottom.max(c.y),
         };
     }
-    bounds
+    b
 }
 
 fn last(corners: &[Point]) -> Point {
     corners[corners.len() - 1]
+}
+
+fn before(corners: &[Point], low: usize) -> Point {
+    if low == 0 { last(corners) } else { corners[low - 1] }
+}
+
+fn end(low: usize, size: usize, all: usize) -> usize {
+    if all - low > size { low + size } else { all }
 }
 
 fn edge_apart(e: Seg, s: Seg, near: Bounds, d: i64) -> bool {
@@ -186,8 +225,59 @@ fn path_within(from: Point, part: &[Point], s: Seg, d: i64) -> bool {
     false
 }
 
+fn clear_end(poly: &Poly, low: usize, near: Bounds, d: i64) -> usize {
+    for k in [3, 2, 1, 0] {
+        if let Some(b) = poly.run_box(low, k) {
+            if b.is_clear(near, d) {
+                return end(low, SIZES[k], poly.corners.len());
+            }
+        }
+    }
+    low
+}
+
+fn outline_apart(poly: &Poly, s: Seg, d: i64) -> bool {
+    if poly.rows.is_empty() {
+        return path_apart(last(&poly.corners), &poly.corners, s, d);
+    }
+    let near = Bounds::of(s);
+    let corners = &poly.corners;
+    let mut low = 0;
+    while low < corners.len() {
+        let mut high = clear_end(poly, low, near, d);
+        if high == low {
+            high = end(low, 8, corners.len());
+            if !path_apart(before(corners, low), &corners[low..high], s, d) {
+                return false;
+            }
+        }
+        low = high;
+    }
+    true
+}
+
+fn outline_within(poly: &Poly, s: Seg, d: i64) -> bool {
+    if poly.rows.is_empty() {
+        return path_within(last(&poly.corners), &poly.corners, s, d);
+    }
+    let near = Bounds::of(s);
+    let corners = &poly.corners;
+    let mut low = 0;
+    while low < corners.len() {
+        let mut high = clear_end(poly, low, near, d + 1);
+        if high == low {
+            high = end(low, 8, corners.len());
+            if path_within(before(corners, low), &corners[low..high], s, d) {
+                return true;
+            }
+        }
+        low = high;
+    }
+    false
+}
+
 fn side_of(e: Seg, p: Point) -> i64 {
-    cross(between(e.a, e.b), between(e.a, p))
+    (e.b.x - e.a.x) * (p.y - e.a.y) - (e.b.y - e.a.y) * (p.x - e.a.x)
 }
 
 fn passes_right(p: Point, e: Seg) -> bool {
@@ -198,23 +288,84 @@ fn passes_right(p: Point, e: Seg) -> bool {
     }
 }
 
-fn is_enclosed(corners: &[Point], p: Point) -> bool {
-    let mut from = last(corners);
+fn path_odd(from: Point, part: &[Point], p: Point) -> bool {
+    let mut at = from;
     let mut odd = false;
-    for c in corners {
-        if passes_right(p, Seg { a: from, b: *c }) {
+    for c in part {
+        if passes_right(p, Seg { a: at, b: *c }) {
             odd = !odd;
         }
-        from = *c;
+        at = *c;
     }
     odd
 }
 
-fn path_outline_apart(from: Point, part: &[Point], near: Bounds, others: &[Point], d: i64) -> bool {
-    let mut at = last(others);
-    for c in others {
-        let s = Seg { a: at, b: *c };
-        if !near.is_clear(Bounds::of(s), d) && !path_apart(from, part, s, d) {
+fn told_by(b: Bounds, corners: &[Point], low: usize, high: usize, p: Point) -> Option<bool> {
+    if p.y < b.top || b.bottom < p.y || b.right < p.x {
+        Some(false)
+    } else if p.x < b.left {
+        Some((before(corners, low).y <= p.y) != (corners[high - 1].y <= p.y))
+    } else {
+        None
+    }
+}
+
+fn step(poly: &Poly, low: usize, p: Point) -> (usize, bool) {
+    let corners = &poly.corners;
+    for k in [3, 2, 1, 0] {
+        if let Some(b) = poly.run_box(low, k) {
+            let high = end(low, SIZES[k], corners.len());
+            if let Some(odd) = told_by(b, corners, low, high, p) {
+                return (high, odd);
+            }
+        }
+    }
+    let high = end(low, 8, corners.len());
+    (high, path_odd(before(corners, low), &corners[low..high], p))
+}
+
+fn is_enclosed(poly: &Poly, p: Point) -> bool {
+    if poly.rows.is_empty() {
+        return path_odd(last(&poly.corners), &poly.corners, p);
+    }
+    let mut low = 0;
+    let mut odd = false;
+    while low < poly.corners.len() {
+        let next = step(poly, low, p);
+        odd = odd != next.1;
+        low = next.0;
+    }
+    odd
+}
+
+#[derive(Clone, Copy)]
+struct Part {
+    low: usize,
+    high: usize,
+    size: usize,
+    bounds: Bounds,
+}
+
+fn part_of(poly: &Poly, low: usize, high: usize, size: usize) -> Part {
+    let kept = SIZES.iter().position(|s| *s == size).and_then(|k| poly.run_box(low, k));
+    let bounds = match kept {
+        Some(bounds) => bounds,
+        None => path_box(before(&poly.corners, low), &poly.corners[low..high]),
+    };
+    Part { low, high, size, bounds }
+}
+
+fn whole(poly: &Poly) -> Part {
+    let high = poly.corners.len();
+    let size = *[8, 64, 512, 4096, 32768].iter().find(|s| high <= **s).unwrap_or(&262_144);
+    Part { low: 0, high, size, bounds: poly.bounds }
+}
+
+fn paths_apart(from: Point, part: &[Point], far: Bounds, other: Point, others: &[Point], d: i64) -> bool {
+    let mut at = from;
+    for c in part {
+        let e = Seg { a: at, b: *c };
+        if !(far.is_clear(Bounds::of(e), d) || path_apart(other, others, e, d)) {
             return false;
         }
         at = *c;
@@ -222,23 +373,41 @@ fn path_outline_apart(from: Point, part: &[Point], near: Bounds, others: &[Point
     true
 }
 
-fn runs_apart(corners: &[Point], far: Bounds, others: &[Point], d: i64) -> bool {
-    let mut from = last(corners);
-    for part in corners.chunks(256) {
-        let near = path_box(from, part);
-        if !near.is_clear(far, d) && !path_outline_apart(from, part, near, others, d) {
-            return false;
+fn parts_apart(a: &Poly, p: Part, b: &Poly, q: Part, d: i64) -> bool {
+    if q.bounds.is_clear(p.bounds, d) {
+        return true;
+    }
+    if p.size <= 8 && q.size <= 8 {
+        let (part, others) = (&a.corners[p.low..p.high], &b.corners[q.low..q.high]);
+        return paths_apart(before(&a.corners, p.low), part, q.bounds, before(&b.corners, q.low), others, d);
+    }
+    if p.size >= q.size {
+        let mut low = p.low;
+        while low < p.high {
+            let high = end(low, p.size / 8, p.high);
+            if !parts_apart(a, part_of(a, low, high, p.size / 8), b, q, d) {
+                return false;
+            }
+            low = high;
         }
-        from = last(part);
+    } else {
+        let mut low = q.low;
+        while low < q.high {
+            let high = end(low, q.size / 8, q.high);
+            if !parts_apart(a, p, b, part_of(b, low, high, q.size / 8), d) {
+                return false;
+            }
+            low = high;
+        }
     }
     true
 }
 
-fn path_outline_within(from: Point, part: &[Point], near: Bounds, others: &[Point], d: i64) -> bool {
-    let mut at = last(others);
-    for c in others {
-        let s = Seg { a: at, b: *c };
-        if !near.is_clear(Bounds::of(s), d + 1) && path_within(from, part, s, d) {
+fn paths_within(from: Point, part: &[Point], far: Bounds, other: Point, others: &[Point], d: i64) -> bool {
+    let mut at = from;
+    for c in part {
+        let e = Seg { a: at, b: *c };
+        if !far.is_clear(Bounds::of(e), d + 1) && path_within(other, others, e, d) {
             return true;
         }
         at = *c;
@@ -246,44 +415,60 @@ fn path_outline_within(from: Point, part: &[Point], near: Bounds, others: &[Poin
     false
 }
 
-fn runs_within(corners: &[Point], far: Bounds, others: &[Point], d: i64) -> bool {
-    let mut from = last(corners);
-    for part in corners.chunks(256) {
-        let near = path_box(from, part);
-        if !near.is_clear(far, d + 1) && path_outline_within(from, part, near, others, d) {
-            return true;
+fn parts_within(a: &Poly, p: Part, b: &Poly, q: Part, d: i64) -> bool {
+    if q.bounds.is_clear(p.bounds, d + 1) {
+        return false;
+    }
+    if p.size <= 8 && q.size <= 8 {
+        let (part, others) = (&a.corners[p.low..p.high], &b.corners[q.low..q.high]);
+        return paths_within(before(&a.corners, p.low), part, q.bounds, before(&b.corners, q.low), others, d);
+    }
+    if p.size >= q.size {
+        let mut low = p.low;
+        while low < p.high {
+            let high = end(low, p.size / 8, p.high);
+            if parts_within(a, part_of(a, low, high, p.size / 8), b, q, d) {
+                return true;
+            }
+            low = high;
         }
-        from = last(part);
+    } else {
+        let mut low = q.low;
+        while low < q.high {
+            let high = end(low, q.size / 8, q.high);
+            if parts_within(a, p, b, part_of(b, low, high, q.size / 8), d) {
+                return true;
+            }
+            low = high;
+        }
     }
     false
 }
 
 fn either_inside(a: &Poly, b: &Poly) -> bool {
-    is_enclosed(&b.corners, last(&a.corners)) || is_enclosed(&a.corners, last(&b.corners))
+    is_enclosed(b, last(&a.corners)) || is_enclosed(a, last(&b.corners))
 }
 
 fn poly_seg_apart(poly: &Poly, s: Seg, d: i64) -> bool {
     poly.bounds.is_clear(Bounds::of(s), d)
         || d == 0
-        || !is_enclosed(&poly.corners, s.a)
-            && path_apart(last(&poly.corners), &poly.corners, s, d)
+        || !is_enclosed(poly, s.a) && outline_apart(poly, s, d)
 }
 
 fn poly_seg_within(poly: &Poly, s: Seg, d: i64) -> bool {
     !poly.bounds.is_clear(Bounds::of(s), d + 1)
-        && (is_enclosed(&poly.corners, s.a)
-            || path_within(last(&poly.corners), &poly.corners, s, d))
+        && (is_enclosed(poly, s.a) || outline_within(poly, s, d))
 }
 
 fn poly_apart(a: &Poly, b: &Poly, d: i64) -> bool {
     a.bounds.is_clear(b.bounds, d)
         || d == 0
-        || !either_inside(a, b) && runs_apart(&b.corners, a.bounds, &a.corners, d)
+        || !either_inside(a, b) && parts_apart(a, whole(a), b, whole(b), d)
 }
 
 fn poly_within(a: &Poly, b: &Poly, d: i64) -> bool {
     !a.bounds.is_clear(b.bounds, d + 1)
-        && (either_inside(a, b) || runs_within(&b.corners, a.bounds, &a.corners, d))
+        && (either_inside(a, b) || parts_within(a, whole(a), b, whole(b), d))
 }
 
 struct Numbers {
@@ -367,6 +552,20 @@ fn second(corners: u32) -> Poly {
     comb.polygon()
 }
 
+fn twin(corners: u32) -> Poly {
+    let root = i64::from(corners / 100) * RISE + 2_000_000;
+    let comb = Comb {
+        left: -1_600_000,
+        foot: root + 2_000_000,
+        root,
+        rise: -RISE,
+        width: 1_200_000,
+        teeth: 51,
+        steps: i64::from(corners / 100),
+    };
+    comb.polygon()
+}
+
 impl Comb {
     fn draw_tooth(&self, x: i64, corners: &mut Vec<Point>) {
         for k in 0..2 * self.steps {
@@ -390,7 +589,7 @@ impl Comb {
         corners.push(Point { x, y: self.root });
         corners.push(Point { x, y: self.foot });
         corners.push(Point { x: self.left, y: self.foot });
-        Poly::of(corners)
+        Poly::indexed(corners)
     }
 }
 
@@ -414,15 +613,60 @@ fn fill(corners: u32) -> u64 {
     count
 }
 
-fn fills(corners: u32) -> u64 {
-    let a = first(corners);
-    let b = second(corners);
+fn vias(corners: u32) -> u64 {
+    let fill = first(corners);
+    let mut numbers = Numbers { state: 7 };
+    let mut count: u64 = 0;
+    for k in 0..corners / 4 * 3 {
+        let tooth = numbers.draw() % 50;
+        let along = numbers.draw() & 0x1f_ffff;
+        let y = numbers.draw() * i64::from(corners / 100) >> 6;
+        let x = tooth * PITCH + along + if k & 7 == 0 { 0 } else { 2_000_000 };
+        let s = seg(x, y, 0, 0);
+        let d = 400_000 + i64::from(k & 0xff);
+        count += u64::from(poly_seg_apart(&fill, s, d)) | u64::from(poly_seg_within(&fill, s, d)) << 1;
+    }
+    count
+}
+
+fn both(a: &Poly, b: &Poly) -> u64 {
     let mut count: u64 = 0;
     for round in 0..16 {
         let d = 399_000 + 100 * i64::from(round);
-        count += u64::from(poly_apart(&a, &b, d)) + u64::from(poly_apart(&b, &a, d));
-        count += u64::from(poly_within(&a, &b, d)) << 1;
-        count += u64::from(poly_within(&b, &a, d)) << 1;
+        count += u64::from(poly_apart(a, b, d)) + u64::from(poly_apart(b, a, d));
+        count += u64::from(poly_within(a, b, d)) << 1;
+        count += u64::from(poly_within(b, a, d)) << 1;
+    }
+    count
+}
+
+fn pads(rounds: u32) -> u64 {
+    let mut numbers = Numbers { state: 7 };
+    let pads: Vec<(Poly, Seg)> = (0..1024)
+        .map(|_| {
+            let x = numbers.draw() & 0xf_ffff;
+            let y = numbers.draw() & 0xf_ffff;
+            let u = numbers.draw() & 0xf_ffff;
+            let v = numbers.draw() & 0xf_ffff;
+            let corners = vec![
+                Point { x, y },
+                Point { x: x + 600_000, y: y + 100_000 },
+                Point { x: x + 500_000, y: y + 900_000 },
+                Point { x: x - 100_000, y: y + 800_000 },
+            ];
+            (Poly::of(corners), seg(u, v, 0, 0))
+        })
+        .collect();
+    let mut count: u64 = 0;
+    for round in 0..rounds {
+        let d = 400_000 + i64::from(round & 0xff);
+        for pair in pads.windows(2) {
+            let (a, b) = (&pair[0], &pair[1]);
+            count += u64::from(poly_seg_apart(&a.0, a.1, d));
+            count += u64::from(poly_seg_within(&a.0, a.1, d)) << 1;
+            count += u64::from(poly_apart(&a.0, &b.0, d));
+            count += u64::from(poly_within(&a.0, &b.0, d)) << 1;
+        }
     }
     count
 }
@@ -439,7 +683,10 @@ fn main() {
     let number = words[2].parse().expect("a number of rounds or of corners");
     let count = match kind {
         "fill" => fill(number),
-        "fills" => fills(number),
+        "vias" => vias(number),
+        "fills" => both(&first(number), &second(number)),
+        "combs" => both(&first(number), &twin(number)),
+        "pads" => pads(number),
         _ => pairs(kind, number),
     };
     println!("{kind} {number}: {count}");

@@ -56,6 +56,20 @@ fn second(corners: u32) -> Comb {
     }
 }
 
+// As many corners as the first comb, and the same gap.
+fn twin(corners: u32) -> Comb {
+    let root = i64::from(steps(corners)) * RISE + 2_000_000;
+    Comb {
+        left: -1_600_000,
+        foot: root + 2_000_000,
+        root,
+        rise: -RISE,
+        width: 1_200_000,
+        teeth: 51,
+        steps: steps(corners),
+    }
+}
+
 impl Comb {
     // The corners of the tooth that begins at x, up its one side and down the other.
     fn draw_tooth(self, x: i64, corners: &mut Vec<Point>) -> anyhow::Result<()> {
@@ -86,7 +100,7 @@ impl Comb {
         corners.push(point(x, self.root))?;
         corners.push(point(x, self.foot))?;
         corners.push(point(self.left, self.foot))?;
-        Ok(Poly::of(corners))
+        Ok(Poly::indexed(alloc, corners)?)
     }
 }
 
@@ -121,17 +135,53 @@ pub fn fill(alloc: Global, corners: u32) -> anyhow::Result<u64> {
     Ok(count)
 }
 
+// A via inside the box of the first comb: of eight one anywhere, the others between its teeth.
+fn via(k: u32, numbers: &mut Numbers, steps: u32) -> Seg {
+    let tooth = numbers.draw() % 50;
+    let along = numbers.draw() & 0x1f_ffff;
+    let y = numbers.draw().wrapping_mul(i64::from(steps)) >> 6;
+    let x = tooth.wrapping_mul(PITCH).wrapping_add(along);
+    if k & 7 == 0 {
+        seg(x, y, 0, 0)
+    } else {
+        seg(x.wrapping_add(2_000_000), y, 0, 0)
+    }
+}
+
+// The same for three vias where the fill has four corners.
+pub fn vias(alloc: Global, corners: u32) -> anyhow::Result<u64> {
+    let fill = first(corners).polygon(alloc)?;
+    let mut numbers = Numbers { state: 7 };
+    let mut count: u64 = 0;
+    for k in 0..corners / 4 * 3 {
+        let s = via(k, &mut numbers, steps(corners));
+        count = count.wrapping_add(answers(&fill, s, k));
+    }
+    Ok(count)
+}
+
 // The same for two fills and many distances, where a fill comes first in the question and then second.
-pub fn fills(alloc: Global, corners: u32) -> anyhow::Result<u64> {
-    let a = first(corners).polygon(alloc)?;
-    let b = second(corners).polygon(alloc)?;
+fn both(a: &Poly, b: &Poly) -> u64 {
     let mut count: u64 = 0;
     for round in 0..16_u32 {
         let d = 399_000 + 100 * i64::from(round);
-        count = count.wrapping_add(u64::from(poly_apart(&a, &b, d)));
-        count = count.wrapping_add(u64::from(poly_apart(&b, &a, d)));
-        count = count.wrapping_add(u64::from(poly_within(&a, &b, d)) << 1);
-        count = count.wrapping_add(u64::from(poly_within(&b, &a, d)) << 1);
+        count = count.wrapping_add(u64::from(poly_apart(a, b, d)));
+        count = count.wrapping_add(u64::from(poly_apart(b, a, d)));
+        count = count.wrapping_add(u64::from(poly_within(a, b, d)) << 1);
+        count = count.wrapping_add(u64::from(poly_within(b, a, d)) << 1);
     }
-    Ok(count)
+    count
+}
+
+pub fn fills(alloc: Global, corners: u32) -> anyhow::Result<u64> {
+    let a = first(corners).polygon(alloc)?;
+    let b = second(corners).polygon(alloc)?;
+    Ok(both(&a, &b))
+}
+
+// Two fills of about so many corners each.
+pub fn combs(alloc: Global, corners: u32) -> anyhow::Result<u64> {
+    let a = first(corners).polygon(alloc)?;
+    let b = twin(corners).polygon(alloc)?;
+    Ok(both(&a, &b))
 }

@@ -1,6 +1,6 @@
 // Asks of segments and of fills of copper whether they are apart, and whether they are within a
 // distance: pairs of segments that lie far from each other, side by side, and across each other; a
-// fill, and vias and tracks in and about it; and two fills.
+// fill, and vias and tracks in and about it; a fill, and many vias in it; and two fills.
 //
 // Without words it makes a few of each kind. With a kind and a number it makes so many rounds of the
 // pairs, or a fill of so many corners. Each line ends with how many of the answers were yes, where
@@ -8,6 +8,7 @@
 #![tactic(auto)]
 
 mod fills;
+mod pads;
 mod pairs;
 mod plane;
 
@@ -22,8 +23,11 @@ fn count(alloc: Global, name: &str, number: u32) -> anyhow::Result<Option<u64>> 
         return Ok(Some(pairs::count(alloc, kind, number)?));
     }
     match name {
+        "pads" => Ok(Some(pads::count(alloc, number)?)),
         "fill" => Ok(Some(fills::fill(alloc, number)?)),
         "fills" => Ok(Some(fills::fills(alloc, number)?)),
+        "vias" => Ok(Some(fills::vias(alloc, number)?)),
+        "combs" => Ok(Some(fills::combs(alloc, number)?)),
         _ => Ok(None),
     }
 }
@@ -32,7 +36,7 @@ fn run(rt: &impl Print, alloc: Global, name: &str, number: u32) -> anyhow::Resul
     match count(alloc, name, number)? {
         Some(count) => println!(rt; "{name} {number}: {count}")?,
         None => println!(rt;
-            "far, near or crossing, and a number of rounds; fill or fills, and of corners"
+            "far, near, crossing or pads, and a number of rounds; fill, vias, fills or combs, and of corners"
         )?,
     }
     Ok(())
@@ -44,8 +48,11 @@ fn main(rt: HostRuntime) -> anyhow::Result<()> {
         run(&rt, rt.alloc(), "far", 3)?;
         run(&rt, rt.alloc(), "near", 3)?;
         run(&rt, rt.alloc(), "crossing", 3)?;
+        run(&rt, rt.alloc(), "pads", 3)?;
         run(&rt, rt.alloc(), "fill", 1600)?;
-        return run(&rt, rt.alloc(), "fills", 1600);
+        run(&rt, rt.alloc(), "fills", 1600)?;
+        run(&rt, rt.alloc(), "vias", 1600)?;
+        return run(&rt, rt.alloc(), "combs", 1600);
     };
     run(&rt, rt.alloc(), &name, number.parse()?)
 }

@@ -1,15 +1,13 @@
 -- What the functions answer, from what they test.
-use Rattle.std.proofs.Common.{◌≡◌, ℕ, ◌<◌, ◌≤◌, ◌-◌, ℤ, pos, ◌+ℤ◌, ◌-ℤ◌, ◌*ℤ◌, ◌≤ℤ◌, ◌<ℤ◌, ◌↔◌, ◌⊎◌, Bool, IsTrue, List, [], ◌∷◌, length, take, drop, get_or, ◌++◌, ◌+◌, length-drop, drop-drop, refl, sym, ap, ◌∙◌, subst, inl, inr, arith}
+use Rattle.std.proofs.Common.{◌≡◌, ◌<◌, ◌-◌, ℤ, pos, ◌+ℤ◌, ◌-ℤ◌, ◌*ℤ◌, ◌≤ℤ◌, ◌<ℤ◌, ◌↔◌, ◌⊎◌, Bool, IsTrue, List, [], ◌∷◌, length, get_or, ◌++◌, ap, ◌∙◌, subst, inl, inr, arith}
 use Rattle.std.proofs.lemmas.Int.{ints}
-use Rattle.std.proofs.lemmas.List.{take-append-drop, length-take-le}
 use Rattle.int_algebra.proofs.Ring.{var, num, ◌⊕◌, ◌⊖◌, ◌⊗◌, sq, fact, ring, ring_by}
 use Rattle.int_algebra.proofs.Order.{square-nonneg, sum-nonneg, same_by_scale}
 use Rattle.geo_seg.specs.declared.points.Point.{Point}
 use Rattle.geo_seg.specs.declared.points.Seg.{Seg}
 use Rattle.geo_seg.specs.Points.{Spot, IsAt, IsOn, spot_of}
 use Rattle.geo_seg.specs.Nearer.{square, squared_limit, IsNearer, AreApart, AreWithin}
-use Rattle.geo_seg.specs.Inside.{edge, path, last_of, outline, SomeEdge, EachEdge, IsInside}
-use Rattle.geo_seg.proofs.Parity.{is_odd}
+use Rattle.geo_seg.specs.Inside.{edge, outline, SomeEdge, EachEdge, IsInside}
 use Rattle.geo_seg.proofs.BoxLemmas.{start_on}
 use Rattle.geo_seg.proofs.PointReach.{spot_of-IsAt}
 use Rattle.geo_seg.proofs.SegAnswers.{met_of_reached}
@@ -18,7 +16,7 @@ use Rattle.geo_poly.proofs.Insides.{enclosed_where, enters_where, poly_seg_apart
 use Rattle.geo_poly.proofs.Ways.{SomeEdge-weaker}
 use Rattle.geo_poly.proofs.Reach.{touches_within, seg_reached_where, seg_apart_where}
 use Rattle.geo_poly.proofs.PolyReach.{poly_reached_where, poly_apart_where}
-use Rattle.geo_poly.proofs.Outline.{last_at}
+use Rattle.geo_seg.proofs.RunBoxes.{last_at}
 
 pub iff_at : {A B : Type 0} (P : A → Type 0) (x y : A) → x ≡ y → (B ↔ P x) → (B ↔ P y)
 iff_at {B = B} P x y e h = subst (λ z. B ↔ P z) e h
@@ -66,7 +64,7 @@ pub on_where : (cs : List Point) (p : Point) → SomeEdge (λ e. IsReached e (ed
 on_where cs p = (SomeEdge-weaker (λ e. on_of_reached e p) (outline cs), SomeEdge-weaker (λ e. reached_of_on e p) (outline cs))
 
 -- ---- the theorems in the form of the code
-both : {A B C : Type 0} → (A ↔ B) → (B ↔ C) → (A ↔ C)
+pub both : {A B C : Type 0} → (A ↔ B) → (B ↔ C) → (A ↔ C)
 both e f = (λ a. f.0 (e.0 a), λ c. e.1 (f.1 c))
 
 either : {A B C D : Type 0} → (A → C) → (B → D) → A ⊎ B → C ⊎ D
@@ -109,10 +107,6 @@ inside_code cs p = let e = on_where cs p in (either e.1 (λ x. x), either e.0 (�
 pub within_of_inside : (cs : List Point) (p : Point) → IsInside cs (spot_of p) → AreWithin (IsAt p) (IsInside cs) (pos 0)
 within_of_inside cs p h = record { from = spot_of p; to = spot_of p; of_first = spot_of-IsAt p; of_second = h; within = touches_within (pos 0) (spot_of p) }
 
--- ---- an odd number of edges
-pub enclosed_by : (cs : List Point) (p : Spot) (b : Bool) → is_odd p (outline cs) ≡ b → (IsTrue b ↔ IsEnclosed cs p)
-enclosed_by cs p b e = let f = enclosed_where cs p in (λ t. f.1 (e ∙ t), λ h. sym e ∙ f.0 h)
-
 -- ---- the last corner
 pub ends_inside_is : (cs ks : List Point) (x : Point) (b : Bool) → 0 < length cs → x ≡ get_or cs (length cs - 1) x → (IsTrue b ↔ IsEnclosed ks (spot_of x)) → (IsTrue b ↔ EndsInside cs ks)
 ends_inside_is [] ks x b h e q = absurd (omega arith)
@@ -131,65 +125,29 @@ apart_append d (e ∷ O) X Y =
     let r = apart_append d O X Y in let q = each_append (λ f. IsApart f e d) X Y in
     (λ h. let x = q.0 h.0 in let y = r.0 h.1 in ((x.0, y.0), (x.1, y.1)), λ h. (q.1 (h.0.0, h.1.0), r.1 (h.0.1, h.1.1)))
 
-pub path_append : (a : Point) (cs ks : List Point) → path a (cs ++ ks) ≡ path a cs ++ path (last_of a cs) ks
-path_append a [] ks = refl
-path_append a (c ∷ cs) ks = ap (λ z. edge a c ∷ z) (path_append c cs ks)
-
--- the path through the corners from `low` on, cut at `high`
-pub path_cut : (a b : Point) (cs : List Point) (low high : ℕ) → low < high → high ≤ length cs → b ≡ get_or (take (high - low) (drop low cs)) (length (take (high - low) (drop low cs)) - 1) b → path a (drop low cs) ≡ path a (take (high - low) (drop low cs)) ++ path b (drop high cs)
-path_cut a b cs low high h k e =
-    let X = drop low cs in let n = high - low in
-    let l : length (take n X) ≡ n = length-take-le n X (rw length-drop (omega arith)) in
-    let s : low + n ≡ high = omega arith in
-    ap (path a) (sym (take-append-drop n X)) ∙ path_append a (take n X) (drop n X)
-    ∙ ap (λ z. path a (take n X) ++ path z (drop n X)) (sym (last_is a b (take n X) (subst (λ m. 0 < m) (sym l) (omega arith)) e))
-    ∙ ap (λ z. path a (take n X) ++ path b z) (drop-drop n low cs ∙ ap (λ m. drop m cs) s)
-  where
-    last_is : (a x : Point) (cs : List Point) → 0 < length cs → x ≡ get_or cs (length cs - 1) x → x ≡ last_of a cs
-    last_is a x [] h e = absurd (omega arith)
-    last_is a x (c ∷ cs) h e =
-        let i : length (c ∷ cs) - 1 ≡ length cs = omega arith in
-        e ∙ ap (λ k. get_or (c ∷ cs) k x) i ∙ last_at c x cs
-
-pub cut_step : (d : ℤ) (O T' X Y Z : List Seg) → (EachApart d O T' ↔ EachApart d O X) → X ≡ Y ++ Z → EachApart d O Y → (EachApart d O T' ↔ EachApart d O Z)
-cut_step d O T' X Y Z inv q h =
-    let r = apart_append d O Y Z in
-    (λ t. (r.0 (subst (EachApart d O) q (inv.0 t))).1, λ z. inv.1 (subst (EachApart d O) (sym q) (r.1 (h, z))))
-
-pub cut_fails : (d : ℤ) (O T' X Y Z : List Seg) → (EachApart d O T' ↔ EachApart d O X) → X ≡ Y ++ Z → (EachApart d O Y → ⊥) → EachApart d O T' → ⊥
-cut_fails d O T' X Y Z inv q n t = n ((apart_append d O Y Z).0 (subst (EachApart d O) q (inv.0 t))).0
-
-each_nothing : (d : ℤ) (O : List Seg) → EachApart d O []
+pub each_nothing : (d : ℤ) (O : List Seg) → EachApart d O []
 each_nothing d [] = tt
 each_nothing d (e ∷ O) = (tt, each_nothing d O)
-
-pub cut_done : (d : ℤ) (O T' X : List Seg) → (EachApart d O T' ↔ EachApart d O X) → X ≡ [] → EachApart d O T'
-cut_done d O T' X inv q = inv.1 (subst (EachApart d O) (sym q) (each_nothing d O))
-
-pub path_split : (a : Point) (cs : List Point) (low n : ℕ) → (Z : List Seg) × (path a (drop low cs) ≡ path a (take n (drop low cs)) ++ Z)
-path_split a cs low n =
-    let X = drop low cs in
-    (path (last_of a (take n X)) (drop n X), ap (path a) (sym (take-append-drop n X)) ∙ path_append a (take n X) (drop n X))
 
 some_later : {A B C : Type 0} → A ⊎ B → (C ⊎ A) ⊎ B
 some_later (inl h) = inl (inr h)
 some_later (inr h) = inr h
 
-some_in : (P : Seg → Type 0) (X Y : List Seg) → SomeEdge P (X ++ Y) → SomeEdge P X ⊎ SomeEdge P Y
+pub some_in : (P : Seg → Type 0) (X Y : List Seg) → SomeEdge P (X ++ Y) → SomeEdge P X ⊎ SomeEdge P Y
 some_in P [] Y h = inr h
 some_in P (e ∷ X) Y (inl h) = inl (inl h)
 some_in P (e ∷ X) Y (inr h) = some_later (some_in P X Y h)
 
-some_left : (P : Seg → Type 0) (X Y : List Seg) → SomeEdge P X → SomeEdge P (X ++ Y)
+pub some_left : (P : Seg → Type 0) (X Y : List Seg) → SomeEdge P X → SomeEdge P (X ++ Y)
 some_left P [] Y h = absurd h
 some_left P (e ∷ X) Y (inl h) = inl h
 some_left P (e ∷ X) Y (inr h) = inr (some_left P X Y h)
 
-some_right : (P : Seg → Type 0) (X Y : List Seg) → SomeEdge P Y → SomeEdge P (X ++ Y)
+pub some_right : (P : Seg → Type 0) (X Y : List Seg) → SomeEdge P Y → SomeEdge P (X ++ Y)
 some_right P [] Y h = h
 some_right P (e ∷ X) Y h = inr (some_right P X Y h)
 
-reached_in : (d : ℤ) (O X Y : List Seg) → SomeReached d O (X ++ Y) → SomeReached d O X ⊎ SomeReached d O Y
+pub reached_in : (d : ℤ) (O X Y : List Seg) → SomeReached d O (X ++ Y) → SomeReached d O X ⊎ SomeReached d O Y
 reached_in d O X Y h = split O h
   where
     here : (e : Seg) (O : List Seg) → SomeEdge (λ f. IsReached f e d) X ⊎ SomeEdge (λ f. IsReached f e d) Y → SomeReached d (e ∷ O) X ⊎ SomeReached d (e ∷ O) Y
@@ -205,26 +163,13 @@ reached_in d O X Y h = split O h
     split (e ∷ O) (inl h) = here e O (some_in (λ f. IsReached f e d) X Y h)
     split (e ∷ O) (inr h) = later e O (split O h)
 
-reached_left : (d : ℤ) (O X Y : List Seg) → SomeReached d O X → SomeReached d O (X ++ Y)
+pub reached_left : (d : ℤ) (O X Y : List Seg) → SomeReached d O X → SomeReached d O (X ++ Y)
 reached_left d O X Y h = SomeEdge-weaker (λ e k. some_left (λ f. IsReached f e d) X Y k) O h
 
-reached_right : (d : ℤ) (O X Y : List Seg) → SomeReached d O Y → SomeReached d O (X ++ Y)
+pub reached_right : (d : ℤ) (O X Y : List Seg) → SomeReached d O Y → SomeReached d O (X ++ Y)
 reached_right d O X Y h = SomeEdge-weaker (λ e k. some_right (λ f. IsReached f e d) X Y k) O h
 
-not_left : {A B : Type 0} → (A → ⊥) → A ⊎ B → B
-not_left n (inl a) = absurd (n a)
-not_left n (inr b) = b
-
-pub reached_step : (d : ℤ) (O T' X Y Z : List Seg) → (SomeReached d O T' ↔ SomeReached d O X) → X ≡ Y ++ Z → (SomeReached d O Y → ⊥) → (SomeReached d O T' ↔ SomeReached d O Z)
-reached_step d O T' X Y Z inv q n = (λ t. not_left n (reached_in d O Y Z (subst (SomeReached d O) q (inv.0 t))), λ z. inv.1 (subst (SomeReached d O) (sym q) (reached_right d O Y Z z)))
-
-pub reached_found : (d : ℤ) (O T' X Y Z : List Seg) → (SomeReached d O T' ↔ SomeReached d O X) → X ≡ Y ++ Z → SomeReached d O Y → SomeReached d O T'
-reached_found d O T' X Y Z inv q h = inv.1 (subst (SomeReached d O) (sym q) (reached_left d O Y Z h))
-
-reached_nothing : (d : ℤ) (O : List Seg) → SomeReached d O [] → ⊥
+pub reached_nothing : (d : ℤ) (O : List Seg) → SomeReached d O [] → ⊥
 reached_nothing d [] h = h
 reached_nothing d (e ∷ O) (inl h) = h
 reached_nothing d (e ∷ O) (inr h) = reached_nothing d O h
-
-pub reached_none : (d : ℤ) (O T' X : List Seg) → (SomeReached d O T' ↔ SomeReached d O X) → X ≡ [] → SomeReached d O T' → ⊥
-reached_none d O T' X inv q t = reached_nothing d O (subst (SomeReached d O) q (inv.0 t))

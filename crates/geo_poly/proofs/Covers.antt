@@ -6,8 +6,8 @@ use Rattle.geo_seg.specs.declared.points.Seg.{Seg}
 use Rattle.geo_seg.specs.declared.boxes.Bounds.{Bounds}
 use Rattle.geo_seg.specs.Points.{Spot, IsOn}
 use Rattle.geo_seg.specs.Boxes.{IsInBox, IsLeastBox, AreClear}
-use Rattle.geo_seg.specs.Corners.{EachCorner, IsHeld}
-use Rattle.geo_seg.specs.Inside.{path, outline, EachEdge, SomeEdge, IsInside}
+use Rattle.geo_seg.specs.Runs.{AreEndsHeld}
+use Rattle.geo_seg.specs.Inside.{outline, EachEdge, SomeEdge, IsInside}
 use Rattle.geo_seg.proofs.BoxLemmas.{on_in_box, clear_not_nearer}
 use Rattle.geo_poly.specs.Outlines.{IsApart, IsReached, EachApart, SomeReached}
 use Rattle.geo_poly.proofs.Distances.{apart_not_within}
@@ -17,15 +17,14 @@ use Rattle.geo_poly.proofs.Reach.{each_by}
 abbrev pub Covers : Bounds → Seg → Type 0
 Covers b e = (p : Spot) → IsOn e p → IsInBox b p
 
-pub covers_path : (b : Bounds) (a : Point) (cs : List Point) → EachCorner (IsHeld b) (a ∷ cs) → EachEdge (Covers b) (path a cs)
-covers_path b a [] h = tt
-covers_path b a (c ∷ cs) h = (λ p o. on_in_box b (record { a = a; b = c }) p h.0 h.1.0 o, covers_path b c cs h.1)
+pub covers_ends : (b : Bounds) (e : Seg) → AreEndsHeld b e → Covers b e
+covers_ends b e h p o = on_in_box b e p h.0 h.1 o
 
 pub covers_outline : (b : Bounds) (cs : List Point) → IsLeastBox (IsInside cs) b → EachEdge (Covers b) (outline cs)
 covers_outline b cs h = each_by (outline cs) (outline cs) (λ e member p o. h.holds p (inl (member (λ x. IsOn x p) o))) (λ Q x. x)
 
 -- ---- boxes that are clear of each other
-edge_clear : (b c : Bounds) (e s : Seg) (d : ℤ) → pos 0 ≤ℤ d → Covers b e → Covers c s → AreClear b c d → IsApart e s d
+pub edge_clear : (b c : Bounds) (e s : Seg) (d : ℤ) → pos 0 ≤ℤ d → Covers b e → Covers c s → AreClear b c d → IsApart e s d
 edge_clear b c e s d hd he hs h = record { apart = λ p q o u n. clear_not_nearer b c p q d hd (he p o) (hs q u) h n }
 
 pub each_clear : (b c : Bounds) (s : Seg) (d : ℤ) → pos 0 ≤ℤ d → Covers c s → AreClear b c d → (es : List Seg) → EachEdge (Covers b) es → EachEdge (λ e. IsApart e s d) es

@@ -9,3 +9,4 @@ pub mod Distances
 pub mod Covers
 pub mod Outline
 pub mod Answers
+pub mod RunLemmas

@@ -1,5 +1,5 @@
 -- What the loops over an outline's edges take, and what its tests say.
-use Rattle.std.proofs.Common.{negsuc, ◌-ℤ◌, ◌≡◌, ℕ, suc, ◌+◌, ◌-◌, ◌<◌, ◌≤◌, ℤ, pos, unsigned_abs, ◌*ℤ◌, ◌↔◌, Bool, FitsSigned, List, [], ◌∷◌, length, get_or, drop, refl, sym, ap, ◌∙◌, subst, inl, inr, arith, add-one, drop-cons}
+use Rattle.std.proofs.Common.{negsuc, ◌-ℤ◌, ◌≡◌, ℕ, suc, ◌+◌, ◌<◌, ◌≤◌, ℤ, pos, unsigned_abs, ◌*ℤ◌, ◌↔◌, Bool, FitsSigned, List, [], ◌∷◌, length, get_or, drop, sym, ap, ◌∙◌, subst, inl, inr, arith, add-one, drop-cons}
 use Rattle.std.proofs.lemmas.Int.{ints}
 use Rattle.geo_seg.proofs.Passed.{passed}
 use Rattle.std.proofs.lemmas.List.{drop_all}
@@ -10,17 +10,7 @@ use Rattle.geo_seg.specs.declared.points.Point.{Point}
 use Rattle.geo_seg.specs.declared.points.Seg.{Seg}
 use Rattle.geo_seg.specs.Points.{spot_of}
 use Rattle.geo_seg.specs.Gap.{cross_of}
-use Rattle.geo_seg.specs.Inside.{edge, path, last_of, outline, EachEdge, SomeEdge, is_low, side, passing, passes}
-
-pub last_at : (a x : Point) (cs : List Point) → get_or (a ∷ cs) (length cs) x ≡ last_of a cs
-last_at a x [] = refl
-last_at a x (b ∷ cs) = last_at b x cs
-
-pub outline_is : (cs : List Point) (x : Point) → 0 < length cs → x ≡ get_or cs (length cs - 1) x → outline cs ≡ path x cs
-outline_is [] x h e = absurd (omega arith)
-outline_is (c ∷ cs) x h e =
-    let i : length (c ∷ cs) - 1 ≡ length cs = omega arith in
-    ap (λ z. path z (c ∷ cs)) (sym (e ∙ ap (λ k. get_or (c ∷ cs) k x) i ∙ last_at c x cs))
+use Rattle.geo_seg.specs.Inside.{edge, path, EachEdge, SomeEdge, is_low, side, passing, passes}
 
 pub path_next : (a c : Point) (cs : List Point) (i : ℕ) → i < length cs → c ≡ get_or cs i c → path a (drop i cs) ≡ edge a c ∷ path c (drop (i + 1) cs)
 path_next a c cs i h e =
@@ -29,14 +19,11 @@ path_next a c cs i h e =
 pub path_end : (a : Point) (cs : List Point) (i : ℕ) → length cs ≤ i → path a (drop i cs) ≡ []
 path_end a cs i h = ap (path a) (drop_all i cs h)
 
-pub along : {A : Type 0} (P : A → Type 0) (x y : A) → x ≡ y → P x ↔ P y
-along P x y e = (λ h. subst P e h, λ h. subst P (sym e) h)
-
 -- ---- the tests at a point
 one_mul : (z : ℤ) → pos 1 *ℤ z ≡ z
 one_mul z = omega (arith, ints)
 
-low_at : (p c : Point) → is_low (spot_of p) c ≡ le_z c.y p.y
+pub low_at : (p c : Point) → is_low (spot_of p) c ≡ le_z c.y p.y
 unfolding spot_of
 low_at p c = ap (λ z. le_z z p.y) (one_mul c.y)
 

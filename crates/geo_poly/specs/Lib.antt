@@ -1,1 +1,4 @@
 pub mod Outlines
+pub mod Runs
+pub mod Steps
+pub mod Parts

@@ -1,6 +1,6 @@
 // The edges of a path, and a segment.
 
-ghost use Rattle.std.specs.Prelude.{◌≡◌, ◌≤ℤ◌, ◌<◌, pos, IsTrue, ◌↔◌, length};
+ghost use Rattle.std.specs.Prelude.{◌≡◌, ◌≤ℤ◌, ◌<◌, pos, IsTrue, ◌↔◌, length, drop};
 ghost use Rattle.geo_seg.specs.Points.{IsOn};
 ghost use Rattle.geo_seg.specs.Boxes.{IsLeastBox, FitsWithin};
 ghost use Rattle.geo_seg.specs.Inside.{path, outline, EachEdge, SomeEdge};
@@ -8,12 +8,16 @@ ghost use Rattle.geo_poly.specs.Outlines.{IsApart, IsReached};
 
 use geo_seg::{Bounds, Point, Seg, seg_apart, seg_within};
 
-// The corner from which the closing edge leads to the first one.
-pub fn last(corners: &[Point]) -> Point
-    requires { 0 < length corners.now }
-    ensures { outline corners.now ≡ path result corners.now }
+// The corner at which edge `low` begins. Edge 0 leads from the last corner to the first.
+pub fn before(corners: &[Point], low: usize) -> Point
+    requires { low < length corners.now }
+    ensures { drop low (outline corners.now) ≡ path result (drop low corners.now) }
 {
-    corners[corners.len() - 1]
+    if low == 0 {
+        corners[corners.len() - 1]
+    } else {
+        corners[low - 1]
+    }
 }
 
 // Whether the edge is apart from the segment, whose box is `near`.

@@ -11,5 +11,6 @@ mod polygons;
 mod runs;
 #[cfg(test)]
 mod tests;
+mod walks;
 
 pub use polygons::{holds, poly_apart, poly_seg_apart, poly_seg_within, poly_within};

@@ -1,12 +1,19 @@
 // How often the edges of an outline pass to the right of a point.
 
-ghost use Rattle.std.specs.Prelude.{◌≡◌, ◌<◌, ◌≤◌, ◌*ℤ◌, IsTrue, ◌↔◌, length, unsigned_abs};
+ghost use Rattle.std.specs.Prelude.{◌≡◌, ◌<◌, ◌≤◌, ◌*ℤ◌, ◌<ℤ◌, pos, IsTrue, IfSome, ◌↔◌, length, unsigned_abs};
+ghost use Rattle.geo_seg.specs.declared.boxes.Bounds.{Bounds};
 ghost use Rattle.geo_seg.specs.Points.{spot_of};
 ghost use Rattle.geo_seg.specs.Gap.{cross_of};
-ghost use Rattle.geo_seg.specs.Inside.{passes};
+ghost use Rattle.geo_seg.specs.Boxes.{FitsWithin};
+ghost use Rattle.geo_seg.specs.Inside.{passes, path, outline};
+ghost use Rattle.geo_seg.specs.Runs.{IsRunBox};
 ghost use Rattle.geo_poly.specs.Outlines.{IsEnclosed};
+ghost use Rattle.geo_poly.specs.Runs.{between, PassOdd, IsMissed};
+ghost use Rattle.geo_poly.specs.Steps.{IsStep};
 
-use geo_seg::{Point, Seg};
+use crate::edges::before;
+use crate::walks::end;
+use geo_seg::{Bounds, Point, Poly, Seg};
 
 fn product(a: i64, b: i64) -> i64
     requires a_in_range { unsigned_abs a ≤ 2000000000 }
@@ -44,18 +51,121 @@ fn passes_right(p: Point, e: Seg) -> bool
     }
 }
 
-// Whether an odd number of edges passes to the right of the point.
-pub fn is_enclosed(corners: &[Point], p: Point) -> bool
-    requires { 0 < length corners.now }
-    ensures { IsTrue result ↔ IsEnclosed corners.now (spot_of p) }
+// Whether an odd number of the path's edges passes to the right of the point.
+fn path_odd(from: Point, part: &[Point], p: Point) -> bool
+    ensures { IsTrue result ↔ PassOdd (spot_of p) (path from part.now) }
 {
-    let mut from = corners[corners.len() - 1];
+    let mut at = from;
     let mut odd = false;
-    for c in corners {
-        if passes_right(p, Seg { a: from, b: *c }) {
+    for c in part {
+        if passes_right(p, Seg { a: at, b: *c }) {
             odd = !odd;
         }
-        from = *c;
+        at = *c;
+    }
+    odd
+}
+
+// Whether the box lies above the ray from the point to the right, below it, or to the left of it.
+fn is_missed(b: Bounds, p: Point) -> bool
+    requires { FitsWithin (pos 1000000000) b }
+    ensures { IsTrue result → IsMissed b p }
+{
+    p.y < b.top || b.bottom < p.y || b.right < p.x
+}
+
+// Whether an odd number of edges from `low` up to `high` passes to the right of the point, where all
+// lie to its right: then the two ends decide.
+fn ends_odd(corners: &[Point], low: usize, high: usize, p: Point) -> bool
+    requires low { low < high }
+    requires high { high ≤ length corners.now }
+    ensures { (b : Bounds) → p.x <ℤ b.left → IsRunBox (between low high (outline corners.now)) b → (IsTrue result ↔ PassOdd (spot_of p) (between low high (outline corners.now))) }
+{
+    let part = &corners[low..high];
+    (before(corners, low).y <= p.y) != (part[part.len() - 1].y <= p.y)
+}
+
+// What the box says of the edges from `low` up to `high`, which it holds: whether an odd number passes
+// to the right of the point.
+fn told_by(b: Bounds, corners: &[Point], low: usize, high: usize, p: Point) -> Option<bool>
+    requires low { low < high }
+    requires high { high ≤ length corners.now }
+    requires hull { IsRunBox (between low high (outline corners.now)) b }
+    ensures { IfSome result (λ odd. IsTrue odd ↔ PassOdd (spot_of p) (between low high (outline corners.now))) }
+{
+    if is_missed(b, p) {
+        Some(false)
+    } else if p.x < b.left {
+        Some(ends_odd(corners, low, high, p))
+    } else {
+        None
+    }
+}
+
+// The edges up to `high`, and whether an odd number of them passes.
+#[derive(Clone, Copy, Drop)]
+struct Step {
+    high: usize,
+    odd: bool,
+}
+
+// What the box of the run of `size` edges from `low` on says, where one is kept.
+fn told(poly: &Poly, low: usize, size: usize, p: Point) -> Option<Step>
+    requires low { low < length poly.now }
+    requires size { 0 < size }
+    ensures { IfSome result (λ step. IsStep poly.now (spot_of p) low step) }
+{
+    let b = poly.run_box(low, size)?;
+    let corners = poly.corners();
+    let high = end(low, size, corners.len());
+    let odd = told_by(b, corners, low, high, p)?;
+    Some(Step { high, odd })
+}
+
+// A step from `low` on by a few edges, that looks at each.
+fn short_step(poly: &Poly, low: usize, p: Point) -> Step
+    requires { low < length poly.now }
+    ensures { IsStep poly.now (spot_of p) low result }
+{
+    let corners = poly.corners();
+    let high = end(low, 8, corners.len());
+    let odd = path_odd(before(corners, low), &corners[low..high], p);
+    Step { high, odd }
+}
+
+// The longest step from `low` on that is told by a box, or else one by edges.
+fn next_step(poly: &Poly, low: usize, p: Point) -> Step
+    requires { low < length poly.now }
+    ensures { IsStep poly.now (spot_of p) low result }
+{
+    if let Some(step) = told(poly, low, 4096, p) {
+        step
+    } else if let Some(step) = told(poly, low, 512, p) {
+        step
+    } else if let Some(step) = told(poly, low, 64, p) {
+        step
+    } else if let Some(step) = told(poly, low, 8, p) {
+        step
+    } else {
+        short_step(poly, low, p)
+    }
+}
+
+// Whether an odd number of the polygon's edges passes to the right of the point.
+pub fn is_enclosed(poly: &Poly, p: Point) -> bool
+    ensures { IsTrue result ↔ IsEnclosed poly.now (spot_of p) }
+{
+    let corners = poly.corners();
+    if poly.run_box(0, 8).is_none() {
+        return path_odd(before(corners, 0), corners, p);
+    }
+    let all = corners.len();
+    let mut low = 0;
+    let mut odd = false;
+    'steps: while low < all {
+        let next = next_step(poly, low, p);
+        odd = odd != next.odd;
+        low = next.high;
     }
     odd
 }

@@ -1,15 +1,19 @@
-// Two outlines. One is taken a run of corners at a time: a run whose box is far from the other
-// polygon, or from one of its edges, is not looked at any nearer.
+// Two outlines, each taken in runs of edges, and those again in shorter ones: two runs whose boxes are
+// clear of each other are not looked at any nearer.
 
-ghost use Rattle.std.specs.Prelude.{◌≡◌, ◌≤ℤ◌, ◌<◌, ◌++◌, ◌∷◌, [], List, pos, IsTrue, ◌↔◌, length};
+ghost use Rattle.std.specs.Prelude.{◌≡◌, ◌≤ℤ◌, ◌<◌, ◌≤◌, ◌++◌, ◌∷◌, [], List, pos, IsTrue, ◌↔◌, length};
 ghost use Rattle.geo_seg.specs.declared.points.Point.{Point};
-ghost use Rattle.geo_seg.specs.Boxes.{IsLeastBox, FitsWithin};
+ghost use Rattle.geo_seg.specs.Boxes.{FitsWithin};
 ghost use Rattle.geo_seg.specs.Corners.{IsCornerBox};
-ghost use Rattle.geo_seg.specs.Inside.{path, outline, EachEdge, SomeEdge, IsInside};
+ghost use Rattle.geo_seg.specs.Inside.{path, outline, EachEdge, SomeEdge};
+ghost use Rattle.geo_seg.specs.Runs.{IsRunBox};
 ghost use Rattle.geo_poly.specs.Outlines.{IsApart, IsReached, EachApart, SomeReached};
+ghost use Rattle.geo_poly.specs.Runs.{between};
+ghost use Rattle.geo_poly.specs.Parts.{IsPartOf, edges_of};
 
-use crate::edges::{last, path_apart, path_within};
-use geo_seg::{Bounds, Point, Seg};
+use crate::edges::{before, path_apart, path_within};
+use crate::walks::end;
+use geo_seg::{Bounds, Point, Poly, Seg};
 
 // The box, grown to hold one corner more.
 fn grown(bounds: Bounds, p: Point) -> Bounds
@@ -40,140 +44,272 @@ fn path_box(from: Point, part: &[Point]) -> Bounds
     bounds
 }
 
-// Whether each edge of the path, whose box is `near`, is apart from the segment.
-fn near_apart(from: Point, part: &[Point], near: Bounds, s: Seg, d: i64) -> bool
-    requires near { IsCornerBox (from ∷ part.now) near }
+// The edges from `low` up to `high` of an outline, and their box. Where the outline keeps one, it is
+// that of the run of `size` edges from `low` on.
+#[derive(Clone, Copy, Drop)]
+struct Part {
+    low: usize,
+    high: usize,
+    size: usize,
+    bounds: Bounds,
+}
+
+// The box of the edges from `low` up to `high`.
+fn part_box(poly: &Poly, low: usize, high: usize, size: usize) -> Bounds
+    requires low { low < high }
+    requires high { high ≤ length poly.now }
+    ensures { IsRunBox (between low high (outline poly.now)) result }
+{
+    if high - low <= size {
+        if let Some(bounds) = poly.run_box(low, size) {
+            return bounds;
+        }
+    }
+    let corners = poly.corners();
+    path_box(before(corners, low), &corners[low..high])
+}
+
+fn part_of(poly: &Poly, low: usize, high: usize, size: usize) -> Part
+    requires low { low < high }
+    requires high { high ≤ length poly.now }
+    ensures low { result.low ≡ low }
+    ensures high { result.high ≡ high }
+    ensures size { result.size ≡ size }
+    ensures part { IsPartOf poly.now result }
+{
+    Part {
+        low,
+        high,
+        size,
+        bounds: part_box(poly, low, high, size),
+    }
+}
+
+// The size from which a walk over so many edges begins to divide them.
+fn first_size(all: usize) -> usize {
+    if all <= 8 {
+        8
+    } else if all <= 64 {
+        64
+    } else if all <= 512 {
+        512
+    } else if all <= 4096 {
+        4096
+    } else if all <= 32768 {
+        32768
+    } else {
+        262_144
+    }
+}
+
+// The whole outline.
+fn whole(poly: &Poly) -> Part
+    ensures part { IsPartOf poly.now result }
+    ensures whole { edges_of poly.now result ≡ outline poly.now }
+{
+    let all = poly.corners().len();
+    Part {
+        low: 0,
+        high: all,
+        size: first_size(all),
+        bounds: poly.bounds(),
+    }
+}
+
+// Whether each edge of the path is apart from each of the other, whose box is `far`.
+fn paths_apart(
+    from: Point,
+    part: &[Point],
+    far: Bounds,
+    other: Point,
+    others: &[Point],
+    d: i64,
+) -> bool
+    requires far { IsRunBox (path other others.now) far }
+    requires from { pos 0 ≤ℤ d }
+    requires to { d ≤ℤ pos 2000000000 }
+    ensures { IsTrue result ↔ EachApart d (path from part.now) (path other others.now) }
+{
+    let mut at = from;
+    for c in part {
+        let e = Seg { a: at, b: *c };
+        if !far_apart(other, others, far, e, d) {
+            return false;
+        }
+        at = *c;
+    }
+    true
+}
+
+// Whether each edge of the path, whose box is `far`, is apart from the segment.
+fn far_apart(from: Point, part: &[Point], far: Bounds, s: Seg, d: i64) -> bool
+    requires far { IsRunBox (path from part.now) far }
     requires from { pos 0 ≤ℤ d }
     requires to { d ≤ℤ pos 2000000000 }
     ensures { IsTrue result ↔ EachEdge (λ e. IsApart e s d) (path from part.now) }
 {
-    near.is_clear(s.bounds(), d) || path_apart(from, part, s, d)
+    far.is_clear(s.bounds(), d) || path_apart(from, part, s, d)
 }
 
-// Whether each edge of the path is apart from each of the outline.
-fn path_outline_apart(from: Point, part: &[Point], near: Bounds, others: &[Point], d: i64) -> bool
-    requires near { IsCornerBox (from ∷ part.now) near }
-    requires others { 0 < length others.now }
+fn short_apart(a: &Poly, p: Part, b: &Poly, q: Part, d: i64) -> bool
+    requires first { IsPartOf a.now p }
+    requires second { IsPartOf b.now q }
     requires from { pos 0 ≤ℤ d }
     requires to { d ≤ℤ pos 2000000000 }
-    ensures { IsTrue result ↔ EachApart d (outline others.now) (path from part.now) }
+    ensures { IsTrue result ↔ EachApart d (edges_of a.now p) (edges_of b.now q) }
 {
-    let mut at = last(others);
-    for c in others {
-        if !near_apart(from, part, near, Seg { a: at, b: *c }, d) {
-            return false;
+    let corners = a.corners();
+    let others = b.corners();
+    paths_apart(
+        before(corners, p.low),
+        &corners[p.low..p.high],
+        q.bounds,
+        before(others, q.low),
+        &others[q.low..q.high],
+        d,
+    )
+}
+
+// Whether each edge of the one part is apart from each of the other.
+fn parts_apart(a: &Poly, p: Part, b: &Poly, q: Part, d: i64) -> bool
+    requires first { IsPartOf a.now p }
+    requires second { IsPartOf b.now q }
+    requires from { pos 0 ≤ℤ d }
+    requires to { d ≤ℤ pos 2000000000 }
+    ensures { IsTrue result ↔ EachApart d (edges_of a.now p) (edges_of b.now q) }
+{
+    if q.bounds.is_clear(p.bounds, d) {
+        return true;
+    }
+    if p.size <= 8 && q.size <= 8 {
+        return short_apart(a, p, b, q, d);
+    }
+    if p.size >= q.size {
+        let mut low = p.low;
+        'first: while low < p.high {
+            let high = end(low, p.size / 8, p.high);
+            if !parts_apart(a, part_of(a, low, high, p.size / 8), b, q, d) {
+                return false;
+            }
+            low = high;
+        }
+    } else {
+        let mut low = q.low;
+        'second: while low < q.high {
+            let high = end(low, q.size / 8, q.high);
+            if !parts_apart(a, p, b, part_of(b, low, high, q.size / 8), d) {
+                return false;
+            }
+            low = high;
+        }
+    }
+    true
+}
+
+// Whether each edge of the one polygon is apart from each of the other.
+pub fn outlines_apart(a: &Poly, b: &Poly, d: i64) -> bool
+    requires from { pos 0 ≤ℤ d }
+    requires to { d ≤ℤ pos 2000000000 }
+    ensures { IsTrue result ↔ EachApart d (outline a.now) (outline b.now) }
+{
+    parts_apart(a, whole(a), b, whole(b), d)
+}
+
+// Whether some edge of the path is within d of some of the other, whose box is `far`.
+fn paths_within(
+    from: Point,
+    part: &[Point],
+    far: Bounds,
+    other: Point,
+    others: &[Point],
+    d: i64,
+) -> bool
+    requires far { IsRunBox (path other others.now) far }
+    requires from { pos 0 ≤ℤ d }
+    requires to { d ≤ℤ pos 2000000000 }
+    ensures { IsTrue result ↔ SomeReached d (path from part.now) (path other others.now) }
+{
+    let mut at = from;
+    for c in part {
+        let e = Seg { a: at, b: *c };
+        if far_within(other, others, far, e, d) {
+            return true;
         }
         at = *c;
     }
-    true
+    false
 }
 
-// The same for the outline of a polygon whose box is `far`.
-fn run_apart(from: Point, part: &[Point], far: Bounds, others: &[Point], d: i64) -> bool
-    requires far { IsLeastBox (IsInside others.now) far }
-    requires fits { FitsWithin (pos 1000000000) far }
-    requires others { 0 < length others.now }
-    requires from { pos 0 ≤ℤ d }
-    requires to { d ≤ℤ pos 2000000000 }
-    ensures { IsTrue result ↔ EachApart d (outline others.now) (path from part.now) }
-{
-    let near = path_box(from, part);
-    near.is_clear(far, d) || path_outline_apart(from, part, near, others, d)
-}
-
-// Whether each edge of one outline is apart from each of the other, whose polygon has the box `far`.
-pub fn runs_apart(corners: &[Point], far: Bounds, others: &[Point], d: i64) -> bool
-    requires some { 0 < length corners.now }
-    requires far { IsLeastBox (IsInside others.now) far }
-    requires fits { FitsWithin (pos 1000000000) far }
-    requires others { 0 < length others.now }
-    requires from { pos 0 ≤ℤ d }
-    requires to { d ≤ℤ pos 2000000000 }
-    ensures { IsTrue result ↔ EachApart d (outline others.now) (outline corners.now) }
-{
-    let mut from = last(corners);
-    let mut low = 0;
-    'runs: while low < corners.len() {
-        let high = if corners.len() - low > 256 {
-            low + 256
-        } else {
-            corners.len()
-        };
-        let part = &corners[low..high];
-        if !run_apart(from, part, far, others, d) {
-            return false;
-        }
-        from = part[part.len() - 1];
-        low = high;
-    }
-    true
-}
-
-// Whether some edge of the path, whose box is `near`, is within d of the segment.
-fn near_within(from: Point, part: &[Point], near: Bounds, s: Seg, d: i64) -> bool
-    requires near { IsCornerBox (from ∷ part.now) near }
+// Whether some edge of the path, whose box is `far`, is within d of the segment.
+fn far_within(from: Point, part: &[Point], far: Bounds, s: Seg, d: i64) -> bool
+    requires far { IsRunBox (path from part.now) far }
     requires from { pos 0 ≤ℤ d }
     requires to { d ≤ℤ pos 2000000000 }
     ensures { IsTrue result ↔ SomeEdge (λ e. IsReached e s d) (path from part.now) }
 {
-    !near.is_clear(s.bounds(), d + 1) && path_within(from, part, s, d)
+    !far.is_clear(s.bounds(), d + 1) && path_within(from, part, s, d)
 }
 
-// Whether some edge of the path is within d of some edge of the outline.
-fn path_outline_within(from: Point, part: &[Point], near: Bounds, others: &[Point], d: i64) -> bool
-    requires near { IsCornerBox (from ∷ part.now) near }
-    requires others { 0 < length others.now }
+fn short_within(a: &Poly, p: Part, b: &Poly, q: Part, d: i64) -> bool
+    requires first { IsPartOf a.now p }
+    requires second { IsPartOf b.now q }
     requires from { pos 0 ≤ℤ d }
     requires to { d ≤ℤ pos 2000000000 }
-    ensures { IsTrue result ↔ SomeReached d (outline others.now) (path from part.now) }
+    ensures { IsTrue result ↔ SomeReached d (edges_of a.now p) (edges_of b.now q) }
 {
-    let mut at = last(others);
-    for c in others {
-        if near_within(from, part, near, Seg { a: at, b: *c }, d) {
-            return true;
+    let corners = a.corners();
+    let others = b.corners();
+    paths_within(
+        before(corners, p.low),
+        &corners[p.low..p.high],
+        q.bounds,
+        before(others, q.low),
+        &others[q.low..q.high],
+        d,
+    )
+}
+
+// Whether some edge of the one part is within d of some of the other.
+fn parts_within(a: &Poly, p: Part, b: &Poly, q: Part, d: i64) -> bool
+    requires first { IsPartOf a.now p }
+    requires second { IsPartOf b.now q }
+    requires from { pos 0 ≤ℤ d }
+    requires to { d ≤ℤ pos 2000000000 }
+    ensures { IsTrue result ↔ SomeReached d (edges_of a.now p) (edges_of b.now q) }
+{
+    if q.bounds.is_clear(p.bounds, d + 1) {
+        return false;
+    }
+    if p.size <= 8 && q.size <= 8 {
+        return short_within(a, p, b, q, d);
+    }
+    if p.size >= q.size {
+        let mut low = p.low;
+        'first: while low < p.high {
+            let high = end(low, p.size / 8, p.high);
+            if parts_within(a, part_of(a, low, high, p.size / 8), b, q, d) {
+                return true;
+            }
+            low = high;
         }
-        at = *c;
+    } else {
+        let mut low = q.low;
+        'second: while low < q.high {
+            let high = end(low, q.size / 8, q.high);
+            if parts_within(a, p, b, part_of(b, low, high, q.size / 8), d) {
+                return true;
+            }
+            low = high;
+        }
     }
     false
 }
 
-// The same for the outline of a polygon whose box is `far`.
-fn run_within(from: Point, part: &[Point], far: Bounds, others: &[Point], d: i64) -> bool
-    requires far { IsLeastBox (IsInside others.now) far }
-    requires fits { FitsWithin (pos 1000000000) far }
-    requires others { 0 < length others.now }
+// Whether some edge of the one polygon is within d of some of the other.
+pub fn outlines_within(a: &Poly, b: &Poly, d: i64) -> bool
     requires from { pos 0 ≤ℤ d }
     requires to { d ≤ℤ pos 2000000000 }
-    ensures { IsTrue result ↔ SomeReached d (outline others.now) (path from part.now) }
+    ensures { IsTrue result ↔ SomeReached d (outline a.now) (outline b.now) }
 {
-    let near = path_box(from, part);
-    !near.is_clear(far, d + 1) && path_outline_within(from, part, near, others, d)
-}
-
-// Whether some edge of one outline is within d of some of the other, whose polygon has the box `far`.
-pub fn runs_within(corners: &[Point], far: Bounds, others: &[Point], d: i64) -> bool
-    requires some { 0 < length corners.now }
-    requires far { IsLeastBox (IsInside others.now) far }
-    requires fits { FitsWithin (pos 1000000000) far }
-    requires others { 0 < length others.now }
-    requires from { pos 0 ≤ℤ d }
-    requires to { d ≤ℤ pos 2000000000 }
-    ensures { IsTrue result ↔ SomeReached d (outline others.now) (outline corners.now) }
-{
-    let mut from = last(corners);
-    let mut low = 0;
-    'runs: while low < corners.len() {
-        let high = if corners.len() - low > 256 {
-            low + 256
-        } else {
-            corners.len()
-        };
-        let part = &corners[low..high];
-        if run_within(from, part, far, others, d) {
-            return true;
-        }
-        from = part[part.len() - 1];
-        low = high;
-    }
-    false
+    parts_within(a, whole(a), b, whole(b), d)
 }

@@ -49,6 +49,12 @@ fn check_segment(rt: &impl Abort, polygon: &Poly, s: Seg, d: i64, apart: bool, w
     assert_eq!(rt; poly_seg_within(polygon, s, d), within, "within {d}");
 }
 
+fn check_polygons(rt: &impl Abort, a: &Poly, b: &Poly, d: i64, apart: bool, within: bool) {
+    assert!(rt; 0 <= d && d <= 2_000_000_000);
+    assert_eq!(rt; poly_apart(a, b, d), apart, "apart at {d}");
+    assert_eq!(rt; poly_within(a, b, d), within, "within {d}");
+}
+
 // A square of 20 mm with a square hole of 10 mm, joined to the outline by a bridge that is run twice.
 const FILL: [[i64; 2]; 11] = [
     [200_000_000, 200_000_000],
@@ -259,9 +265,87 @@ fn polygons(rt: HostRuntime) -> Result<(), Fail> {
         (&island, &fill, 4_999_999, true, false),
     ];
     for (a, b, d, apart, within) in table {
-        assert!(rt; 0 <= d && d <= 2_000_000_000);
-        assert_eq!(rt; poly_apart(a, b, d), apart, "apart at {d}");
-        assert_eq!(rt; poly_within(a, b, d), within, "within {d}");
+        check_polygons(&rt, a, b, d, apart, within);
     }
+    Ok(())
+}
+
+// The corners of a comb of 1,100 teeth with its bar at the height `foot`, where its teeth begin at the
+// height `root`, end at `tip`, and are from `from` to `to` wide; one begins each 40.
+fn comb(
+    rt: &impl Abort,
+    alloc: Global,
+    (foot, root, tip): (i64, i64, i64),
+    (from, to): (i64, i64),
+) -> Result<Vec<Point>, Fail> {
+    let mut points = Vec::new(alloc);
+    for k in 0..1100_u32 {
+        let x = 40 * i64::from(k);
+        points.push(at(rt, x.wrapping_add(from), root))?;
+        points.push(at(rt, x.wrapping_add(from), tip))?;
+        points.push(at(rt, x.wrapping_add(to), tip))?;
+        points.push(at(rt, x.wrapping_add(to), root))?;
+    }
+    points.push(at(rt, to.wrapping_add(43_960), foot))?;
+    points.push(at(rt, from, foot))?;
+    assert!(rt; 3 <= points.len());
+    Ok(points)
+}
+
+fn check_comb(rt: &impl Abort, comb: &Poly) {
+    for k in 0..20_u32 {
+        let x = 40 * 55 * i64::from(k);
+        // a point in the tooth, on its side, in the gap to the next, at its bottom, and in the bar
+        let table = [
+            (10, 50, true),
+            (20, 50, true),
+            (30, 50, false),
+            (30, 1, false),
+            (30, 0, true),
+            (30, -9, true),
+        ];
+        for (right, y, held) in table {
+            assert_eq!(rt;
+                holds(comb, at(rt, x.wrapping_add(right), y)),
+                held,
+                "{x} {right} {y}"
+            );
+        }
+        let gap = at(rt, x.wrapping_add(30), 50);
+        check_segment(rt, comb, Seg { a: gap, b: gap }, 10, true, true);
+        check_segment(rt, comb, Seg { a: gap, b: gap }, 9, true, false);
+        check_segment(rt, comb, Seg { a: gap, b: gap }, 11, false, true);
+    }
+    // to the left of all, to the right, and across all teeth
+    check_segment(rt, comb, seg(rt, [-30, 50, -30, 60]), 30, true, true);
+    check_segment(rt, comb, seg(rt, [-30, 50, -30, 60]), 31, false, true);
+    check_segment(rt, comb, seg(rt, [43_985, 99, 43_985, 99]), 4, true, false);
+    check_segment(rt, comb, seg(rt, [-30, 50, 44_000, 60]), 1, false, true);
+}
+
+// With boxes of runs and without.
+#[test]
+fn combs(rt: HostRuntime) -> Result<(), Fail> {
+    let low = comb(&rt, rt.alloc(), (-20, 0, 100), (0, 20))?;
+    assert!(rt; 3 <= low.len());
+    let low = Poly::of(low);
+    check_comb(&rt, &low);
+    let low = Poly::indexed(rt.alloc(), low.into_corners())?;
+    check_comb(&rt, &low);
+    // the teeth of the other stand between those, 5 from each
+    let other = comb(&rt, rt.alloc(), (140, 120, 20), (25, 35))?;
+    assert!(rt; 3 <= other.len());
+    let other = Poly::of(other);
+    check_polygons(&rt, &low, &other, 5, true, true);
+    check_polygons(&rt, &other, &low, 4, true, false);
+    check_polygons(&rt, &other, &low, 6, false, true);
+    let small = poly(&rt, rt.alloc(), &[[20_022, 30], [20_023, 30], [20_023, 50]])?;
+    check_polygons(&rt, &low, &small, 2, true, true);
+    check_polygons(&rt, &small, &low, 1, true, false);
+    check_polygons(&rt, &small, &low, 3, false, true);
+    let other = Poly::indexed(rt.alloc(), other.into_corners())?;
+    check_polygons(&rt, &low, &other, 4, true, false);
+    check_polygons(&rt, &low, &other, 5, true, true);
+    check_polygons(&rt, &other, &low, 6, false, true);
     Ok(())
 }

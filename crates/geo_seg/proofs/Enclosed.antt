@@ -12,15 +12,13 @@ use Rattle.geo_seg.specs.Points.{Spot, IsOn, spot_of}
 use Rattle.geo_seg.specs.Inside.{edge, path, last_of, outline, SomeEdge, EachEdge, is_low, side, passing, passes, IsInside}
 use Rattle.geo_seg.specs.Boxes.{IsInBox, IsLeastBox}
 use Rattle.geo_seg.specs.Corners.{EachCorner, IsHeld, IsCornerBox}
+use Rattle.geo_seg.specs.Runs.{AreEndsHeld}
 use Rattle.geo_seg.proofs.BoxLemmas.{on_in_box, held_of_in_box, end_on}
 use Rattle.geo_seg.proofs.CornerBoxes.{each_corner, box_part}
 use Rattle.geo_seg.proofs.Parity.{differ, is_odd, is_odd_of, some_passes}
 
 -- ---- edges between corners that the box holds
-abbrev AreEndsHeld : Bounds → Seg → Type 0
-AreEndsHeld b e = IsHeld b e.a × IsHeld b e.b
-
-path_held : (b : Bounds) (a : Point) (cs : List Point) → IsHeld b a → EachCorner (IsHeld b) cs → EachEdge (AreEndsHeld b) (path a cs)
+pub path_held : (b : Bounds) (a : Point) (cs : List Point) → IsHeld b a → EachCorner (IsHeld b) cs → EachEdge (AreEndsHeld b) (path a cs)
 path_held b a [] h k = tt
 path_held b a (c ∷ cs) h k = ((h, k.0), path_held b c cs k.0 k.1)
 
@@ -33,7 +31,7 @@ outline_held b [] h = tt
 outline_held b (c ∷ cs) h = path_held b (last_of c cs) (c ∷ cs) (last_held b c cs h.0 h.1) h
 
 -- an edge of which one thing holds, among edges of which another does
-edge_with : {P Q : Seg → Type 0} {R : Type 0} → ((e : Seg) → P e → Q e → R) → (es : List Seg) → EachEdge P es → SomeEdge Q es → R
+pub edge_with : {P Q : Seg → Type 0} {R : Type 0} → ((e : Seg) → P e → Q e → R) → (es : List Seg) → EachEdge P es → SomeEdge Q es → R
 edge_with f [] h k = absurd k
 edge_with f (e ∷ es) h (inl k) = f e h.0 k
 edge_with f (e ∷ es) h (inr k) = edge_with f es h.1 k
@@ -89,17 +87,17 @@ lt_out a b h = omega (arith, ints)
 lt_in : (a b : ℤ) → a <ℤ b → lt_z a b ≡ true
 lt_in a b h = let e : true ≡ lt_z a b = omega (arith, ints) in sym e
 
-record Rises (p : Spot) (e : Seg) : Type 0 where
+pub record Rises (p : Spot) (e : Seg) : Type 0 where
   pub start : (p.w *ℤ e.a.y) ≤ℤ p.y
   pub end : p.y <ℤ (p.w *ℤ e.b.y)
   pub left : pos 0 <ℤ side e p
 
-record Falls (p : Spot) (e : Seg) : Type 0 where
+pub record Falls (p : Spot) (e : Seg) : Type 0 where
   pub start : p.y <ℤ (p.w *ℤ e.a.y)
   pub end : (p.w *ℤ e.b.y) ≤ℤ p.y
   pub right : side e p <ℤ pos 0
 
-how_passes : (p : Spot) (e : Seg) → passes p e ≡ true → Rises p e ⊎ Falls p e
+pub how_passes : (p : Spot) (e : Seg) → passes p e ≡ true → Rises p e ⊎ Falls p e
 how_passes p e h = cases (is_low p e.a) (is_low p e.b) refl refl h
   where
     cases : (l m : Bool) → is_low p e.a ≡ l → is_low p e.b ≡ m → passing l m (side e p) ≡ true → Rises p e ⊎ Falls p e
@@ -137,12 +135,12 @@ not_beyond p e r ha hc (inr h) k =
     flip u t v e f h = omega (arith, ints)
 
 -- the heights between which an edge passes, and how far right it must reach
-record Between (b : Bounds) (p : Spot) : Type 0 where
+pub record Between (b : Bounds) (p : Spot) : Type 0 where
   pub top : (p.w *ℤ b.top) ≤ℤ p.y
   pub right : p.x ≤ℤ (p.w *ℤ b.right)
   pub bottom : p.y ≤ℤ (p.w *ℤ b.bottom)
 
-in_between : (b : Bounds) (p : Spot) (e : Seg) → AreEndsHeld b e → Rises p e ⊎ Falls p e → Between b p
+pub in_between : (b : Bounds) (p : Spot) (e : Seg) → AreEndsHeld b e → Rises p e ⊎ Falls p e → Between b p
 in_between b p e h k = record {
   top = top_by k;
   right = by_lt_z (p.w *ℤ b.right) p.x (λ l. absurd (not_beyond p e b.right h.0.right h.1.right k l)) (λ l. l);
@@ -187,7 +185,7 @@ joined false false true = refl
 joined false false false = refl
 
 -- so the parity of a path is that of its two ends
-path_parity : (b : Bounds) (p : Spot) (a : Point) (cs : List Point) → p.x <ℤ (p.w *ℤ b.left) → EachEdge (AreEndsHeld b) (path a cs) → is_odd p (path a cs) ≡ differ (is_low p a) (is_low p (last_of a cs))
+pub path_parity : (b : Bounds) (p : Spot) (a : Point) (cs : List Point) → p.x <ℤ (p.w *ℤ b.left) → EachEdge (AreEndsHeld b) (path a cs) → is_odd p (path a cs) ≡ differ (is_low p a) (is_low p (last_of a cs))
 path_parity b p a [] k h = none (is_low p a)
   where
     none : (l : Bool) → false ≡ differ l l

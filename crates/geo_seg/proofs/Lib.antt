@@ -10,3 +10,4 @@ pub mod BoxLemmas
 pub mod CornerBoxes
 pub mod Parity
 pub mod Enclosed
+pub mod RunBoxes

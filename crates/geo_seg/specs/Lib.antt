@@ -5,3 +5,5 @@ pub mod Cores
 pub mod Boxes
 pub mod Corners
 pub mod Gap
+pub mod Runs
+pub mod Kept

@@ -5,9 +5,11 @@
 
 mod boxes;
 mod extents;
+mod frames;
 mod near;
 mod points;
 mod polygon;
+mod runs;
 mod shapes;
 #[cfg(test)]
 mod tests;

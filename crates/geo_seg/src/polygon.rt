@@ -1,44 +1,52 @@
 // Polygons, as lists of corners.
 
-ghost use Rattle.std.specs.Prelude.{◌≡◌, ◌≤◌, ◌∷◌, pos, length};
-ghost use Rattle.geo_seg.specs.Corners.{IsCornerBox};
+ghost use Rattle.std.specs.Prelude.{◌≡◌, ◌≤◌, pos, length, take, drop, IfOk, IfSome};
 ghost use Rattle.geo_seg.specs.Boxes.{FitsWithin, IsLeastBox};
-ghost use Rattle.geo_seg.specs.Inside.{IsInside};
+ghost use Rattle.geo_seg.specs.Corners.{IsCornerBox};
+ghost use Rattle.geo_seg.specs.Inside.{IsInside, outline};
+ghost use Rattle.geo_seg.specs.Runs.{IsRunBox, sides_of};
 
 use crate::boxes::Bounds;
-use crate::extents::{around, grown};
+use crate::frames::Frame;
 use crate::points::Point;
+use crate::runs::{Indexed, corner_box};
+use std::alloc::{AllocError, Global};
 use std::marker::Model;
+
+// The corners, alone or with the boxes of their runs. Those stand apart, since few polygons have
+// them and a segment takes as much room as a polygon where either may stand.
+#[derive(Drop)]
+pub enum Outline {
+    Plain(Vec<Point>),
+    Runs(Box<Indexed>),
+}
 
 /// A polygon of three corners or more; an edge joins the last to the first. Contracts see the list
 /// of its corners.
 #[derive(Drop)]
 pub struct Poly {
-    corners: Vec<Point>,
-    bounds: Bounds,
+    outline: Outline,
+    frame: Frame,
 }
 
 impl Model for Poly {
-    ghost use Rattle.std.specs.Prelude.{List, ◌≤◌, length};
+    ghost use Rattle.std.specs.Prelude.{List};
     ghost use Rattle.geo_seg.specs.declared.points.Point.{Point};
-    ghost use Rattle.geo_seg.specs.Corners.{IsCornerBox};
+    ghost use Rattle.geo_seg.specs.Kept.{corners_of, IsKept};
 
     ghost Value = { List Point };
 
-    ghost view = { λ p. p.corners.items };
+    ghost view = { λ p. corners_of p.outline };
 
-    ghost invariant = { λ p. (3 ≤ length p.corners.items) × IsCornerBox p.corners.items p.bounds };
+    ghost invariant = { λ p. IsKept p.outline p.frame };
 }
 
-// The box of a corner and others.
-fn corner_box(first: Point, others: &[Point]) -> Bounds
-    ensures { IsCornerBox (first ∷ others.now) result }
+// The box of all corners.
+fn frame_of(corners: &[Point]) -> Frame
+    requires { 3 ≤ length corners.now }
+    ensures { IsCornerBox corners.now (sides_of result) }
 {
-    let mut bounds = around(first);
-    for corner in others {
-        bounds = grown(bounds, *corner);
-    }
-    bounds
+    Frame::of(corner_box(corners[0], corners))
 }
 
 impl Poly {
@@ -47,8 +55,25 @@ impl Poly {
         requires { 3 ≤ length corners.items }
         ensures { result ≡ corners.items }
     {
-        let bounds = corner_box(corners[0], &corners);
-        Poly { corners, bounds }
+        let frame = frame_of(&corners);
+        Poly {
+            outline: Outline::Plain(corners),
+            frame,
+        }
+    }
+
+    /// The same polygon. One of many corners also gets the boxes of its runs of edges, so that
+    /// questions about it pass over all that lies far away.
+    pub fn indexed(alloc: Global, corners: Vec<Point>) -> Result<Poly, AllocError>
+        requires { 3 ≤ length corners.items }
+        ensures { IfOk result (λ poly. poly ≡ corners.items) }
+    {
+        if corners.len() <= 32 {
+            return Ok(Poly::of(corners));
+        }
+        let frame = frame_of(&corners);
+        let outline = Outline::Runs(Box::new(alloc, Indexed::of(alloc, corners)?)?);
+        Ok(Poly { outline, frame })
     }
 
     /// Its corners, of which there are three or more.
@@ -56,7 +81,10 @@ impl Poly {
         ensures same { result.now ≡ self.now }
         ensures enough { 3 ≤ length result.now }
     {
-        &self.corners
+        match &self.outline {
+            Outline::Plain(corners) => corners,
+            Outline::Runs(index) => &index.corners,
+        }
     }
 
     /// Gives its corners back.
@@ -64,7 +92,10 @@ impl Poly {
         ensures same { result.items ≡ self }
         ensures enough { 3 ≤ length result.items }
     {
-        self.corners
+        match self.outline {
+            Outline::Plain(corners) => corners,
+            Outline::Runs(index) => Box::into_inner(index).corners,
+        }
     }
 
     /// The least box that holds it.
@@ -72,6 +103,17 @@ impl Poly {
         ensures least { IsLeastBox (IsInside self.now) result }
         ensures fits { FitsWithin (pos 1000000000) result }
     {
-        self.bounds
+        self.frame.bounds()
+    }
+
+    /// A box that holds the `size` edges from edge `low` on, where one is kept: the edge that leads to
+    /// the first corner is edge 0, and `size` is 8, 64, 512 or 4096.
+    pub fn run_box(&self, low: usize, size: usize) -> Option<Bounds>
+        ensures { IfSome result (λ b. IsRunBox (take size (drop low (outline self.now))) b) }
+    {
+        match &self.outline {
+            Outline::Plain(_) => None,
+            Outline::Runs(index) => index.run_box(low, size),
+        }
     }
 }

@@ -4,6 +4,7 @@ ghost use Rattle.std.specs.Prelude.{◌≤ℤ◌, pos};
 
 use crate::points::Seg;
 use crate::polygon::Poly;
+use std::mem::size_of;
 
 /// What lies in the middle of a shape: a segment, or a polygon with its inside.
 #[derive(Drop)]
@@ -20,3 +21,6 @@ pub struct Shape {
     ghost radius_from: { pos 0 ≤ℤ radius },
     ghost radius_to: { radius ≤ℤ pos 500000000 },
 }
+
+// A board has far more segments than polygons: what only polygons need is to stand elsewhere.
+const _: () = prove!(size_of::<Shape>() == 64);

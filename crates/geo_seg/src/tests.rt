@@ -4,6 +4,7 @@ use crate::{
     Bounds, Core, Point, Poly, Seg, Shape, point_apart, point_within, seg_apart, seg_meet,
     seg_within,
 };
+use std::alloc::Global;
 use std::process::Abort;
 use std::test::Fail;
 use std::thread::join;
@@ -182,5 +183,59 @@ fn boxes(rt: HostRuntime) -> Result<(), Fail> {
     if let Core::Area(poly) = core {
         assert_eq!(rt; poly.into_corners().len(), 3);
     }
+    Ok(())
+}
+
+// A zigzag of 40 corners: corner k lies at (10 k, 0) where k is even, and else at (10 k, 5).
+fn zigzag(rt: &impl Abort, alloc: Global) -> Result<Vec<Point>, Fail> {
+    let mut corners = Vec::new(alloc);
+    for k in 0..40_u32 {
+        corners.push(at(rt, 10 * i64::from(k), 5 * i64::from(k % 2)))?;
+    }
+    assert!(rt; 3 <= corners.len());
+    Ok(corners)
+}
+
+#[test]
+fn runs(rt: HostRuntime) -> Result<(), Fail> {
+    let corners = zigzag(&rt, rt.alloc())?;
+    assert!(rt; 3 <= corners.len());
+    let plain = Poly::of(corners);
+    assert!(rt; plain.run_box(0, 8).is_none());
+    let poly = Poly::indexed(rt.alloc(), plain.into_corners())?;
+    assert_eq!(rt; poly.corners().len(), 40);
+    let whole = Bounds {
+        left: 0,
+        top: 0,
+        right: 390,
+        bottom: 5,
+    };
+    assert_eq!(rt; poly.bounds(), whole);
+    // edge 0 leads from the last corner to the first
+    let (left, right) = (70, 150);
+    // the run that begins at an edge, of so many
+    let table = [
+        (0, 8, Some(whole)),
+        (
+            8,
+            8,
+            Some(Bounds {
+                left,
+                right,
+                ..whole
+            }),
+        ),
+        (32, 8, Some(Bounds { left: 310, ..whole })),
+        (40, 8, None),
+        (1, 8, None),
+        (8, 7, None),
+        (0, 64, Some(whole)),
+        (8, 64, None),
+        (0, 4096, Some(whole)),
+    ];
+    for (low, size, bounds) in table {
+        assert_eq!(rt; poly.run_box(low, size), bounds, "{low} {size}");
+    }
+    assert_eq!(rt; poly.into_corners().len(), 40);
     Ok(())
 }

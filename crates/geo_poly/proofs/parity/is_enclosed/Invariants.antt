@@ -1,9 +1,13 @@
-use Rattle.std.proofs.Common.{◌≡◌, drop}
+use Rattle.std.proofs.Common.{◌≡◌, ◌≤◌, ◌-◌}
 use Rattle.geo_seg.specs.Points.{spot_of}
-use Rattle.geo_seg.specs.Inside.{path, outline}
-use Rattle.geo_seg.proofs.Parity.{differ, is_odd}
+use Rattle.geo_seg.specs.Inside.{outline}
+use Rattle.geo_seg.proofs.Parity.{is_odd}
+use Rattle.geo_poly.specs.Runs.{between}
 use Rattle.geo_poly.proofs.parity.is_enclosed.Given as goal
 
--- the parity so far, and that of the edges that are left
-abbrev pub invariant-loop-c : goal.invariant-loop-c
-invariant-loop-c l = is_odd (spot_of l.p) (outline l.corners) ≡ differ l.odd (is_odd (spot_of l.p) (path l.from (drop l.c-index l.corners)))
+-- the parity of the edges behind
+abbrev pub invariant-steps : goal.invariant-steps
+invariant-steps l = (l.low ≤ l.all) × (is_odd (spot_of l.p) (between 0 l.low (outline l.poly)) ≡ l.odd)
+
+abbrev pub decreases-steps : goal.decreases-steps
+decreases-steps l = l.all - l.low

@@ -1,14 +1,13 @@
-use Rattle.std.proofs.Common.{List, pos, not, ap}
-use Rattle.geo_seg.specs.declared.points.Point.{Point}
-use Rattle.geo_seg.specs.Points.{IsAt, spot_of}
+use Rattle.std.proofs.Common.{pos, not, ap}
+use Rattle.geo_seg.specs.Points.{IsAt}
 use Rattle.geo_seg.specs.Inside.{IsInside}
 use Rattle.geo_seg.proofs.BoxLemmas.{clear_not_within}
 use Rattle.geo_seg.proofs.Choices.{surely_not}
-use Rattle.geo_poly.proofs.Answers.{iff_at, within_of_inside}
+use Rattle.geo_poly.proofs.Answers.{within_of_inside}
 use Rattle.geo_poly.proofs.polygons.holds.Goals as goal
 
 pub returns-then-not-is_clear : goal.returns-then-not-is_clear
-returns-then-not-is_clear c = iff_at (λ (z : List Point). IsInside z (spot_of c.args.p)) _ _ c.corners.ensures.same c.has_point.ensures
+returns-then-not-is_clear c = c.has_point.ensures
 
 pub returns-else-not-is_clear : goal.returns-else-not-is_clear
 returns-else-not-is_clear c =

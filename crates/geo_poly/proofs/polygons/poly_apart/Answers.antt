@@ -1,12 +1,10 @@
-use Rattle.std.proofs.Common.{List, ℤ}
-use Rattle.geo_seg.specs.declared.points.Point.{Point}
+use Rattle.std.proofs.Common.{ℤ}
 use Rattle.geo_seg.specs.Nearer.{AreApart}
 use Rattle.geo_seg.specs.Inside.{IsInside}
 use Rattle.geo_seg.specs.Boxes.{AreClear}
 use Rattle.geo_seg.proofs.BoxLemmas.{clear_apart}
 use Rattle.geo_seg.proofs.Passed.{at_d}
 use Rattle.geo_seg.proofs.Choices.{surely}
-use Rattle.geo_poly.proofs.Answers.{iff_at}
 use Rattle.geo_poly.proofs.polygons.poly_apart.Goals as goal
 
 pub returns-then-is_clear : goal.returns-then-is_clear
@@ -16,8 +14,4 @@ returns-then-is_clear c =
     surely _ c.if-is_clear.true (clear_apart (IsInside c.args.a.now) (IsInside c.args.b.now) b k c.args.d c.requires.from c.bounds.ensures.least c.bounds-2.ensures.least (e.0 c.if-is_clear.true))
 
 pub returns-else-is_clear : goal.returns-else-is_clear
-returns-else-is_clear c =
-    let ks = c.corners-else-is_clear.result.now in let d = c.args.d in
-    iff_at (λ (z : List Point). AreApart (IsInside z) (IsInside c.args.b.now) d) _ _ c.corners.ensures.same
-    (iff_at (λ (z : List Point). AreApart (IsInside c.corners.result.now) (IsInside z) d) _ _ c.corners-else-is_clear.ensures.same
-    (at_d (λ (z : ℤ). AreApart (IsInside c.corners.result.now) (IsInside ks) z) d _ c.requires.from c.requires.to c.outlines_apart.ensures))
+returns-else-is_clear c = at_d (λ (z : ℤ). AreApart (IsInside c.args.a.now) (IsInside c.args.b.now) z) c.args.d _ c.requires.from c.requires.to c.areas_apart.ensures

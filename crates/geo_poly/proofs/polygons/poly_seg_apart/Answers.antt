@@ -1,5 +1,4 @@
-use Rattle.std.proofs.Common.{List, ℤ}
-use Rattle.geo_seg.specs.declared.points.Point.{Point}
+use Rattle.std.proofs.Common.{ℤ}
 use Rattle.geo_seg.specs.Points.{IsOn}
 use Rattle.geo_seg.specs.Nearer.{AreApart}
 use Rattle.geo_seg.specs.Inside.{IsInside}
@@ -7,7 +6,6 @@ use Rattle.geo_seg.specs.Boxes.{AreClear}
 use Rattle.geo_seg.proofs.BoxLemmas.{clear_apart}
 use Rattle.geo_seg.proofs.Passed.{at_d}
 use Rattle.geo_seg.proofs.Choices.{surely}
-use Rattle.geo_poly.proofs.Answers.{iff_at}
 use Rattle.geo_poly.proofs.polygons.poly_seg_apart.Goals as goal
 
 pub returns-then-is_clear : goal.returns-then-is_clear
@@ -17,6 +15,4 @@ returns-then-is_clear c =
     surely _ c.if-is_clear.true (clear_apart (IsInside c.args.poly.now) (IsOn c.args.s) b k c.args.d c.requires.from c.bounds.ensures.least c.bounds-2.ensures.least (e.0 c.if-is_clear.true))
 
 pub returns-else-is_clear : goal.returns-else-is_clear
-returns-else-is_clear c =
-    iff_at (λ (z : List Point). AreApart (IsInside z) (IsOn c.args.s) c.args.d) _ _ c.corners.ensures.same
-    (at_d (λ (z : ℤ). AreApart (IsInside c.corners.result.now) (IsOn c.args.s) z) c.args.d _ c.requires.from c.requires.to c.edges_apart.ensures)
+returns-else-is_clear c = at_d (λ (z : ℤ). AreApart (IsInside c.args.poly.now) (IsOn c.args.s) z) c.args.d _ c.requires.from c.requires.to c.edges_apart.ensures

@@ -1,5 +1,4 @@
-use Rattle.std.proofs.Common.{List, ℤ, not, ap}
-use Rattle.geo_seg.specs.declared.points.Point.{Point}
+use Rattle.std.proofs.Common.{ℤ, not, ap}
 use Rattle.geo_seg.specs.Points.{IsOn}
 use Rattle.geo_seg.specs.Nearer.{AreWithin}
 use Rattle.geo_seg.specs.Inside.{IsInside}
@@ -7,13 +6,10 @@ use Rattle.geo_seg.specs.Boxes.{AreClear}
 use Rattle.geo_seg.proofs.BoxLemmas.{clear_not_within}
 use Rattle.geo_seg.proofs.Passed.{at_d, at_more}
 use Rattle.geo_seg.proofs.Choices.{surely_not}
-use Rattle.geo_poly.proofs.Answers.{iff_at}
 use Rattle.geo_poly.proofs.polygons.poly_seg_within.Goals as goal
 
 pub returns-then-not-is_clear : goal.returns-then-not-is_clear
-returns-then-not-is_clear c =
-    iff_at (λ (z : List Point). AreWithin (IsInside z) (IsOn c.args.s) c.args.d) _ _ c.corners.ensures.same
-    (at_d (λ (z : ℤ). AreWithin (IsInside c.corners.result.now) (IsOn c.args.s) z) c.args.d _ c.requires.from c.requires.to c.edges_within.ensures)
+returns-then-not-is_clear c = at_d (λ (z : ℤ). AreWithin (IsInside c.args.poly.now) (IsOn c.args.s) z) c.args.d _ c.requires.from c.requires.to c.edges_within.ensures
 
 pub returns-else-not-is_clear : goal.returns-else-not-is_clear
 returns-else-not-is_clear c =

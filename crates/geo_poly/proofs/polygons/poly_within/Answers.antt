@@ -1,20 +1,14 @@
-use Rattle.std.proofs.Common.{List, ℤ, not, ap}
-use Rattle.geo_seg.specs.declared.points.Point.{Point}
+use Rattle.std.proofs.Common.{ℤ, not, ap}
 use Rattle.geo_seg.specs.Nearer.{AreWithin}
 use Rattle.geo_seg.specs.Inside.{IsInside}
 use Rattle.geo_seg.specs.Boxes.{AreClear}
 use Rattle.geo_seg.proofs.BoxLemmas.{clear_not_within}
 use Rattle.geo_seg.proofs.Passed.{at_d, at_more}
 use Rattle.geo_seg.proofs.Choices.{surely_not}
-use Rattle.geo_poly.proofs.Answers.{iff_at}
 use Rattle.geo_poly.proofs.polygons.poly_within.Goals as goal
 
 pub returns-then-not-is_clear : goal.returns-then-not-is_clear
-returns-then-not-is_clear c =
-    let ks = c.corners-then-not-is_clear.result.now in let d = c.args.d in
-    iff_at (λ (z : List Point). AreWithin (IsInside z) (IsInside c.args.b.now) d) _ _ c.corners.ensures.same
-    (iff_at (λ (z : List Point). AreWithin (IsInside c.corners.result.now) (IsInside z) d) _ _ c.corners-then-not-is_clear.ensures.same
-    (at_d (λ (z : ℤ). AreWithin (IsInside c.corners.result.now) (IsInside ks) z) d _ c.requires.from c.requires.to c.outlines_within.ensures))
+returns-then-not-is_clear c = at_d (λ (z : ℤ). AreWithin (IsInside c.args.a.now) (IsInside c.args.b.now) z) c.args.d _ c.requires.from c.requires.to c.areas_within.ensures
 
 pub returns-else-not-is_clear : goal.returns-else-not-is_clear
 returns-else-not-is_clear c =

@@ -1,0 +1,8 @@
+use Rattle.std.proofs.Common.{◌↔◌, drop}
+use Rattle.geo_seg.specs.Inside.{path}
+use Rattle.geo_poly.specs.Outlines.{EachApart}
+use Rattle.geo_poly.proofs.runs.paths_apart.Given as goal
+
+-- the edges that are left decide
+abbrev pub invariant-loop-c : goal.invariant-loop-c
+invariant-loop-c l = EachApart l.d (path l.fn.from l.part) (path l.other l.others) ↔ EachApart l.d (path l.at (drop l.c-index l.part)) (path l.other l.others)

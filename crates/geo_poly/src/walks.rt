@@ -1,0 +1,160 @@
+// Walks along the outline of a polygon, which pass over runs of edges that lie far away: where the
+// polygon keeps the box of a run, and the box decides.
+
+ghost use Rattle.std.specs.Prelude.{◌≡◌, ◌≤ℤ◌, ◌<◌, ◌≤◌, List, pos, IsTrue, ◌↔◌, length, take, drop};
+ghost use Rattle.geo_seg.specs.declared.points.Seg.{Seg};
+ghost use Rattle.geo_seg.specs.Points.{IsOn};
+ghost use Rattle.geo_seg.specs.Boxes.{IsLeastBox, FitsWithin};
+ghost use Rattle.geo_seg.specs.Inside.{outline, EachEdge, SomeEdge};
+ghost use Rattle.geo_poly.specs.Outlines.{IsApart, IsReached};
+ghost use Rattle.geo_poly.specs.Runs.{between, LiesClear};
+
+use crate::edges::{before, path_apart, path_within};
+use geo_seg::{Bounds, Poly, Seg};
+
+// Where the run of `size` edges from `low` on ends, of so many in all.
+pub fn end(low: usize, size: usize, all: usize) -> usize
+    requires low { low < all }
+    requires size { 0 < size }
+    ensures after { low < result }
+    ensures within { result ≤ all }
+    ensures run { (es : List Seg) → length es ≡ all → take size (drop low es) ≡ between low result es }
+{
+    if all - low > size { low + size } else { all }
+}
+
+// Whether the polygon keeps the box of the run of `size` edges from `low` on, and that box is clear
+// of `near`.
+fn is_run_clear(poly: &Poly, low: usize, size: usize, near: Bounds, d: i64) -> bool
+    requires fits { FitsWithin (pos 1000000000) near }
+    requires from { pos 0 ≤ℤ d }
+    requires to { d ≤ℤ pos 2000000001 }
+    ensures { IsTrue result → EachEdge (LiesClear near d) (take size (drop low (outline poly.now))) }
+{
+    match poly.run_box(low, size) {
+        Some(b) => b.is_clear(near, d),
+        None => false,
+    }
+}
+
+// Where the longest such run from `low` on ends, or `low` where there is none.
+fn clear_end(poly: &Poly, low: usize, near: Bounds, d: i64) -> usize
+    requires low { low < length poly.now }
+    requires fits { FitsWithin (pos 1000000000) near }
+    requires from { pos 0 ≤ℤ d }
+    requires to { d ≤ℤ pos 2000000001 }
+    ensures after { low ≤ result }
+    ensures within { result ≤ length poly.now }
+    ensures clear { EachEdge (LiesClear near d) (between low result (outline poly.now)) }
+{
+    let all = poly.corners().len();
+    if is_run_clear(poly, low, 4096, near, d) {
+        end(low, 4096, all)
+    } else if is_run_clear(poly, low, 512, near, d) {
+        end(low, 512, all)
+    } else if is_run_clear(poly, low, 64, near, d) {
+        end(low, 64, all)
+    } else if is_run_clear(poly, low, 8, near, d) {
+        end(low, 8, all)
+    } else {
+        low
+    }
+}
+
+// Where a run from `low` on ends of which each edge is apart from the segment, whose box is `near`; or
+// `low` where some edge is not.
+fn apart_until(poly: &Poly, low: usize, s: Seg, near: Bounds, d: i64) -> usize
+    requires low { low < length poly.now }
+    requires near { IsLeastBox (IsOn s) near }
+    requires fits { FitsWithin (pos 1000000000) near }
+    requires from { pos 0 ≤ℤ d }
+    requires to { d ≤ℤ pos 2000000000 }
+    ensures after { low ≤ result }
+    ensures within { result ≤ length poly.now }
+    ensures apart { EachEdge (λ e. IsApart e s d) (between low result (outline poly.now)) }
+    ensures stuck { result ≡ low → ¬ (EachEdge (λ e. IsApart e s d) (outline poly.now)) }
+{
+    let clear = clear_end(poly, low, near, d);
+    if clear > low {
+        return clear;
+    }
+    let corners = poly.corners();
+    let high = end(low, 8, corners.len());
+    if path_apart(before(corners, low), &corners[low..high], s, d) {
+        high
+    } else {
+        low
+    }
+}
+
+// Whether each edge of the polygon is apart from the segment.
+pub fn outline_apart(poly: &Poly, s: Seg, d: i64) -> bool
+    requires from { pos 0 ≤ℤ d }
+    requires to { d ≤ℤ pos 2000000000 }
+    ensures { IsTrue result ↔ EachEdge (λ e. IsApart e s d) (outline poly.now) }
+{
+    let corners = poly.corners();
+    if poly.run_box(0, 8).is_none() {
+        return path_apart(before(corners, 0), corners, s, d);
+    }
+    let near = s.bounds();
+    let all = corners.len();
+    let mut low = 0;
+    'runs: while low < all {
+        let high = apart_until(poly, low, s, near, d);
+        if high == low {
+            return false;
+        }
+        low = high;
+    }
+    true
+}
+
+// Where a run from `low` on ends of which no edge is within d of the segment, whose box is `near`; or
+// `low` where some edge is.
+fn beyond_until(poly: &Poly, low: usize, s: Seg, near: Bounds, d: i64) -> usize
+    requires low { low < length poly.now }
+    requires near { IsLeastBox (IsOn s) near }
+    requires fits { FitsWithin (pos 1000000000) near }
+    requires from { pos 0 ≤ℤ d }
+    requires to { d ≤ℤ pos 2000000000 }
+    ensures after { low ≤ result }
+    ensures within { result ≤ length poly.now }
+    ensures beyond { ¬ (SomeEdge (λ e. IsReached e s d) (between low result (outline poly.now))) }
+    ensures stuck { result ≡ low → SomeEdge (λ e. IsReached e s d) (outline poly.now) }
+{
+    let clear = clear_end(poly, low, near, d + 1);
+    if clear > low {
+        return clear;
+    }
+    let corners = poly.corners();
+    let high = end(low, 8, corners.len());
+    if path_within(before(corners, low), &corners[low..high], s, d) {
+        low
+    } else {
+        high
+    }
+}
+
+// Whether some edge of the polygon is within d of the segment.
+pub fn outline_within(poly: &Poly, s: Seg, d: i64) -> bool
+    requires from { pos 0 ≤ℤ d }
+    requires to { d ≤ℤ pos 2000000000 }
+    ensures { IsTrue result ↔ SomeEdge (λ e. IsReached e s d) (outline poly.now) }
+{
+    let corners = poly.corners();
+    if poly.run_box(0, 8).is_none() {
+        return path_within(before(corners, 0), corners, s, d);
+    }
+    let near = s.bounds();
+    let all = corners.len();
+    let mut low = 0;
+    'runs: while low < all {
+        let high = beyond_until(poly, low, s, near, d);
+        if high == low {
+            return true;
+        }
+        low = high;
+    }
+    false
+}

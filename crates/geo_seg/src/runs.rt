@@ -1,0 +1,106 @@
+// The corners of a large polygon, with the boxes of its runs of edges.
+
+ghost use Rattle.std.specs.Prelude.{◌≡◌, ◌<◌, ◌∷◌, List, IfOk, IfSome, length, take, drop};
+ghost use Rattle.geo_seg.specs.declared.points.Seg.{Seg};
+ghost use Rattle.geo_seg.specs.Corners.{IsCornerBox};
+ghost use Rattle.geo_seg.specs.Inside.{outline};
+ghost use Rattle.geo_seg.specs.Runs.{AreRuns, IsRunBox, HasRuns};
+
+use crate::boxes::Bounds;
+use crate::extents::{around, grown};
+use crate::frames::Frame;
+use crate::points::Point;
+use std::alloc::{AllocError, Global};
+
+// Of each row frame k holds the edges from k times the row's size on, so many as that size is: 8, 64,
+// 512 or 4096.
+#[derive(Drop)]
+pub struct Indexed {
+    pub corners: Vec<Point>,
+    pub first: Vec<Frame>,
+    pub second: Vec<Frame>,
+    pub third: Vec<Frame>,
+    pub fourth: Vec<Frame>,
+}
+
+// The box of a corner and others.
+pub fn corner_box(first: Point, others: &[Point]) -> Bounds
+    ensures { IsCornerBox (first ∷ others.now) result }
+{
+    let mut bounds = around(first);
+    for corner in others {
+        bounds = grown(bounds, *corner);
+    }
+    bounds
+}
+
+// The row of frames of the runs of `size` edges.
+fn row(alloc: Global, corners: &[Point], size: usize) -> Result<Vec<Frame>, AllocError>
+    requires some { 0 < length corners.now }
+    requires size { 0 < size }
+    ensures { IfOk result (λ frames. AreRuns size frames.items (outline corners.now)) }
+{
+    let mut frames = Vec::with_capacity(alloc, corners.len() / size + 1)?;
+    let mut from = corners[corners.len() - 1];
+    let mut low = 0;
+    'runs: while low < corners.len() {
+        let high = if corners.len() - low > size {
+            low + size
+        } else {
+            corners.len()
+        };
+        let part = &corners[low..high];
+        frames.push(Frame::of(corner_box(from, part)))?;
+        from = part[part.len() - 1];
+        low = high;
+    }
+    Ok(frames)
+}
+
+// The box of the run that begins at edge `low`, where the row has it.
+fn at(frames: &[Frame], low: usize, size: usize) -> Option<Bounds>
+    requires { 0 < size }
+    ensures { (es : List Seg) → AreRuns size frames.now es → IfSome result (λ b. IsRunBox (take size (drop low es)) b) }
+{
+    if low % size != 0 {
+        return None;
+    }
+    match frames.get(low / size) {
+        Some(frame) => Some(frame.bounds()),
+        None => None,
+    }
+}
+
+impl Indexed {
+    pub fn of(alloc: Global, corners: Vec<Point>) -> Result<Indexed, AllocError>
+        requires { 0 < length corners.items }
+        ensures corners { IfOk result (λ index. index.corners ≡ corners) }
+        ensures runs { IfOk result HasRuns }
+    {
+        let first = row(alloc, &corners, 8)?;
+        let second = row(alloc, &corners, 64)?;
+        let third = row(alloc, &corners, 512)?;
+        let fourth = row(alloc, &corners, 4096)?;
+        Ok(Indexed {
+            corners,
+            first,
+            second,
+            third,
+            fourth,
+        })
+    }
+
+    // The box of the `size` edges from `low` on, where it is kept.
+    pub fn run_box(&self, low: usize, size: usize) -> Option<Bounds>
+        requires { HasRuns self.now }
+        ensures { IfSome result (λ b. IsRunBox (take size (drop low (outline self.now.corners.items))) b) }
+    {
+        match size {
+            8 => at(&self.first, low, 8),
+            64 => at(&self.second, low, 64),
+            512 => at(&self.third, low, 512),
+            4096 => at(&self.fourth, low, 4096),
+            _ => None,
+        }
+    }
+}
