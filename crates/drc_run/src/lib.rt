@@ -57,6 +57,3 @@ pub fn run<R: AllocGlobal, F: Shelf, W: Sink>(
         None => usage(out) as u8,
     }
 }
-
-#[cfg(test)]
-mod tests;

@@ -14,8 +14,6 @@ mod elements;
 pub mod laws;
 mod nets;
 mod on_board;
-#[cfg(test)]
-mod refusal_tests;
 mod root;
 #[cfg(test)]
 mod tests;

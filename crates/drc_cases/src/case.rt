@@ -1,0 +1,67 @@
+//! What a case gives to the program, and how it is to end.
+
+use drc_io::{MemShelf, MemSink, Name};
+use drc_run::run;
+use std::alloc::{AllocError, Global};
+
+/// The status that the program ends with and what it writes.
+#[derive(Drop)]
+pub struct Outcome {
+    pub status: u8,
+    pub text: Vec<u8>,
+}
+
+/// The words, the files, the numbers of the reads and writes that fail, and how many bytes a write takes at most.
+#[derive(Drop)]
+pub struct Given {
+    pub words: Vec<String>,
+    pub files: Vec<(Name, Vec<u8>)>,
+    pub failing_reads: Vec<u64>,
+    pub failing_writes: Vec<u64>,
+    pub most: usize,
+}
+
+/// A run of the program and how it is to end.
+#[derive(Drop)]
+pub struct Case {
+    pub name: String,
+    pub given: Given,
+    pub expected: Outcome,
+}
+
+/// How many bytes a run may write past those that are expected.
+const ROOM: usize = 65_536;
+
+impl Given {
+    /// No words, no files and no faults.
+    pub fn nothing(alloc: Global) -> Given {
+        Given {
+            words: Vec::new(alloc),
+            files: Vec::new(alloc),
+            failing_reads: Vec::new(alloc),
+            failing_writes: Vec::new(alloc),
+            most: usize::MAX,
+        }
+    }
+
+    /// How the program ends on this, where some so many bytes are expected of it.
+    pub fn run<R: AllocGlobal>(self, rt: &R, expected: usize) -> Result<Outcome, AllocError> {
+        let alloc = rt.alloc();
+        let Given {
+            words,
+            files,
+            failing_reads,
+            failing_writes,
+            most,
+        } = self;
+        let mut shelf = MemShelf::new(files, failing_reads);
+        let room = expected.saturating_add(ROOM);
+        let mut out = MemSink::new(alloc, most.max(1), room, failing_writes)?;
+        let words: Vec<&str> = words.iter().map(|word| word.as_str()).collect(alloc)?;
+        let status = run(rt, &words, &mut shelf, &mut out);
+        Ok(Outcome {
+            status,
+            text: out.bytes().to_vec(alloc)?,
+        })
+    }
+}

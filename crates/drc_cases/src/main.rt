@@ -1,0 +1,104 @@
+//! Runs cases of the whole program that are written as data: each word of the command line names a file of them.
+//!
+//! Prints the name of each case with ` ok`, or with what differs, and ends with status 1 where one differs. A line
+//! that cannot be read counts as differing. `docs/CASES.md` has the format.
+#![tactic(auto)]
+
+mod case;
+mod difference;
+mod fault;
+mod reader;
+mod texts;
+
+use case::Case;
+use difference::difference;
+use fault::Fault;
+use reader::Reader;
+use std::env::Env;
+use std::process::ExitCode;
+use std::rt::Files;
+use std::{env, fs, io};
+
+/// How many cases ended as expected, and how many cases and lines did not.
+#[derive(Clone, Copy)]
+struct Counts {
+    ok: u64,
+    differ: u64,
+}
+
+/// Runs a case and prints how it ended.
+fn try_case<R: AllocGlobal + Print>(rt: &R, counts: &mut Counts, case: Case) -> io::Result<()> {
+    let Case {
+        name,
+        given,
+        expected,
+    } = case;
+    let found = given.run(rt, expected.text.len())?;
+    match difference(rt.alloc(), &found, &expected)? {
+        None => {
+            counts.ok = counts.ok.saturating_add(1);
+            println!(rt; "{name} ok")
+        }
+        Some(difference) => {
+            counts.differ = counts.differ.saturating_add(1);
+            println!(rt; "{name}: {difference}")
+        }
+    }
+}
+
+/// Prints why a line cannot be read.
+fn refuse<R: Print>(
+    rt: &R,
+    counts: &mut Counts,
+    file: &str,
+    line: usize,
+    fault: Fault,
+) -> io::Result<()> {
+    counts.differ = counts.differ.saturating_add(1);
+    println!(rt; "{file}:{line}: {fault}")
+}
+
+/// Tries what a line has ended, if it ended a case, or prints why it cannot be read.
+fn go_on<R: AllocGlobal + Print>(
+    rt: &R,
+    counts: &mut Counts,
+    file: &str,
+    line: usize,
+    ended: Result<Option<Case>, Fault>,
+) -> io::Result<()> {
+    match ended {
+        Ok(Some(case)) => try_case(rt, counts, case),
+        Ok(None) => Ok(()),
+        Err(fault) => refuse(rt, counts, file, line, fault),
+    }
+}
+
+/// Tries the cases of a file.
+fn try_file<R: AllocGlobal + Print + Files>(
+    rt: &R,
+    counts: &mut Counts,
+    file: &str,
+) -> io::Result<()> {
+    let text = fs::read_to_string(rt, file)?;
+    let mut reader = Reader::new(rt.alloc());
+    let mut number = 0usize;
+    for line in text.lines() {
+        number = number.saturating_add(1);
+        go_on(rt, counts, file, number, reader.line(line))?;
+    }
+    go_on(rt, counts, file, number, reader.end())
+}
+
+fn try_files<R: AllocGlobal + Print + Files + Env>(rt: &R) -> io::Result<Counts> {
+    let mut counts = Counts { ok: 0, differ: 0 };
+    for file in env::args(rt)?.skip(1) {
+        try_file(rt, &mut counts, file.as_str())?;
+    }
+    Ok(counts)
+}
+
+fn main(rt: HostRuntime) -> io::Result<ExitCode> {
+    let Counts { ok, differ } = try_files(&rt)?;
+    println!(rt; "{ok} ok, {differ} differ")?;
+    Ok(ExitCode::from(if differ == 0 { 0 } else { 1 }))
+}
