@@ -6,6 +6,7 @@ use Rattle.geo_seg.specs.declared.shapes.Shape.{Shape}
 use Rattle.board_items.specs.declared.errors.BoardError.{BoardError}
 use Rattle.board_items.specs.declared.errors.BoardError.TheVariants.{OutOfBoard}
 use Rattle.board_items.specs.declared.layers.LayerSet.{LayerSet}
+use Rattle.board_items.specs.declared.parts.Part.{Part}
 use Rattle.board_items.specs.declared.item.Hole.{Hole}
 use Rattle.board_items.specs.declared.item.What.TheVariants.{Track, Via}
 use Rattle.std.specs.List.{list_all}
@@ -100,3 +101,8 @@ pub via_layers : (copper layers : LayerSet) (shape : Shape) (hole : Option Hole)
     → list_all (λ part. is_within part.layers copper) (record { layers = layers; shape = shape } ∷ (hole_parts hole ++ [])) ≡ true
 via_layers copper layers shape None h k = both _ _ h k
 via_layers copper layers shape (Some hole) h k = both _ _ h k
+
+-- a track has one part of copper, on a layer of the board
+pub track_layers : (copper layers : LayerSet) (shape : Shape) → IsTrue (is_within layers copper)
+    → list_all (λ (part : Part). is_within part.layers copper) (record { layers = layers; shape = shape } ∷ []) ≡ true
+track_layers copper layers shape h = both _ _ h refl
