@@ -1,7 +1,7 @@
 -- A file that is read piece by piece.
 use Rattle.std.proofs.Common.{◌≡◌, ℕ, List, [], Option, None, Some, ◌++◌, length, take, drop, sym, ap, subst, ◌∙◌, append_assoc, take-append-drop}
-use Rattle.std.proofs.Math.Seq.{drop-append_seam, take-append_seam}
-use Rattle.drc_io.specs.Files.{ReadsAt, ReadsFrom, IsFrontOf, IsFront, file_of}
+use Rattle.std.proofs.Math.Seq.{drop-append_seam}
+use Rattle.drc_io.specs.Files.{ReadsAt, ReadsFrom, ReadsBehind, IsFrontOf, IsFront, file_of}
 
 pub IsFrontOf-piece : (file : Option (List ℕ)) (text buf : List ℕ) (n : ℕ) → IsFrontOf file text → ReadsAt file (length text) n buf → IsFrontOf file (text ++ take n buf)
 IsFrontOf-piece None text buf n front read = absurd read
@@ -24,12 +24,8 @@ IsFront-nil None name text e = tt
 IsFront-nil (Some files) name text e = nil_of (file_of files name) text e
 
 -- one more piece, where the shelf tells the same as at first
-pub IsFront-next : (told told' : Option (List (List ℕ × List ℕ))) (name text text' buf : List ℕ) (at n : ℕ) → told' ≡ told → IsFront told name text
-    → at ≡ length text → ReadsFrom told' name at n buf → text' ≡ text ++ take n buf → IsFront told name text'
-IsFront-next told told' name text text' buf at n same front place read grown =
-    let read' : ReadsFrom told name (length text) n buf = rw (same, place) at read in
+pub IsFront-behind : (told told' : Option (List (List ℕ × List ℕ))) (name text longer : List ℕ) (n : ℕ) → told' ≡ told → IsFront told name text
+    → ReadsBehind told' name text n longer → IsFront told name longer
+IsFront-behind told told' name text longer n same front (buf, some, within, read, grown) =
+    let read' : ReadsFrom told name (length text) n buf = rw same at read in
     subst (IsFront told name) (sym grown) (IsFront-piece told name text buf n front read')
-
--- what was written over a list of the same length
-pub over : (buf old : List ℕ) (n : ℕ) → n ≡ length buf → take n (buf ++ old) ≡ buf
-over buf old n e = rw e (take-append_seam buf old)

@@ -1,4 +1,3 @@
-pub mod Counts
 pub mod Fronts
 pub mod Pieces
 pub mod Writing

@@ -1,7 +1,7 @@
 -- Texts that are written in several calls.
-use Rattle.std.proofs.Common.{◌≡◌, ℕ, List, [], Option, ◌++◌, Result, Ok, Err, subst, sym, ap, ◌∙◌, append_assoc, arith, take, drop, take-append-drop, append-nil}
+use Rattle.std.proofs.Common.{◌≡◌, ℕ, List, Option, ◌++◌, Result, Ok, Err, subst, sym, ap, ◌∙◌, append_assoc, arith, take, drop, take-append-drop}
 use Rattle.std.specs.Io.KnownBytes.{Appends, Keeps}
-use Rattle.std.proofs.KnownBytes.{Appends-nil, Appends-trans, Appends-kept}
+use Rattle.std.proofs.KnownBytes.{Appends-trans, Appends-kept}
 use Rattle.drc_io.specs.Sinks.{AppendsFront, Writes}
 
 -- the first part is whole
@@ -25,23 +25,9 @@ AppendsFront-more a b first second part = record {
 pub AppendsFront-take : (a b : Option (List ℕ)) (text : List ℕ) (n : ℕ) → Appends a b (take n text) → AppendsFront a b text
 AppendsFront-take a b text n part = record { front = take n text; rest = drop n text; whole = sym (take-append-drop n text); appended = part }
 
-pub AppendsFront-all : (a b : Option (List ℕ)) (text : List ℕ) → Appends a b text → AppendsFront a b text
-AppendsFront-all a b text all = record { front = text; rest = []; whole = sym (append-nil text); appended = all }
-
 -- a front part was written, and then nothing
 pub AppendsFront-kept : (a b c : Option (List ℕ)) (text : List ℕ) (n : ℕ) → Appends a b (take n text) → Keeps b c → AppendsFront a c text
 AppendsFront-kept a b c text n part kept = AppendsFront-take a c text n (Appends-kept a b c (take n text) part kept)
-
--- nothing was to be written
-pub Writes-nil : {T E : Type 0} (a : Option (List ℕ)) (m : ℕ) (x : T) → Writes {E = E} a a m m [] (Ok x)
-Writes-nil a m x = record { bytes = Appends-nil a; later = omega arith; failed = tt }
-
--- another answer of the same kind
-pub Writes-ok : {S T D E : Type 0} (a b : Option (List ℕ)) (m n : ℕ) (text : List ℕ) (x : S) (y : T) → Writes {T = S} {E = D} a b m n text (Ok x) → Writes {T = T} {E = E} a b m n text (Ok y)
-Writes-ok a b m n text x y w = record { bytes = w.bytes; later = w.later; failed = tt }
-
-pub Writes-err : {S T D E : Type 0} (a b : Option (List ℕ)) (m n : ℕ) (text : List ℕ) (x : D) (y : E) → Writes {T = S} {E = D} a b m n text (Err x) → Writes {T = T} {E = E} a b m n text (Err y)
-Writes-err a b m n text x y w = record { bytes = w.bytes; later = w.later; failed = w.failed }
 
 -- a call that wrote its text, and then another call
 pub Writes-then : {S T E D : Type 0} (a b c : Option (List ℕ)) (m n o : ℕ) (first second : List ℕ) (x : S) (r : Result T E)

@@ -15,6 +15,10 @@ ReadsAt (Some bytes) at n buf = (take n buf ≡ take n (drop at bytes)) × (n �
 abbrev pub ReadsFrom : Option (List (List ℕ × List ℕ)) → List ℕ → ℕ → ℕ → List ℕ → Type 0
 ReadsFrom told name at n buf = IfSome told (λ files. ReadsAt (file_of files name) at n buf)
 
+-- a piece of n bytes of the file was put behind the text, which is as long as the place where they were read; none only at the end
+abbrev pub ReadsBehind : Option (List (List ℕ × List ℕ)) → List ℕ → List ℕ → ℕ → List ℕ → Type 0
+ReadsBehind told name text n longer = (buf : List ℕ) × (0 < length buf) × (n ≤ length buf) × ReadsFrom told name (length text) n buf × (longer ≡ text ++ take n buf)
+
 -- the text is the whole file, of a shelf that tells
 abbrev pub IsWhole : Option (List (List ℕ × List ℕ)) → List ℕ → List ℕ → Type 0
 IsWhole told name text = IfSome told (λ files. file_of files name ≡ Some text)

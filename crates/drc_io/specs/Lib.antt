@@ -1,5 +1,8 @@
 pub mod Causes
 pub mod Fetching
 pub mod Files
+pub mod Lengths
 pub mod Memory
+pub mod Message
+pub mod NameText
 pub mod Sinks

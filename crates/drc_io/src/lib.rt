@@ -5,19 +5,22 @@
 //! [`MemShelf`] and [`MemSink`] are a shelf and a sink in memory that fail where they are told to.
 #![tactic(auto)]
 
-ghost use Rattle.std.specs.Prelude.{◌≡◌, ◌<◌, ◌≤◌, ℕ, List, Option, length, take, IfOk, IfSome, OnErr};
+ghost use Rattle.std.specs.Prelude.{◌≡◌, ◌<◌, ◌≤◌, ◌^◌, ◌⊎◌, ℕ, List, Option, length, vec_len, take, IfOk, IfErr, IfSome, OnErr};
 ghost use Rattle.std.specs.Io.KnownBytes.{WriteAppends};
 ghost use Rattle.drc_io.specs.Causes.{HasCause, Rose};
 ghost use Rattle.drc_io.specs.Fetching.{Decides};
-ghost use Rattle.drc_io.specs.Files.{ReadsFrom, IsWhole, IsLonger, file_of};
+ghost use Rattle.drc_io.specs.Files.{ReadsFrom, ReadsBehind, IsWhole, IsLonger, file_of};
 ghost use Rattle.drc_io.specs.Sinks.{Writes};
 ghost use Rattle.drc_io.specs.declared.FetchError.TheVariants.{OutOfMemory, Failed as FaultOfShelf};
 
 use std::alloc::{AllocError, Global};
+use std::error::Error;
+use std::fmt;
 
 mod memory;
 mod name;
 mod stocked;
+mod text;
 
 pub use memory::MemSink;
 pub use name::Name;
@@ -87,6 +90,23 @@ pub enum FetchError {
     OutOfMemory,
 }
 
+impl fmt::Display for FetchError {
+    ghost use Rattle.std.specs.Prelude.{Some};
+    ghost use Rattle.drc_io.specs.Message.{message_of};
+
+    ghost output = { λ error. Some (message_of error) };
+
+    fn fmt<W: fmt::Write>(&self, f: &mut fmt::Formatter<W>) -> fmt::Result {
+        f.write_str(match self {
+            FetchError::Failed => "Failed (1)",
+            FetchError::TooLong => "TooLong (2)",
+            FetchError::OutOfMemory => "OutOfMemory",
+        })
+    }
+}
+
+impl Error for FetchError {}
+
 impl From<AllocError> for FetchError {
     ghost from_gives = { λ _ e. e ≡ OutOfMemory };
 
@@ -103,13 +123,32 @@ impl From<Failed> for FetchError {
     }
 }
 
-/// How many bytes are asked for in one read.
-const PIECE: usize = 65_536;
+/// The least and the most that one read asks for.
+const LEAST_PIECE: usize = 65_536;
 
-fn zeros(alloc: Global, n: usize) -> Result<Vec<u8>, AllocError>
-    ensures { IfOk result (λ bytes. length bytes.items ≡ n) }
+const MOST_PIECE: usize = 1_048_576;
+
+/// How many bytes to ask for behind so many: as many again, so that a small file takes little room.
+fn piece_len(done: usize) -> usize
+    ensures some { 0 < result }
+    ensures most { result ≤ 1048576 }
 {
-    vec![in alloc; 0; n]
+    done.clamp(LEAST_PIECE, MOST_PIECE)
+}
+
+/// Reads a piece of the file to the end of the text, which has the bytes before it, and says how many came.
+fn read_piece<F: Shelf>(shelf: &mut F, name: &str, text: &mut Vec<u8>) -> Result<usize, FetchError>
+    requires { vec_len text.old < 2 ^ 33 }
+    ensures read { IfOk result (λ n. ReadsBehind (F.files shelf.old) name.now text.old.items n text.new.items) }
+    ensures fault { IfErr result (λ e. (e ≡ FetchError.OutOfMemory) ⊎ ((e ≡ FetchError.Failed) × Rose (F.faults shelf.old name.now) (F.faults shelf.new name.now))) }
+    ensures same { F.files shelf.new ≡ F.files shelf.old }
+    ensures counts { (other : List ℕ) → F.faults shelf.old other ≤ F.faults shelf.new other }
+{
+    let done = text.len();
+    text.resize(done + piece_len(done), 0)?;
+    let n = shelf.read(name, done as u64, &mut text[done..])?;
+    text.truncate(done + n);
+    Ok(n)
 }
 
 /// Reads a whole file, of at most `limit` bytes. `Failed` comes only where the shelf's count for that name rose.
@@ -130,13 +169,10 @@ pub fn fetch<F: Shelf>(
     ensures counts { (other : List ℕ) → F.faults shelf.old other ≤ F.faults shelf.new other }
 {
     let mut text = Vec::new(alloc);
-    let mut piece = zeros(alloc, PIECE)?;
     'pieces: while text.len() <= limit as usize {
-        let n = shelf.read(name, text.len() as u64, &mut piece)?;
-        if n == 0 {
+        if read_piece(shelf, name, &mut text)? == 0 {
             return Ok(text);
         }
-        text.extend_from_slice(&piece[..n])?;
     }
     Err(FetchError::TooLong)
 }

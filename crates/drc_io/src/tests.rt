@@ -10,7 +10,7 @@ fn stocked(alloc: Global, fault: u64) -> Result<MemShelf, AllocError> {
     let board = name_of(alloc, "board")?;
     let none = name_of(alloc, "none")?;
     let files = vec![in alloc;
-        (board.copy(alloc)?, b"12345".to_vec(alloc)?),
+        (board.copy()?, b"12345".to_vec(alloc)?),
         (none, Vec::new(alloc)),
     ]?;
     Ok(MemShelf::new(files, vec![in alloc; fault]?))
@@ -56,10 +56,19 @@ fn writes_whole_texts(rt: HostRuntime) -> Result<(), Fail> {
 #[test]
 fn copies_names(rt: HostRuntime) -> Result<(), Fail> {
     let alloc = rt.alloc();
-    let name = name_of(alloc, "µ")?;
-    let other = name_of(alloc, "m")?;
-    let copy = name.copy(alloc)?;
-    assert_eq!(rt; copy.bytes(), b"\xc2\xb5".as_slice());
-    assert_eq!(rt; (copy == name, copy == other), (true, false));
+    for text in [
+        "",
+        "\u{b5}",
+        "a name with thirty bytes in it",
+        "a name that has thirty-one bytes",
+    ] {
+        let name = Name::from_slice(alloc, text.as_bytes())?;
+        let copy = name.copy()?;
+        assert_eq!(rt; copy.bytes(), text.as_bytes());
+        assert_eq!(rt;
+            (copy == name, copy == name_of(alloc, "a name")?),
+            (true, false)
+        );
+    }
     Ok(())
 }

@@ -139,10 +139,7 @@ number-lt (c ∷ cs) h =
 pub number_short : (ds : List ℕ) (k : ℕ) → all_ascii_digits ds ≡ true → length ds ≤ k → number ds < 10 ^ k
 number_short ds k h short = omega (arith, number-lt ds h, pow-le-pow_right {n = 10} (omega arith) short)
 
--- a zero in front of digits adds nothing, and another digit does
-pub zero_more : (ds : List ℕ) (i : ℕ) → i < length ds → get_or ds i 0 ≡ 48 → number (drop i ds) ≡ number (drop (i + 1) ds)
-zero_more ds i inside zeros = number-drop ds i inside ∙ ap (λ x. (x - 48) * 10 ^ length (drop (i + 1) ds) + number (drop (i + 1) ds)) zeros ∙ omega arith
-
+-- a digit other than zero adds something
 pub not_zero : (ds : List ℕ) (i : ℕ) → all_ascii_digits ds ≡ true → i < length ds → get_or ds i 0 ≢ 48 → 0 < number (drop i ds)
 not_zero ds i all inside other =
     let k = length (drop (i + 1) ds) in

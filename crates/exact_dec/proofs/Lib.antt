@@ -7,3 +7,5 @@ pub mod Rounding
 pub mod Scaling
 pub mod Texts
 pub mod Units
+pub mod UsualSpelling
+pub mod UsualAnswers

@@ -1,7 +1,9 @@
 -- What the code's slices show, and what its division steps keep.
-use Rattle.std.specs.Prelude.{◌≡◌, ℕ, ◌+◌, ◌*◌, ◌/◌, ◌^◌, ◌<◌, Bool, true, ◌&&◌, ◌++◌, length, ◌==◌, if◌then◌else◌}
+use Rattle.std.specs.Prelude.{◌≡◌, ℕ, ◌+◌, ◌*◌, ◌/◌, ◌^◌, ◌<◌, Bool, true, false, ◌&&◌, List, ◌++◌, length, Some, ◌==◌, if◌then◌else◌}
 use Rattle.std.specs.Str.{all_ascii_digits}
 use Rattle.exact_dec.specs.declared.parts.Parts.{Parts as Slices}
+use Rattle.exact_dec.specs.Computed.{parts_of}
+use Rattle.exact_dec.specs.Reading.{is_long}
 use Rattle.exact_dec.specs.Decimal.{Parts, number, raised, lowered}
 
 abbrev pub spelled : Slices → Parts
@@ -30,3 +32,11 @@ pub record IsQuotient (n d whole : ℕ) (exact : Bool) : Type 0 where
 -- the nearest whole number, without its sign, by the number of halves: a half goes up, which is toward zero below zero
 abbrev pub half : Bool → ℕ → Bool → ℕ
 half negative halves exact = if (negative && exact) then (halves / 2) else ((halves + 1) / 2)
+
+-- a text of at most 64 bytes spells a decimal that comes to so many whole nanometres, as millimetres and without its sign
+pub record IsShort (text : List ℕ) (negative : Bool) (nanometres : ℕ) : Type 0 where
+  pub parts : Parts
+  pub spelt : parts_of text ≡ Some parts
+  pub sign : parts.negative ≡ negative
+  pub limits : is_long text parts ≡ false
+  pub whole : 1000000 * top parts ≡ nanometres * bottom parts

@@ -17,6 +17,7 @@ ghost use Rattle.exact_dec.specs.Written.{mm_text};
 
 mod parts;
 mod scale;
+mod short;
 #[cfg(test)]
 mod tests;
 mod unit;
@@ -25,6 +26,7 @@ mod written;
 use itoa::Buffer;
 use parts::{Parts, is_all_digits, is_zero, take_apart};
 use scale::{Quotient, scaled};
+use short::short;
 use std::error::Error;
 use std::fmt;
 use unit::{MILLIMETRE, split_unit};
@@ -67,6 +69,9 @@ pub fn mm_cut(text: &[u8]) -> Result<Nm, DecError>
     ensures reads { (answer : Result ℤ DecError) → (result ≡ answer) ↔ MmCut text.now answer }
     ensures computed { result ≡ mm_cut_answer text.now }
 {
+    if let Some(number) = short(text) {
+        return bounded(number.negative, number.nanometres);
+    }
     match take_apart(text) {
         Some(parts) => cut(text, &parts, MILLIMETRE),
         None => Err(DecError::BadNumber),
@@ -78,6 +83,9 @@ pub fn mm_near(text: &[u8]) -> Result<Nm, DecError>
     ensures reads { (answer : Result ℤ DecError) → (result ≡ answer) ↔ MmNear text.now answer }
     ensures computed { result ≡ mm_near_answer text.now }
 {
+    if let Some(number) = short(text) {
+        return bounded(number.negative, number.nanometres);
+    }
     match take_apart(text) {
         Some(parts) => nearest(text, &parts, MILLIMETRE),
         None => Err(DecError::BadNumber),

@@ -21,7 +21,7 @@ pub struct Parts<'t> {
     pub exponent: &'t [u8],
 }
 
-fn begins_with_minus(text: &[u8]) -> bool
+pub fn begins_with_minus(text: &[u8]) -> bool
     ensures { result ≡ has_minus text.now }
 {
     match text {
@@ -30,7 +30,7 @@ fn begins_with_minus(text: &[u8]) -> bool
     }
 }
 
-fn skip_sign(text: &[u8]) -> &[u8]
+pub fn skip_sign(text: &[u8]) -> &[u8]
     ensures { result.now ≡ after_sign text.now }
 {
     match text {

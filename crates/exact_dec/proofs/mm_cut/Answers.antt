@@ -3,14 +3,21 @@ use Rattle.exact_dec.specs.Decimal.{cut}
 use Rattle.exact_dec.specs.Computed.{answer_of, mm_cut_answer}
 use Rattle.exact_dec.specs.Reading.{no_more}
 use Rattle.exact_dec.proofs.Laws.{mm_cut_law}
+use Rattle.exact_dec.proofs.UsualAnswers.{usual_cut}
 use Rattle.exact_dec.proofs.mm_cut.Goals as goal
 
 pub returns-in-Some-clause-computed : goal.returns-in-Some-clause-computed
-unfolding mm_cut_answer
-returns-in-Some-clause-computed c = c.cut.ensures ∙ ap (answer_of c.args.text.now (pos 1000000) cut no_more) (sym c.in-Some.ensures.parts)
+returns-in-Some-clause-computed c = c.bounded.ensures ∙ usual_cut _ _ _ c.in-Some.ensures
 
 pub returns-in-Some-clause-reads : goal.returns-in-Some-clause-reads
-returns-in-Some-clause-reads c = mm_cut_law c.args.text.now c.cut.result (returns-in-Some-clause-computed c)
+returns-in-Some-clause-reads c = mm_cut_law c.args.text.now c.bounded.result (returns-in-Some-clause-computed c)
+
+pub returns-in-Some-take_apart-clause-computed : goal.returns-in-Some-take_apart-clause-computed
+unfolding mm_cut_answer
+returns-in-Some-take_apart-clause-computed c = c.cut.ensures ∙ ap (answer_of c.args.text.now (pos 1000000) cut no_more) (sym c.in-Some-take_apart.ensures.parts)
+
+pub returns-in-Some-take_apart-clause-reads : goal.returns-in-Some-take_apart-clause-reads
+returns-in-Some-take_apart-clause-reads c = mm_cut_law c.args.text.now c.cut.result (returns-in-Some-take_apart-clause-computed c)
 
 pub returns-in-None-clause-computed : goal.returns-in-None-clause-computed
 unfolding mm_cut_answer
