@@ -1,6 +1,6 @@
 // The same tests of the same pairs in plain Rust, for a comparison of times: `rustc -O peer.rs`.
-// It proves nothing, and is written after crates/bench, crates/geo_seg and crates/geo_poly line by
-// line.
+// It proves nothing, and is written after crates/bench, crates/geo_seg, crates/geo_poly and
+// crates/geo_shape line by line.
 
 #[derive(Clone, Copy)]
 struct Point {
@@ -445,6 +445,57 @@ fn parts_within(a: &Poly, p: Part, b: &Poly, q: Part, d: i64) -> bool {
     false
 }
 
+fn seg_gap(a: Seg, b: Seg, most: i64) -> i64 {
+    if seg_apart(a, b, most) {
+        return most;
+    }
+    let mut low = 0;
+    let mut high = most;
+    while low < high {
+        let middle = low + (high - low + 1) / 2;
+        if seg_apart(a, b, middle) {
+            low = middle;
+        } else {
+            high = middle - 1;
+        }
+    }
+    low
+}
+
+fn path_gap(from: Point, part: &[Point], s: Seg, most: i64) -> i64 {
+    let mut at = from;
+    let mut best = most;
+    for c in part {
+        best = seg_gap(Seg { a: at, b: *c }, s, best);
+        at = *c;
+    }
+    best
+}
+
+fn outline_gap(poly: &Poly, s: Seg, most: i64) -> i64 {
+    let near = Bounds::of(s);
+    let corners = &poly.corners;
+    let mut low = 0;
+    let mut best = most;
+    while low < corners.len() {
+        let mut high = clear_end(poly, low, near, best);
+        if high == low {
+            high = end(low, 8, corners.len());
+            if !path_apart(before(corners, low), &corners[low..high], s, best) {
+                best = path_gap(before(corners, low), &corners[low..high], s, best);
+            }
+        }
+        low = high;
+    }
+    best
+}
+
+// The gap of a disc and a polygon, in nanometres.
+fn gap(via: Seg, radius: i64, poly: &Poly, below: i64) -> i64 {
+    let kept = if is_enclosed(poly, via.a) { 0 } else { outline_gap(poly, via, radius + 2 * below) };
+    if kept < radius { 0 } else { (kept - radius) / 2 }
+}
+
 fn either_inside(a: &Poly, b: &Poly) -> bool {
     is_enclosed(b, last(&a.corners)) || is_enclosed(a, last(&b.corners))
 }
@@ -613,20 +664,35 @@ fn fill(corners: u32) -> u64 {
     count
 }
 
+fn via(k: u32, numbers: &mut Numbers, steps: i64) -> Seg {
+    let tooth = numbers.draw() % 50;
+    let along = numbers.draw() & 0x1f_ffff;
+    let y = numbers.draw() * steps >> 6;
+    let x = tooth * PITCH + along + if k & 7 == 0 { 0 } else { 2_000_000 };
+    seg(x, y, 0, 0)
+}
+
 fn vias(corners: u32) -> u64 {
     let fill = first(corners);
     let mut numbers = Numbers { state: 7 };
     let mut count: u64 = 0;
     for k in 0..corners / 4 * 3 {
-        let tooth = numbers.draw() % 50;
-        let along = numbers.draw() & 0x1f_ffff;
-        let y = numbers.draw() * i64::from(corners / 100) >> 6;
-        let x = tooth * PITCH + along + if k & 7 == 0 { 0 } else { 2_000_000 };
-        let s = seg(x, y, 0, 0);
+        let s = via(k, &mut numbers, i64::from(corners / 100));
         let d = 400_000 + i64::from(k & 0xff);
         count += u64::from(poly_seg_apart(&fill, s, d)) | u64::from(poly_seg_within(&fill, s, d)) << 1;
     }
     count
+}
+
+fn gaps(corners: u32) -> u64 {
+    let fill = first(corners);
+    let mut numbers = Numbers { state: 7 };
+    let mut sum: u64 = 0;
+    for k in 0..corners / 4 {
+        let s = via(k, &mut numbers, i64::from(corners / 100));
+        sum += gap(s, 100_000, &fill, 400_000) as u64;
+    }
+    sum
 }
 
 fn both(a: &Poly, b: &Poly) -> u64 {
@@ -684,6 +750,7 @@ fn main() {
     let count = match kind {
         "fill" => fill(number),
         "vias" => vias(number),
+        "gaps" => gaps(number),
         "fills" => both(&first(number), &second(number)),
         "combs" => both(&first(number), &twin(number)),
         "pads" => pads(number),

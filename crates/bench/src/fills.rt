@@ -3,7 +3,8 @@
 
 use crate::plane::{Numbers, point, seg};
 use geo_poly::{poly_apart, poly_seg_apart, poly_seg_within, poly_within};
-use geo_seg::{Point, Poly, Seg};
+use geo_seg::{Core, Point, Poly, Seg, Shape};
+use geo_shape::gap;
 use std::alloc::Global;
 
 // From a tooth to the next.
@@ -158,6 +159,24 @@ pub fn vias(alloc: Global, corners: u32) -> anyhow::Result<u64> {
         count = count.wrapping_add(answers(&fill, s, k));
     }
     Ok(count)
+}
+
+// The sum of the gaps of vias to the fill, up to 0.4 mm, in nanometres: one via where the fill has four corners.
+pub fn gaps(alloc: Global, corners: u32) -> anyhow::Result<u64> {
+    let fill = Shape {
+        core: Core::Area(first(corners).polygon(alloc)?),
+        radius: 0,
+    };
+    let mut numbers = Numbers { state: 7 };
+    let mut sum: u64 = 0;
+    for k in 0..corners / 4 {
+        let disc = Shape {
+            core: Core::Line(via(k, &mut numbers, steps(corners))),
+            radius: 100_000,
+        };
+        sum = sum.wrapping_add(gap(&disc, &fill, 400_000) as u64);
+    }
+    Ok(sum)
 }
 
 // The same for two fills and many distances, where a fill comes first in the question and then second.

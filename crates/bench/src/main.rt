@@ -4,7 +4,7 @@
 //
 // Without words it makes a few of each kind. With a kind and a number it makes so many rounds of the
 // pairs, or a fill of so many corners. Each line ends with how many of the answers were yes, where
-// those to the second question count twice.
+// those to the second question count twice; of gaps it ends with their sum.
 #![tactic(auto)]
 
 mod fills;
@@ -27,6 +27,7 @@ fn count(alloc: Global, name: &str, number: u32) -> anyhow::Result<Option<u64>> 
         "fill" => Ok(Some(fills::fill(alloc, number)?)),
         "fills" => Ok(Some(fills::fills(alloc, number)?)),
         "vias" => Ok(Some(fills::vias(alloc, number)?)),
+        "gaps" => Ok(Some(fills::gaps(alloc, number)?)),
         "combs" => Ok(Some(fills::combs(alloc, number)?)),
         _ => Ok(None),
     }
@@ -36,7 +37,7 @@ fn run(rt: &impl Print, alloc: Global, name: &str, number: u32) -> anyhow::Resul
     match count(alloc, name, number)? {
         Some(count) => println!(rt; "{name} {number}: {count}")?,
         None => println!(rt;
-            "far, near, crossing or pads, and a number of rounds; fill, vias, fills or combs, and of corners"
+            "far, near, crossing or pads, and a number of rounds; fill, vias, gaps, fills or combs, and of corners"
         )?,
     }
     Ok(())
@@ -52,6 +53,7 @@ fn main(rt: HostRuntime) -> anyhow::Result<()> {
         run(&rt, rt.alloc(), "fill", 1600)?;
         run(&rt, rt.alloc(), "fills", 1600)?;
         run(&rt, rt.alloc(), "vias", 1600)?;
+        run(&rt, rt.alloc(), "gaps", 1600)?;
         return run(&rt, rt.alloc(), "combs", 1600);
     };
     run(&rt, rt.alloc(), &name, number.parse()?)

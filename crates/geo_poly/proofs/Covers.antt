@@ -10,7 +10,7 @@ use Rattle.geo_seg.specs.Runs.{AreEndsHeld}
 use Rattle.geo_seg.specs.Inside.{outline, EachEdge, SomeEdge, IsInside}
 use Rattle.geo_seg.proofs.BoxLemmas.{on_in_box, clear_not_nearer}
 use Rattle.geo_poly.specs.Outlines.{IsApart, IsReached, EachApart, SomeReached}
-use Rattle.geo_poly.proofs.Distances.{apart_not_within}
+use Rattle.geo_seg.proofs.Distances.{apart_not_within}
 use Rattle.geo_poly.proofs.Reach.{each_by}
 
 -- the box holds the edge

@@ -5,8 +5,9 @@ pub mod Ways
 pub mod Reach
 pub mod Ray
 pub mod PolyReach
-pub mod Distances
+pub use Rattle.geo_seg.proofs.Distances
 pub mod Covers
 pub mod Outline
 pub mod Answers
 pub mod RunLemmas
+pub mod Falls

@@ -1,10 +1,9 @@
 -- What the loops over an outline's edges take, and what its tests say.
-use Rattle.std.proofs.Common.{negsuc, ◌-ℤ◌, ◌≡◌, ℕ, suc, ◌+◌, ◌<◌, ◌≤◌, ℤ, pos, unsigned_abs, ◌*ℤ◌, ◌↔◌, Bool, FitsSigned, List, [], ◌∷◌, length, get_or, drop, sym, ap, ◌∙◌, subst, inl, inr, arith, add-one, drop-cons}
+use Rattle.std.proofs.Common.{◌≡◌, ℕ, suc, ◌+◌, ◌<◌, ◌≤◌, ℤ, pos, unsigned_abs, ◌*ℤ◌, ◌↔◌, Bool, List, [], ◌∷◌, length, get_or, drop, sym, ap, ◌∙◌, subst, inl, inr, arith, add-one, drop-cons}
 use Rattle.std.proofs.lemmas.Int.{ints}
 use Rattle.geo_seg.proofs.Passed.{passed}
 use Rattle.std.proofs.lemmas.List.{drop_all}
 use Rattle.std.specs.Int.Signed.{le_z}
-use mir.Syntax.{w64}
 use Rattle.int_algebra.proofs.Ring.{var, num, ◌⊖◌, ◌⊗◌, ring}
 use Rattle.geo_seg.specs.declared.points.Point.{Point}
 use Rattle.geo_seg.specs.declared.points.Seg.{Seg}
@@ -67,32 +66,3 @@ kept_small z h = omega (arith, ints)
 
 pub low_kept : (a y : ℤ) (b : Bool) → unsigned_abs a ≤ 1000000000 → unsigned_abs y ≤ 1000000000 → le_z (passed a) (passed y) ≡ b → le_z a y ≡ b
 low_kept a y b h k e = ap (λ z. le_z z y) (sym (kept_small a h)) ∙ ap (λ z. le_z (passed a) z) (sym (kept_small y k)) ∙ e
-
-difference_small : (a b : ℤ) → unsigned_abs a ≤ 1000000000 → unsigned_abs b ≤ 1000000000 → unsigned_abs (passed a -ℤ passed b) ≤ 2000000000
-difference_small a b h k = omega (arith, ints)
-
-small_fits : (z : ℤ) → unsigned_abs z ≤ 2000000000 → FitsSigned w64 z
-small_fits (pos n) h = record { sfits = omega (arith, ints) }
-small_fits (negsuc n) h = record { sfits = omega (arith, ints) }
-
-pub difference_fits : (a b : ℤ) → unsigned_abs a ≤ 1000000000 → unsigned_abs b ≤ 1000000000 → FitsSigned w64 (passed a -ℤ passed b)
-difference_fits a b h k = small_fits (passed a -ℤ passed b) (difference_small a b h k)
-
-large_difference : (p q : ℤ) → unsigned_abs p ≤ 4000000000000000000 → unsigned_abs q ≤ 4000000000000000000 → unsigned_abs (passed p -ℤ passed q) ≤ 8000000000000000000
-large_difference p q h k = omega (arith, ints)
-
-large_fits : (z : ℤ) → unsigned_abs z ≤ 8000000000000000000 → FitsSigned w64 z
-large_fits (pos n) h = record { sfits = omega (arith, ints) }
-large_fits (negsuc n) h = record { sfits = omega (arith, ints) }
-
-pub products_fit : (p q : ℤ) → unsigned_abs p ≤ 4000000000000000000 → unsigned_abs q ≤ 4000000000000000000 → FitsSigned w64 (passed p -ℤ passed q)
-products_fit p q h k = large_fits (passed p -ℤ passed q) (large_difference p q h k)
-
-pub way_is : (a b : ℤ) → unsigned_abs a ≤ 1000000000 → unsigned_abs b ≤ 1000000000 → passed (passed a -ℤ passed b) ≡ a -ℤ b
-way_is a b h k = omega (arith, ints)
-
-pub way_range : (a b : ℤ) → unsigned_abs a ≤ 1000000000 → unsigned_abs b ≤ 1000000000 → unsigned_abs (passed (passed a -ℤ passed b)) ≤ 2000000000
-way_range a b h k = omega (arith, ints)
-
-pub product_at : (p u v u' v' : ℤ) → p ≡ u *ℤ v → u ≡ u' → v ≡ v' → p ≡ u' *ℤ v'
-product_at p u v u' v' e f g = cc

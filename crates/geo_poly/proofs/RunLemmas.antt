@@ -21,7 +21,7 @@ use Rattle.geo_poly.specs.Outlines.{IsApart, IsReached, EachApart, SomeReached}
 use Rattle.geo_poly.specs.declared.runs.Part.{Part}
 use Rattle.geo_poly.specs.Runs.{between, LiesClear, PassOdd, IsMissed}
 use Rattle.geo_poly.specs.Parts.{edges_of}
-use Rattle.geo_poly.proofs.Distances.{apart_not_within}
+use Rattle.geo_seg.proofs.Distances.{apart_not_within}
 use Rattle.geo_poly.proofs.Covers.{Covers, covers_ends, covers_outline, edge_clear, both_clear, none_both_clear}
 use Rattle.geo_poly.proofs.Outline.{low_at, low_kept}
 use Rattle.geo_poly.proofs.Answers.{each_append, apart_append, some_in, some_left, some_right, reached_in, reached_left, reached_right, each_nothing, reached_nothing}

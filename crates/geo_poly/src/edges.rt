@@ -1,15 +1,17 @@
 // The edges of a path, and a segment.
 
 ghost use Rattle.std.specs.Prelude.{◌≡◌, ◌≤ℤ◌, ◌<◌, pos, IsTrue, ◌↔◌, length, drop};
+ghost use Rattle.geo_seg.specs.Nearer.{IsDistance};
 ghost use Rattle.geo_seg.specs.Points.{IsOn};
 ghost use Rattle.geo_seg.specs.Boxes.{IsLeastBox, FitsWithin};
+ghost use Rattle.geo_seg.specs.Distances.{IsGap};
 ghost use Rattle.geo_seg.specs.Inside.{path, outline, EachEdge, SomeEdge};
 ghost use Rattle.geo_poly.specs.Outlines.{IsApart, IsReached};
 
-use geo_seg::{Bounds, Point, Seg, seg_apart, seg_within};
+use geo_seg::{Bounds, Point, Seg, seg_apart, seg_gap, seg_within};
 
 // The corner at which edge `low` begins. Edge 0 leads from the last corner to the first.
-pub fn before(corners: &[Point], low: usize) -> Point
+pub(crate) fn before(corners: &[Point], low: usize) -> Point
     requires { low < length corners.now }
     ensures { drop low (outline corners.now) ≡ path result (drop low corners.now) }
 {
@@ -24,8 +26,7 @@ pub fn before(corners: &[Point], low: usize) -> Point
 fn edge_apart(e: Seg, s: Seg, near: Bounds, d: i64) -> bool
     requires near { IsLeastBox (IsOn s) near }
     requires fits { FitsWithin (pos 1000000000) near }
-    requires from { pos 0 ≤ℤ d }
-    requires to { d ≤ℤ pos 2000000000 }
+    requires range { IsDistance d }
     ensures { IsTrue result ↔ IsApart e s d }
 {
     e.bounds().is_clear(near, d) || seg_apart(e, s, d)
@@ -35,17 +36,15 @@ fn edge_apart(e: Seg, s: Seg, near: Bounds, d: i64) -> bool
 fn edge_within(e: Seg, s: Seg, near: Bounds, d: i64) -> bool
     requires near { IsLeastBox (IsOn s) near }
     requires fits { FitsWithin (pos 1000000000) near }
-    requires from { pos 0 ≤ℤ d }
-    requires to { d ≤ℤ pos 2000000000 }
+    requires range { IsDistance d }
     ensures { IsTrue result ↔ IsReached e s d }
 {
     !e.bounds().is_clear(near, d + 1) && seg_within(e, s, d)
 }
 
 // Whether each edge of the path is apart from the segment.
-pub fn path_apart(from: Point, part: &[Point], s: Seg, d: i64) -> bool
-    requires from { pos 0 ≤ℤ d }
-    requires to { d ≤ℤ pos 2000000000 }
+pub(crate) fn path_apart(from: Point, part: &[Point], s: Seg, d: i64) -> bool
+    requires { IsDistance d }
     ensures { IsTrue result ↔ EachEdge (λ e. IsApart e s d) (path from part.now) }
 {
     let near = s.bounds();
@@ -60,9 +59,8 @@ pub fn path_apart(from: Point, part: &[Point], s: Seg, d: i64) -> bool
 }
 
 // Whether some edge of the path is within d of the segment.
-pub fn path_within(from: Point, part: &[Point], s: Seg, d: i64) -> bool
-    requires from { pos 0 ≤ℤ d }
-    requires to { d ≤ℤ pos 2000000000 }
+pub(crate) fn path_within(from: Point, part: &[Point], s: Seg, d: i64) -> bool
+    requires { IsDistance d }
     ensures { IsTrue result ↔ SomeEdge (λ e. IsReached e s d) (path from part.now) }
 {
     let near = s.bounds();
@@ -74,4 +72,18 @@ pub fn path_within(from: Point, part: &[Point], s: Seg, d: i64) -> bool
         at = *c;
     }
     false
+}
+
+// The greatest whole distance from 1 to `most` at which each edge of the path is apart from the segment, or 0.
+pub(crate) fn path_gap(from: Point, part: &[Point], s: Seg, most: i64) -> i64
+    requires { IsDistance most }
+    ensures { IsGap (λ d. EachEdge (λ e. IsApart e s d) (path from part.now)) most result }
+{
+    let mut at = from;
+    let mut best = most;
+    for c in part {
+        best = seg_gap(Seg { a: at, b: *c }, s, best);
+        at = *c;
+    }
+    best
 }

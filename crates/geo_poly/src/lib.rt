@@ -6,6 +6,7 @@
 #![tactic(auto)]
 
 mod edges;
+mod gaps;
 mod parity;
 mod polygons;
 mod runs;
@@ -13,4 +14,6 @@ mod runs;
 mod tests;
 mod walks;
 
-pub use polygons::{holds, poly_apart, poly_seg_apart, poly_seg_within, poly_within};
+pub use polygons::{
+    holds, poly_apart, poly_gap, poly_seg_apart, poly_seg_gap, poly_seg_within, poly_within,
+};

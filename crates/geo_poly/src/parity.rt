@@ -1,9 +1,8 @@
 // How often the edges of an outline pass to the right of a point.
 
-ghost use Rattle.std.specs.Prelude.{◌≡◌, ◌<◌, ◌≤◌, ◌*ℤ◌, ◌<ℤ◌, pos, IsTrue, IfSome, ◌↔◌, length, unsigned_abs};
+ghost use Rattle.std.specs.Prelude.{◌≡◌, ◌<◌, ◌≤◌, ◌<ℤ◌, pos, IsTrue, IfSome, ◌↔◌, length};
 ghost use Rattle.geo_seg.specs.declared.boxes.Bounds.{Bounds};
 ghost use Rattle.geo_seg.specs.Points.{spot_of};
-ghost use Rattle.geo_seg.specs.Gap.{cross_of};
 ghost use Rattle.geo_seg.specs.Boxes.{FitsWithin};
 ghost use Rattle.geo_seg.specs.Inside.{passes, path, outline};
 ghost use Rattle.geo_seg.specs.Runs.{IsRunBox};
@@ -15,23 +14,6 @@ use crate::edges::before;
 use crate::walks::end;
 use geo_seg::{Bounds, Point, Poly, Seg};
 
-fn product(a: i64, b: i64) -> i64
-    requires a_in_range { unsigned_abs a ≤ 2000000000 }
-    requires b_in_range { unsigned_abs b ≤ 2000000000 }
-    ensures value { result ≡ a *ℤ b }
-    ensures in_range { unsigned_abs result ≤ 4000000000000000000 }
-{
-    a * b
-}
-
-// Above 0 where the point lies to the left of the edge's line, and below 0 to its right.
-fn side_of(e: Seg, p: Point) -> i64
-    ensures value { result ≡ cross_of p e }
-    ensures in_range { unsigned_abs result ≤ 8000000000000000000 }
-{
-    product(e.b.x - e.a.x, p.y - e.a.y) - product(e.b.y - e.a.y, p.x - e.a.x)
-}
-
 // Whether the edge crosses the ray from the point to the right, and not at the point itself. An
 // edge counts with its end of lesser y and without the other, so that a corner on the ray counts
 // once.
@@ -42,10 +24,10 @@ fn passes_right(p: Point, e: Seg) -> bool
         if e.b.y <= p.y {
             false
         } else {
-            0 < side_of(e, p)
+            0 < e.side_of(p)
         }
     } else if e.b.y <= p.y {
-        side_of(e, p) < 0
+        e.side_of(p) < 0
     } else {
         false
     }
@@ -152,7 +134,7 @@ fn next_step(poly: &Poly, low: usize, p: Point) -> Step
 }
 
 // Whether an odd number of the polygon's edges passes to the right of the point.
-pub fn is_enclosed(poly: &Poly, p: Point) -> bool
+pub(crate) fn is_enclosed(poly: &Poly, p: Point) -> bool
     ensures { IsTrue result ↔ IsEnclosed poly.now (spot_of p) }
 {
     let corners = poly.corners();

@@ -2,10 +2,12 @@
 
 ghost use Rattle.std.specs.Prelude.{◌≤ℤ◌, pos, IsTrue, ◌↔◌, ◌⊎◌};
 ghost use Rattle.geo_seg.specs.Points.{IsOn, spot_of};
-ghost use Rattle.geo_seg.specs.Nearer.{AreApart, AreWithin};
+ghost use Rattle.geo_seg.specs.Nearer.{IsDistance, AreApart, AreWithin};
+ghost use Rattle.geo_seg.specs.Distances.{IsGap};
 ghost use Rattle.geo_seg.specs.Inside.{IsInside};
 ghost use Rattle.geo_poly.specs.Outlines.{EndsInside};
 
+use crate::gaps::{outline_gap, outlines_gap};
 use crate::parity::is_enclosed;
 use crate::runs::{outlines_apart, outlines_within};
 use crate::walks::{outline_apart, outline_within};
@@ -20,8 +22,7 @@ fn has_point(poly: &Poly, p: Point) -> bool
 
 // `poly_seg_apart` by the edges: where no edge is near, one end tells for the whole segment.
 fn edges_apart(poly: &Poly, s: Seg, d: i64) -> bool
-    requires from { pos 0 ≤ℤ d }
-    requires to { d ≤ℤ pos 2000000000 }
+    requires { IsDistance d }
     ensures { IsTrue result ↔ AreApart (IsInside poly.now) (IsOn s) d }
 {
     d == 0 || !is_enclosed(poly, s.a) && outline_apart(poly, s, d)
@@ -29,8 +30,7 @@ fn edges_apart(poly: &Poly, s: Seg, d: i64) -> bool
 
 // `poly_seg_within` by the edges.
 fn edges_within(poly: &Poly, s: Seg, d: i64) -> bool
-    requires from { pos 0 ≤ℤ d }
-    requires to { d ≤ℤ pos 2000000000 }
+    requires { IsDistance d }
     ensures { IsTrue result ↔ AreWithin (IsInside poly.now) (IsOn s) d }
 {
     is_enclosed(poly, s.a) || outline_within(poly, s, d)
@@ -52,8 +52,7 @@ fn either_inside(a: &Poly, b: &Poly) -> bool
 
 // `poly_apart` by the edges.
 fn areas_apart(a: &Poly, b: &Poly, d: i64) -> bool
-    requires from { pos 0 ≤ℤ d }
-    requires to { d ≤ℤ pos 2000000000 }
+    requires { IsDistance d }
     ensures { IsTrue result ↔ AreApart (IsInside a.now) (IsInside b.now) d }
 {
     d == 0 || !either_inside(a, b) && outlines_apart(a, b, d)
@@ -61,8 +60,7 @@ fn areas_apart(a: &Poly, b: &Poly, d: i64) -> bool
 
 // `poly_within` by the edges.
 fn areas_within(a: &Poly, b: &Poly, d: i64) -> bool
-    requires from { pos 0 ≤ℤ d }
-    requires to { d ≤ℤ pos 2000000000 }
+    requires { IsDistance d }
     ensures { IsTrue result ↔ AreWithin (IsInside a.now) (IsInside b.now) d }
 {
     either_inside(a, b) || outlines_within(a, b, d)
@@ -79,8 +77,7 @@ pub fn holds(poly: &Poly, p: Point) -> bool
 /// Whether no point of the polygon and point of the segment are nearer to each other than `d`, which
 /// is from 0 to 2,000,000,000 half nanometres.
 pub fn poly_seg_apart(poly: &Poly, s: Seg, d: i64) -> bool
-    requires from { pos 0 ≤ℤ d }
-    requires to { d ≤ℤ pos 2000000000 }
+    requires { IsDistance d }
     ensures { IsTrue result ↔ AreApart (IsInside poly.now) (IsOn s) d }
 {
     poly.bounds().is_clear(s.bounds(), d) || edges_apart(poly, s, d)
@@ -89,8 +86,7 @@ pub fn poly_seg_apart(poly: &Poly, s: Seg, d: i64) -> bool
 /// Whether some point of the polygon and some point of the segment are at most `d` apart, for `d`
 /// from 0 to 2,000,000,000 half nanometres.
 pub fn poly_seg_within(poly: &Poly, s: Seg, d: i64) -> bool
-    requires from { pos 0 ≤ℤ d }
-    requires to { d ≤ℤ pos 2000000000 }
+    requires { IsDistance d }
     ensures { IsTrue result ↔ AreWithin (IsInside poly.now) (IsOn s) d }
 {
     !poly.bounds().is_clear(s.bounds(), d + 1) && edges_within(poly, s, d)
@@ -99,8 +95,7 @@ pub fn poly_seg_within(poly: &Poly, s: Seg, d: i64) -> bool
 /// Whether no points of the two polygons are nearer to each other than `d`, which is from 0 to
 /// 2,000,000,000 half nanometres.
 pub fn poly_apart(a: &Poly, b: &Poly, d: i64) -> bool
-    requires from { pos 0 ≤ℤ d }
-    requires to { d ≤ℤ pos 2000000000 }
+    requires { IsDistance d }
     ensures { IsTrue result ↔ AreApart (IsInside a.now) (IsInside b.now) d }
 {
     a.bounds().is_clear(b.bounds(), d) || areas_apart(a, b, d)
@@ -109,9 +104,34 @@ pub fn poly_apart(a: &Poly, b: &Poly, d: i64) -> bool
 /// Whether some points of the two polygons are at most `d` apart, for `d` from 0 to 2,000,000,000
 /// half nanometres.
 pub fn poly_within(a: &Poly, b: &Poly, d: i64) -> bool
-    requires from { pos 0 ≤ℤ d }
-    requires to { d ≤ℤ pos 2000000000 }
+    requires { IsDistance d }
     ensures { IsTrue result ↔ AreWithin (IsInside a.now) (IsInside b.now) d }
 {
     !a.bounds().is_clear(b.bounds(), d + 1) && areas_within(a, b, d)
+}
+
+/// The greatest whole number from 1 to `most` at which `poly_seg_apart` answers true, or 0 where there is
+/// none. `most` is from 0 to 2,000,000,000 half nanometres.
+pub fn poly_seg_gap(poly: &Poly, s: Seg, most: i64) -> i64
+    requires { IsDistance most }
+    ensures { IsGap (λ d. AreApart (IsInside poly.now) (IsOn s) d) most result }
+{
+    if is_enclosed(poly, s.a) {
+        0
+    } else {
+        outline_gap(poly, s, most)
+    }
+}
+
+/// The greatest whole number from 1 to `most` at which `poly_apart` answers true, or 0 where there is
+/// none. `most` is from 0 to 2,000,000,000 half nanometres.
+pub fn poly_gap(a: &Poly, b: &Poly, most: i64) -> i64
+    requires { IsDistance most }
+    ensures { IsGap (λ d. AreApart (IsInside a.now) (IsInside b.now) d) most result }
+{
+    if either_inside(a, b) {
+        0
+    } else {
+        outlines_gap(a, b, most)
+    }
 }

@@ -1,10 +1,8 @@
 // Two outlines, each taken in runs of edges, and those again in shorter ones: two runs whose boxes are
 // clear of each other are not looked at any nearer.
 
-ghost use Rattle.std.specs.Prelude.{◌≡◌, ◌≤ℤ◌, ◌<◌, ◌≤◌, ◌++◌, ◌∷◌, [], List, pos, IsTrue, ◌↔◌, length};
-ghost use Rattle.geo_seg.specs.declared.points.Point.{Point};
-ghost use Rattle.geo_seg.specs.Boxes.{FitsWithin};
-ghost use Rattle.geo_seg.specs.Corners.{IsCornerBox};
+ghost use Rattle.std.specs.Prelude.{◌≡◌, ◌≤ℤ◌, ◌<◌, ◌≤◌, pos, IsTrue, ◌↔◌, length};
+ghost use Rattle.geo_seg.specs.Nearer.{IsDistance};
 ghost use Rattle.geo_seg.specs.Inside.{path, outline, EachEdge, SomeEdge};
 ghost use Rattle.geo_seg.specs.Runs.{IsRunBox};
 ghost use Rattle.geo_poly.specs.Outlines.{IsApart, IsReached, EachApart, SomeReached};
@@ -13,45 +11,16 @@ ghost use Rattle.geo_poly.specs.Parts.{IsPartOf, edges_of};
 
 use crate::edges::{before, path_apart, path_within};
 use crate::walks::end;
-use geo_seg::{Bounds, Point, Poly, Seg};
-
-// The box, grown to hold one corner more.
-fn grown(bounds: Bounds, p: Point) -> Bounds
-    requires { FitsWithin (pos 1000000000) bounds }
-    ensures { (cs : List Point) → IsCornerBox cs bounds → IsCornerBox (cs ++ p ∷ []) result }
-{
-    Bounds {
-        left: bounds.left.min(p.x),
-        top: bounds.top.min(p.y),
-        right: bounds.right.max(p.x),
-        bottom: bounds.bottom.max(p.y),
-    }
-}
-
-// The box of the path's corners.
-fn path_box(from: Point, part: &[Point]) -> Bounds
-    ensures { IsCornerBox (from ∷ part.now) result }
-{
-    let mut bounds = Bounds {
-        left: from.x,
-        top: from.y,
-        right: from.x,
-        bottom: from.y,
-    };
-    for corner in part {
-        bounds = grown(bounds, *corner);
-    }
-    bounds
-}
+use geo_seg::{Bounds, Point, Poly, Seg, corner_box};
 
 // The edges from `low` up to `high` of an outline, and their box. Where the outline keeps one, it is
 // that of the run of `size` edges from `low` on.
 #[derive(Clone, Copy, Drop)]
-struct Part {
-    low: usize,
-    high: usize,
-    size: usize,
-    bounds: Bounds,
+pub(crate) struct Part {
+    pub low: usize,
+    pub high: usize,
+    pub size: usize,
+    pub bounds: Bounds,
 }
 
 // The box of the edges from `low` up to `high`.
@@ -66,10 +35,10 @@ fn part_box(poly: &Poly, low: usize, high: usize, size: usize) -> Bounds
         }
     }
     let corners = poly.corners();
-    path_box(before(corners, low), &corners[low..high])
+    corner_box(before(corners, low), &corners[low..high])
 }
 
-fn part_of(poly: &Poly, low: usize, high: usize, size: usize) -> Part
+pub(crate) fn part_of(poly: &Poly, low: usize, high: usize, size: usize) -> Part
     requires low { low < high }
     requires high { high ≤ length poly.now }
     ensures low { result.low ≡ low }
@@ -103,7 +72,7 @@ fn first_size(all: usize) -> usize {
 }
 
 // The whole outline.
-fn whole(poly: &Poly) -> Part
+pub(crate) fn whole(poly: &Poly) -> Part
     ensures part { IsPartOf poly.now result }
     ensures whole { edges_of poly.now result ≡ outline poly.now }
 {
@@ -126,8 +95,7 @@ fn paths_apart(
     d: i64,
 ) -> bool
     requires far { IsRunBox (path other others.now) far }
-    requires from { pos 0 ≤ℤ d }
-    requires to { d ≤ℤ pos 2000000000 }
+    requires range { IsDistance d }
     ensures { IsTrue result ↔ EachApart d (path from part.now) (path other others.now) }
 {
     let mut at = from;
@@ -144,8 +112,7 @@ fn paths_apart(
 // Whether each edge of the path, whose box is `far`, is apart from the segment.
 fn far_apart(from: Point, part: &[Point], far: Bounds, s: Seg, d: i64) -> bool
     requires far { IsRunBox (path from part.now) far }
-    requires from { pos 0 ≤ℤ d }
-    requires to { d ≤ℤ pos 2000000000 }
+    requires range { IsDistance d }
     ensures { IsTrue result ↔ EachEdge (λ e. IsApart e s d) (path from part.now) }
 {
     far.is_clear(s.bounds(), d) || path_apart(from, part, s, d)
@@ -154,8 +121,7 @@ fn far_apart(from: Point, part: &[Point], far: Bounds, s: Seg, d: i64) -> bool
 fn short_apart(a: &Poly, p: Part, b: &Poly, q: Part, d: i64) -> bool
     requires first { IsPartOf a.now p }
     requires second { IsPartOf b.now q }
-    requires from { pos 0 ≤ℤ d }
-    requires to { d ≤ℤ pos 2000000000 }
+    requires range { IsDistance d }
     ensures { IsTrue result ↔ EachApart d (edges_of a.now p) (edges_of b.now q) }
 {
     let corners = a.corners();
@@ -174,8 +140,7 @@ fn short_apart(a: &Poly, p: Part, b: &Poly, q: Part, d: i64) -> bool
 fn parts_apart(a: &Poly, p: Part, b: &Poly, q: Part, d: i64) -> bool
     requires first { IsPartOf a.now p }
     requires second { IsPartOf b.now q }
-    requires from { pos 0 ≤ℤ d }
-    requires to { d ≤ℤ pos 2000000000 }
+    requires range { IsDistance d }
     ensures { IsTrue result ↔ EachApart d (edges_of a.now p) (edges_of b.now q) }
 {
     if q.bounds.is_clear(p.bounds, d) {
@@ -207,9 +172,8 @@ fn parts_apart(a: &Poly, p: Part, b: &Poly, q: Part, d: i64) -> bool
 }
 
 // Whether each edge of the one polygon is apart from each of the other.
-pub fn outlines_apart(a: &Poly, b: &Poly, d: i64) -> bool
-    requires from { pos 0 ≤ℤ d }
-    requires to { d ≤ℤ pos 2000000000 }
+pub(crate) fn outlines_apart(a: &Poly, b: &Poly, d: i64) -> bool
+    requires { IsDistance d }
     ensures { IsTrue result ↔ EachApart d (outline a.now) (outline b.now) }
 {
     parts_apart(a, whole(a), b, whole(b), d)
@@ -225,8 +189,7 @@ fn paths_within(
     d: i64,
 ) -> bool
     requires far { IsRunBox (path other others.now) far }
-    requires from { pos 0 ≤ℤ d }
-    requires to { d ≤ℤ pos 2000000000 }
+    requires range { IsDistance d }
     ensures { IsTrue result ↔ SomeReached d (path from part.now) (path other others.now) }
 {
     let mut at = from;
@@ -243,8 +206,7 @@ fn paths_within(
 // Whether some edge of the path, whose box is `far`, is within d of the segment.
 fn far_within(from: Point, part: &[Point], far: Bounds, s: Seg, d: i64) -> bool
     requires far { IsRunBox (path from part.now) far }
-    requires from { pos 0 ≤ℤ d }
-    requires to { d ≤ℤ pos 2000000000 }
+    requires range { IsDistance d }
     ensures { IsTrue result ↔ SomeEdge (λ e. IsReached e s d) (path from part.now) }
 {
     !far.is_clear(s.bounds(), d + 1) && path_within(from, part, s, d)
@@ -253,8 +215,7 @@ fn far_within(from: Point, part: &[Point], far: Bounds, s: Seg, d: i64) -> bool
 fn short_within(a: &Poly, p: Part, b: &Poly, q: Part, d: i64) -> bool
     requires first { IsPartOf a.now p }
     requires second { IsPartOf b.now q }
-    requires from { pos 0 ≤ℤ d }
-    requires to { d ≤ℤ pos 2000000000 }
+    requires range { IsDistance d }
     ensures { IsTrue result ↔ SomeReached d (edges_of a.now p) (edges_of b.now q) }
 {
     let corners = a.corners();
@@ -273,8 +234,7 @@ fn short_within(a: &Poly, p: Part, b: &Poly, q: Part, d: i64) -> bool
 fn parts_within(a: &Poly, p: Part, b: &Poly, q: Part, d: i64) -> bool
     requires first { IsPartOf a.now p }
     requires second { IsPartOf b.now q }
-    requires from { pos 0 ≤ℤ d }
-    requires to { d ≤ℤ pos 2000000000 }
+    requires range { IsDistance d }
     ensures { IsTrue result ↔ SomeReached d (edges_of a.now p) (edges_of b.now q) }
 {
     if q.bounds.is_clear(p.bounds, d + 1) {
@@ -306,9 +266,8 @@ fn parts_within(a: &Poly, p: Part, b: &Poly, q: Part, d: i64) -> bool
 }
 
 // Whether some edge of the one polygon is within d of some of the other.
-pub fn outlines_within(a: &Poly, b: &Poly, d: i64) -> bool
-    requires from { pos 0 ≤ℤ d }
-    requires to { d ≤ℤ pos 2000000000 }
+pub(crate) fn outlines_within(a: &Poly, b: &Poly, d: i64) -> bool
+    requires { IsDistance d }
     ensures { IsTrue result ↔ SomeReached d (outline a.now) (outline b.now) }
 {
     parts_within(a, whole(a), b, whole(b), d)

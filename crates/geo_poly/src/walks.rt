@@ -2,6 +2,7 @@
 // polygon keeps the box of a run, and the box decides.
 
 ghost use Rattle.std.specs.Prelude.{◌≡◌, ◌≤ℤ◌, ◌<◌, ◌≤◌, List, pos, IsTrue, ◌↔◌, length, take, drop};
+ghost use Rattle.geo_seg.specs.Nearer.{IsUpTo, IsDistance};
 ghost use Rattle.geo_seg.specs.declared.points.Seg.{Seg};
 ghost use Rattle.geo_seg.specs.Points.{IsOn};
 ghost use Rattle.geo_seg.specs.Boxes.{IsLeastBox, FitsWithin};
@@ -13,7 +14,7 @@ use crate::edges::{before, path_apart, path_within};
 use geo_seg::{Bounds, Poly, Seg};
 
 // Where the run of `size` edges from `low` on ends, of so many in all.
-pub fn end(low: usize, size: usize, all: usize) -> usize
+pub(crate) fn end(low: usize, size: usize, all: usize) -> usize
     requires low { low < all }
     requires size { 0 < size }
     ensures after { low < result }
@@ -27,8 +28,7 @@ pub fn end(low: usize, size: usize, all: usize) -> usize
 // of `near`.
 fn is_run_clear(poly: &Poly, low: usize, size: usize, near: Bounds, d: i64) -> bool
     requires fits { FitsWithin (pos 1000000000) near }
-    requires from { pos 0 ≤ℤ d }
-    requires to { d ≤ℤ pos 2000000001 }
+    requires range { IsUpTo (pos 2000000001) d }
     ensures { IsTrue result → EachEdge (LiesClear near d) (take size (drop low (outline poly.now))) }
 {
     match poly.run_box(low, size) {
@@ -41,8 +41,7 @@ fn is_run_clear(poly: &Poly, low: usize, size: usize, near: Bounds, d: i64) -> b
 fn clear_end(poly: &Poly, low: usize, near: Bounds, d: i64) -> usize
     requires low { low < length poly.now }
     requires fits { FitsWithin (pos 1000000000) near }
-    requires from { pos 0 ≤ℤ d }
-    requires to { d ≤ℤ pos 2000000001 }
+    requires range { IsUpTo (pos 2000000001) d }
     ensures after { low ≤ result }
     ensures within { result ≤ length poly.now }
     ensures clear { EachEdge (LiesClear near d) (between low result (outline poly.now)) }
@@ -63,12 +62,11 @@ fn clear_end(poly: &Poly, low: usize, near: Bounds, d: i64) -> usize
 
 // Where a run from `low` on ends of which each edge is apart from the segment, whose box is `near`; or
 // `low` where some edge is not.
-fn apart_until(poly: &Poly, low: usize, s: Seg, near: Bounds, d: i64) -> usize
+pub(crate) fn apart_until(poly: &Poly, low: usize, s: Seg, near: Bounds, d: i64) -> usize
     requires low { low < length poly.now }
     requires near { IsLeastBox (IsOn s) near }
     requires fits { FitsWithin (pos 1000000000) near }
-    requires from { pos 0 ≤ℤ d }
-    requires to { d ≤ℤ pos 2000000000 }
+    requires range { IsDistance d }
     ensures after { low ≤ result }
     ensures within { result ≤ length poly.now }
     ensures apart { EachEdge (λ e. IsApart e s d) (between low result (outline poly.now)) }
@@ -88,9 +86,8 @@ fn apart_until(poly: &Poly, low: usize, s: Seg, near: Bounds, d: i64) -> usize
 }
 
 // Whether each edge of the polygon is apart from the segment.
-pub fn outline_apart(poly: &Poly, s: Seg, d: i64) -> bool
-    requires from { pos 0 ≤ℤ d }
-    requires to { d ≤ℤ pos 2000000000 }
+pub(crate) fn outline_apart(poly: &Poly, s: Seg, d: i64) -> bool
+    requires { IsDistance d }
     ensures { IsTrue result ↔ EachEdge (λ e. IsApart e s d) (outline poly.now) }
 {
     let corners = poly.corners();
@@ -116,8 +113,7 @@ fn beyond_until(poly: &Poly, low: usize, s: Seg, near: Bounds, d: i64) -> usize
     requires low { low < length poly.now }
     requires near { IsLeastBox (IsOn s) near }
     requires fits { FitsWithin (pos 1000000000) near }
-    requires from { pos 0 ≤ℤ d }
-    requires to { d ≤ℤ pos 2000000000 }
+    requires range { IsDistance d }
     ensures after { low ≤ result }
     ensures within { result ≤ length poly.now }
     ensures beyond { ¬ (SomeEdge (λ e. IsReached e s d) (between low result (outline poly.now))) }
@@ -137,9 +133,8 @@ fn beyond_until(poly: &Poly, low: usize, s: Seg, near: Bounds, d: i64) -> usize
 }
 
 // Whether some edge of the polygon is within d of the segment.
-pub fn outline_within(poly: &Poly, s: Seg, d: i64) -> bool
-    requires from { pos 0 ≤ℤ d }
-    requires to { d ≤ℤ pos 2000000000 }
+pub(crate) fn outline_within(poly: &Poly, s: Seg, d: i64) -> bool
+    requires { IsDistance d }
     ensures { IsTrue result ↔ SomeEdge (λ e. IsReached e s d) (outline poly.now) }
 {
     let corners = poly.corners();

@@ -2,7 +2,7 @@
 use Rattle.std.proofs.Common.{◌≡◌, ℤ, pos, negsuc, ◌+ℤ◌, ◌-ℤ◌, ◌*ℤ◌, ◌≤ℤ◌, ◌<ℤ◌, [], ◌∷◌, inl, inr, arith}
 use Rattle.std.proofs.lemmas.Int.{ints}
 use Rattle.int_algebra.proofs.Ring.{var, num, ◌⊕◌, ◌⊖◌, ◌⊗◌, sq, fact, ring, ring_by}
-use Rattle.int_algebra.proofs.Order.{product-pos, product-nonneg, square-nonneg, sum-nonneg, lt-le, le_by, lt_by, le_gap, scale_le, unscale_le, not_lt, le_lt_trans}
+use Rattle.int_algebra.proofs.Order.{product-nonneg, square-nonneg, sum-nonneg, lt-le, le_by, le_gap, scale_le, unscale_le, not_lt}
 use Rattle.geo_seg.specs.declared.points.Point.{Point}
 use Rattle.geo_seg.specs.declared.points.Seg.{Seg}
 use Rattle.geo_seg.specs.declared.boxes.Bounds.{Bounds}
@@ -10,6 +10,7 @@ use Rattle.geo_seg.specs.Points.{Spot, IsAt, IsOn, spot_of}
 use Rattle.geo_seg.specs.Nearer.{square, squared_gap, squared_limit, IsNearer, AreApart, AreWithin}
 use Rattle.geo_seg.specs.Boxes.{IsInBox, IsLeastBox, AreClear}
 use Rattle.geo_seg.specs.Corners.{IsHeld}
+use Rattle.geo_seg.proofs.Distances.{apart_not_within}
 
 -- a spot of a segment lies in each range that its ends lie in
 below_at : (m i w x a b hi : ℤ) → pos 0 ≤ℤ i → i ≤ℤ m → pos 0 <ℤ m → pos 0 <ℤ w → m *ℤ x ≡ w *ℤ ((m -ℤ i) *ℤ a +ℤ i *ℤ b) → a ≤ℤ hi → b ≤ℤ hi → x ≤ℤ (w *ℤ hi)
@@ -145,23 +146,11 @@ clear_not_nearer b c p q d hd hp hq (inr (inr h)) n = clear_y c b q p d hd hq hp
 pub clear_apart : (P Q : Spot → Type 0) (b c : Bounds) (d : ℤ) → pos 0 ≤ℤ d → IsLeastBox P b → IsLeastBox Q c → AreClear b c d → AreApart P Q d
 clear_apart P Q b c d hd hb hc h = record { apart = λ p q o u n. clear_not_nearer b c p q d hd (hb.holds p o) (hc.holds q u) h n }
 
-limit_more : (d v w : ℤ) → pos 0 ≤ℤ d → pos 0 <ℤ v → pos 0 <ℤ w → square (d *ℤ v *ℤ w) <ℤ square ((d +ℤ pos 1) *ℤ v *ℤ w)
-limit_more d v w hd hv hw =
-    let D = var 0 in let V = var 1 in let W = var 2 in
-    let k = product-pos (v *ℤ w) (v *ℤ w) (product-pos v w hv hw) (product-pos v w hv hw) in
-    lt_by (square (d *ℤ v *ℤ w)) (square ((d +ℤ pos 1) *ℤ v *ℤ w)) ((d +ℤ d +ℤ pos 1) *ℤ square (v *ℤ w))
-    (ring (d ∷ v ∷ w ∷ []) (sq ((D ⊕ num (pos 1)) ⊗ V ⊗ W) ⊖ sq (D ⊗ V ⊗ W)) ((D ⊕ D ⊕ num (pos 1)) ⊗ sq (V ⊗ W)) tt)
-    (product-pos (d +ℤ d +ℤ pos 1) (square (v *ℤ w)) (odd d hd) k)
-  where
-    odd : (d : ℤ) → pos 0 ≤ℤ d → pos 0 <ℤ (d +ℤ d +ℤ pos 1)
-    odd d h = omega (arith, ints)
-
--- sets that are apart at d + 1 are not within d
-apart_not_within : (P Q : Spot → Type 0) (d : ℤ) → pos 0 ≤ℤ d → AreApart P Q (d +ℤ pos 1) → ¬ (AreWithin P Q d)
-apart_not_within P Q d hd h r = h.apart r.from r.to r.of_first r.of_second (le_lt_trans (squared_gap r.from r.to) (squared_limit d r.from r.to) (squared_limit (d +ℤ pos 1) r.from r.to) r.within (limit_more d r.from.w r.to.w hd r.from.positive r.to.positive))
-
 pub clear_not_within : (P Q : Spot → Type 0) (b c : Bounds) (d : ℤ) → pos 0 ≤ℤ d → IsLeastBox P b → IsLeastBox Q c → AreClear b c (d +ℤ pos 1) → ¬ (AreWithin P Q d)
-clear_not_within P Q b c d hd hb hc h = apart_not_within P Q d hd (clear_apart P Q b c (d +ℤ pos 1) (more d hd) hb hc h)
+clear_not_within P Q b c d hd hb hc h = apart_not_within P Q d (d +ℤ pos 1) hd (past d) (clear_apart P Q b c (d +ℤ pos 1) (more d hd) hb hc h)
   where
     more : (d : ℤ) → pos 0 ≤ℤ d → pos 0 ≤ℤ (d +ℤ pos 1)
     more d h = omega (arith, ints)
+
+    past : (d : ℤ) → d <ℤ (d +ℤ pos 1)
+    past d = omega (arith, ints)

@@ -6,10 +6,11 @@ use Rattle.geo_seg.specs.declared.points.Point.{Point}
 use Rattle.geo_seg.specs.declared.points.Seg.{Seg}
 use Rattle.geo_seg.specs.declared.boxes.Bounds.{Bounds}
 use Rattle.geo_seg.specs.Points.{IsAt, IsOn, spot_of}
-use Rattle.geo_seg.specs.Boxes.{IsPartOf, IsLeastBox, FitsWithin}
+use Rattle.geo_seg.specs.Boxes.{IsPartOf, IsUnion, IsLeastBox, FitsWithin}
 use Rattle.geo_seg.specs.Corners.{EachCorner, SomeCorner, IsHeld, IsCornerBox}
 use Rattle.geo_seg.proofs.BoxLemmas.{at_in_box, on_in_box, held_of_in_box, start_on, end_on}
 use Rattle.geo_seg.proofs.PointReach.{spot_of-IsAt}
+use Rattle.geo_seg.proofs.Unions.{sides_of_union}
 
 pub each_corner : {P Q : Point → Type 0} → ((k : Point) → P k → Q k) → (cs : List Point) → EachCorner P cs → EachCorner Q cs
 each_corner f [] h = tt
@@ -21,45 +22,42 @@ corner_with f [] h k = absurd k
 corner_with f (c ∷ cs) h (inl k) = f c h.0 k
 corner_with f (c ∷ cs) h (inr k) = corner_with f cs h.1 k
 
-each_added : (P : Point → Type 0) (cs : List Point) (k : Point) → EachCorner P cs → P k → EachCorner P (cs ++ k ∷ [])
-each_added P [] k h p = (p, tt)
-each_added P (c ∷ cs) k h p = (h.0, each_added P cs k h.1 p)
+each_append : (P : Point → Type 0) (cs ks : List Point) → EachCorner P cs → EachCorner P ks → EachCorner P (cs ++ ks)
+each_append P [] ks h k = k
+each_append P (c ∷ cs) ks h k = (h.0, each_append P cs ks h.1 k)
 
-some_before : (P : Point → Type 0) (cs : List Point) (k : Point) → SomeCorner P cs → SomeCorner P (cs ++ k ∷ [])
-some_before P [] k h = absurd h
-some_before P (c ∷ cs) k (inl h) = inl h
-some_before P (c ∷ cs) k (inr h) = inr (some_before P cs k h)
+some_front : (P : Point → Type 0) (cs ks : List Point) → SomeCorner P cs → SomeCorner P (cs ++ ks)
+some_front P [] ks h = absurd h
+some_front P (c ∷ cs) ks (inl h) = inl h
+some_front P (c ∷ cs) ks (inr h) = inr (some_front P cs ks h)
 
-some_added : (P : Point → Type 0) (cs : List Point) (k : Point) → P k → SomeCorner P (cs ++ k ∷ [])
-some_added P [] k h = inl h
-some_added P (c ∷ cs) k h = inr (some_added P cs k h)
+some_back : (P : Point → Type 0) (cs ks : List Point) → SomeCorner P ks → SomeCorner P (cs ++ ks)
+some_back P [] ks h = h
+some_back P (c ∷ cs) ks h = inr (some_back P cs ks h)
 
--- ---- a box that grows
--- r is the lesser, or the greater, of u and v
-pub record IsLesser (u v r : ℤ) : Type 0 where
-  pub first : r ≤ℤ u
-  pub second : r ≤ℤ v
-  pub either : (r ≡ u) ⊎ (r ≡ v)
+-- ---- the box of two lists of corners
+reached : (f : Point → ℤ) (cs ks : List Point) (u v r : ℤ) → SomeCorner (λ c. f c ≡ u) cs → SomeCorner (λ c. f c ≡ v) ks → (r ≡ u) ⊎ (r ≡ v) → SomeCorner (λ c. f c ≡ r) (cs ++ ks)
+reached f cs ks u v r h k (inl e) = subst (λ (z : ℤ). SomeCorner (λ c. f c ≡ z) (cs ++ ks)) (sym e) (some_front (λ c. f c ≡ u) cs ks h)
+reached f cs ks u v r h k (inr e) = subst (λ (z : ℤ). SomeCorner (λ c. f c ≡ z) (cs ++ ks)) (sym e) (some_back (λ c. f c ≡ v) cs ks k)
 
-pub record IsGreater (u v r : ℤ) : Type 0 where
-  pub first : u ≤ℤ r
-  pub second : v ≤ℤ r
-  pub either : (r ≡ u) ⊎ (r ≡ v)
+wider : (b r : Bounds) → IsPartOf b r → (cs : List Point) → EachCorner (IsHeld b) cs → EachCorner (IsHeld r) cs
+wider b r h cs k = each_corner (λ c o. record {
+  left = le_trans r.left b.left c.x h.left o.left;
+  top = le_trans r.top b.top c.y h.top o.top;
+  right = le_trans c.x b.right r.right o.right h.right;
+  bottom = le_trans c.y b.bottom r.bottom o.bottom h.bottom;
+}) cs k
 
-reached : (f : Point → ℤ) (cs : List Point) (k : Point) (u r : ℤ) → SomeCorner (λ c. f c ≡ u) cs → (r ≡ u) ⊎ (r ≡ f k) → SomeCorner (λ c. f c ≡ r) (cs ++ k ∷ [])
-reached f cs k u r h (inl e) = subst (λ (z : ℤ). SomeCorner (λ c. f c ≡ z) (cs ++ k ∷ [])) (sym e) (some_before (λ c. f c ≡ u) cs k h)
-reached f cs k u r h (inr e) = some_added (λ c. f c ≡ r) cs k (sym e)
-
-pub grown_box : (cs : List Point) (b r : Bounds) (k : Point) → IsLesser b.left k.x r.left → IsLesser b.top k.y r.top → IsGreater b.right k.x r.right → IsGreater b.bottom k.y r.bottom → IsCornerBox cs b → IsCornerBox (cs ++ k ∷ []) r
-grown_box cs b r k l t g m h = record {
-  holds = each_added (IsHeld r) cs k
-      (each_corner (λ c o. record { left = le_trans r.left b.left c.x l.first o.left; top = le_trans r.top b.top c.y t.first o.top; right = le_trans c.x b.right r.right o.right g.first; bottom = le_trans c.y b.bottom r.bottom o.bottom m.first }) cs h.holds)
-      (record { left = l.second; top = t.second; right = g.second; bottom = m.second });
-  left = reached (λ c. c.x) cs k b.left r.left h.left l.either;
-  top = reached (λ c. c.y) cs k b.top r.top h.top t.either;
-  right = reached (λ c. c.x) cs k b.right r.right h.right g.either;
-  bottom = reached (λ c. c.y) cs k b.bottom r.bottom h.bottom m.either;
-}
+pub union_box : (cs ks : List Point) (b c r : Bounds) → IsCornerBox cs b → IsCornerBox ks c → IsUnion b c r → IsCornerBox (cs ++ ks) r
+union_box cs ks b c r h k u =
+    let s = sides_of_union b c r u in
+    record {
+      holds = each_append (IsHeld r) cs ks (wider b r u.first cs h.holds) (wider c r u.second ks k.holds);
+      left = reached (λ p. p.x) cs ks b.left c.left r.left h.left k.left s.left.either;
+      top = reached (λ p. p.y) cs ks b.top c.top r.top h.top k.top s.top.either;
+      right = reached (λ p. p.x) cs ks b.right c.right r.right h.right k.right s.right.either;
+      bottom = reached (λ p. p.y) cs ks b.bottom c.bottom r.bottom h.bottom k.bottom s.bottom.either;
+    }
 
 -- ---- least boxes
 pub box_part : (cs : List Point) (b c : Bounds) → IsCornerBox cs b → EachCorner (IsHeld c) cs → IsPartOf b c

@@ -6,8 +6,13 @@ pub mod SegReach
 pub mod SegAnswers
 pub mod Passed
 pub mod Choices
+pub mod Distances
 pub mod BoxLemmas
 pub mod CornerBoxes
+pub mod Unions
 pub mod Parity
 pub mod Enclosed
 pub mod RunBoxes
+pub mod Shifted
+pub mod Rewritten
+pub mod GapLemmas

@@ -1,13 +1,13 @@
 -- What the code's numbers are: a number that was passed as bits, sums, differences and products of such, and what the tests
 -- and results of each function say.
-use Rattle.std.proofs.Common.{◌≡◌, ℕ, ◌*ℤ◌, ◌+ℤ◌, ◌-ℤ◌, neg_ℤ, ◌≤◌, ◌*◌, ◌≤ℤ◌, ◌<ℤ◌, unsigned_abs, ℤ, pos, Bool, true, false, cond, inl, inr, IsTrue, ◌↔◌, FitsSigned, to_z, of_z, arith, refl, sym, ap, subst, ◌∙◌}
+use Rattle.std.proofs.Common.{◌≡◌, ℕ, zero, suc, ◌*ℤ◌, ◌+ℤ◌, ◌-ℤ◌, neg_ℤ, ◌≤◌, ◌*◌, ◌≤ℤ◌, ◌<ℤ◌, unsigned_abs, ℤ, pos, Bool, true, false, IsTrue, ◌↔◌, FitsSigned, of_z, arith, refl, sym, ap, subst, ◌∙◌}
 use Rattle.std.proofs.lemmas.Int.{ints, to_z-of_z, unsigned_abs-mul}
 use Rattle.std.specs.Int.Signed.{le_z}
 use Rattle.std.proofs.Math.Nat.{mul-le-mul_left}
-use Rattle.std.specs.Prelude.{int_lt}
-use Rattle.std.specs.Int.{int_min, int_max}
 use mir.Syntax.{w128, w64}
-use Rattle.int_algebra.proofs.Order.{le_refl}
+use Rattle.int_algebra.proofs.Order.{le_trans}
+use Rattle.int_algebra.proofs.Scalars.{passed_wide, passed_is, wide_is}
+pub use Rattle.int_algebra.proofs.Scalars.{passed}
 use Rattle.geo_seg.specs.declared.points.Point.{Point}
 use Rattle.geo_seg.specs.declared.points.Seg.{Seg}
 use Rattle.geo_seg.specs.declared.boxes.Bounds.{Bounds}
@@ -16,21 +16,7 @@ use Rattle.geo_seg.specs.Points.{IsAt, IsOn}
 use Rattle.geo_seg.specs.Nearer.{square, AreApart, AreWithin}
 use Rattle.geo_seg.specs.Gap.{IsLeastGap, dot_of, cross_of, squared_length, turn, turn_a, turn_b, IsFramed}
 use Rattle.geo_seg.proofs.LeastGaps.{gap_at_start, gap_at_end, gap_between}
-use Rattle.geo_seg.proofs.CornerBoxes.{IsLesser, IsGreater}
 use Rattle.geo_seg.proofs.PointReach.{within_by_gap, gap_of_within, apart_by_gap, gap_of_apart}
-
--- a number that was passed as bits, in 64 of them and in 128
-abbrev pub passed : ℤ → ℤ
-passed z = to_z w64 (of_z w64 z)
-
-abbrev pub passed_wide : ℤ → ℤ
-passed_wide z = to_z w128 (of_z w128 z)
-
-pub passed_is : (z : ℤ) → unsigned_abs z ≤ 8000000000000000000 → passed z ≡ z
-passed_is z h = omega (arith, ints)
-
-widened_is : (z : ℤ) → unsigned_abs z ≤ 8000000000000000000 → passed_wide (passed z) ≡ z
-widened_is z h = omega (arith, ints)
 
 pub d_kept : (d : ℤ) → pos 0 ≤ℤ d → d ≤ℤ pos 2000000000 → passed d ≡ d
 d_kept d h k = omega (arith, ints)
@@ -99,12 +85,12 @@ IsLeastGap_along p s t t' u u' e f h = subst (λ (z : ℤ). IsLeastGap p s t' z)
 
 pub start_case : (p : Point) (s : Seg) (along top : ℤ) → along ≡ dot_of p s → top ≡ squared_length s.a p → unsigned_abs along ≤ 8000000000000000000 → unsigned_abs top ≤ 8000000000000000000 → le_z (passed along) (pos 0) ≡ true → IsLeastGap p s (passed_wide (passed top)) (pos 1)
 start_case p s along top e f h k t =
-    IsLeastGap_along p s (squared_length s.a p) (passed_wide (passed top)) (pos 1) (pos 1) (widened_is top k ∙ f) refl
+    IsLeastGap_along p s (squared_length s.a p) (passed_wide (passed top)) (pos 1) (pos 1) (wide_is top k ∙ f) refl
     (gap_at_start p s (subst (λ (z : ℤ). z ≤ℤ pos 0) e (le_zero_tested along h t)))
 
 pub end_case : (p : Point) (s : Seg) (along length top : ℤ) → along ≡ dot_of p s → length ≡ squared_length s.a s.b → top ≡ squared_length s.b p → unsigned_abs along ≤ 8000000000000000000 → unsigned_abs length ≤ 8000000000000000000 → unsigned_abs top ≤ 8000000000000000000 → le_z (passed length) (passed along) ≡ true → IsLeastGap p s (passed_wide (passed top)) (pos 1)
 end_case p s along length top e g f h l k t =
-    IsLeastGap_along p s (squared_length s.b p) (passed_wide (passed top)) (pos 1) (pos 1) (widened_is top k ∙ f) refl
+    IsLeastGap_along p s (squared_length s.b p) (passed_wide (passed top)) (pos 1) (pos 1) (wide_is top k ∙ f) refl
     (gap_at_end p s (subst (λ (z : ℤ). squared_length s.a s.b ≤ℤ z) e (subst (λ (z : ℤ). z ≤ℤ along) g (le_tested length along l h t))))
 
 pub between_case : (p : Point) (s : Seg) (along length across top : ℤ) → along ≡ dot_of p s → length ≡ squared_length s.a s.b → across ≡ cross_of p s → unsigned_abs along ≤ 8000000000000000000 → unsigned_abs length ≤ 8000000000000000000 → unsigned_abs across ≤ 8000000000000000000 → FitsSigned w128 top → top ≡ passed across *ℤ passed across → le_z (passed along) (pos 0) ≡ false → le_z (passed length) (passed along) ≡ false → IsLeastGap p s (passed_wide top) (passed length)
@@ -181,25 +167,29 @@ at_more P d b h k e = subst (λ (z : ℤ). IsTrue b ↔ P z) (more d h k) e
     more d h k = omega (arith, ints)
 
 -- ---- boxes
-pub left_in_range : (b : Bounds) → FitsWithin (pos 1000000000) b → unsigned_abs b.left ≤ 1000000000
-left_in_range b f = omega (arith, ints, f.left, f.wide, f.right)
+side_in_range : (n : ℕ) (z : ℤ) → neg_ℤ (pos n) ≤ℤ z → z ≤ℤ pos n → unsigned_abs z ≤ n
+side_in_range zero z h k = omega (arith, ints)
+side_in_range (suc n) z h k = omega (arith, ints)
 
-pub right_in_range : (b : Bounds) → FitsWithin (pos 1000000000) b → unsigned_abs b.right ≤ 1000000000
-right_in_range b f = omega (arith, ints, f.left, f.wide, f.right)
+pub left_in_range : (n : ℕ) (b : Bounds) → FitsWithin (pos n) b → unsigned_abs b.left ≤ n
+left_in_range n b f = side_in_range n b.left f.left (le_trans b.left b.right (pos n) f.wide f.right)
 
-pub top_in_range : (b : Bounds) → FitsWithin (pos 1000000000) b → unsigned_abs b.top ≤ 1000000000
-top_in_range b f = omega (arith, ints, f.top, f.high, f.bottom)
+pub right_in_range : (n : ℕ) (b : Bounds) → FitsWithin (pos n) b → unsigned_abs b.right ≤ n
+right_in_range n b f = side_in_range n b.right (le_trans (neg_ℤ (pos n)) b.left b.right f.left f.wide) f.right
 
-pub bottom_in_range : (b : Bounds) → FitsWithin (pos 1000000000) b → unsigned_abs b.bottom ≤ 1000000000
-bottom_in_range b f = omega (arith, ints, f.top, f.high, f.bottom)
+pub top_in_range : (n : ℕ) (b : Bounds) → FitsWithin (pos n) b → unsigned_abs b.top ≤ n
+top_in_range n b f = side_in_range n b.top f.top (le_trans b.top b.bottom (pos n) f.high f.bottom)
 
-pub before_is : (high low d : ℤ) (t : Bool) → unsigned_abs high ≤ 1000000000 → unsigned_abs low ≤ 1000000000 → pos 0 ≤ℤ d → d ≤ℤ pos 2000000001 → (IsTrue t ↔ (passed high +ℤ passed d) ≤ℤ passed low) → (IsTrue t ↔ (high +ℤ d) ≤ℤ low)
+pub bottom_in_range : (n : ℕ) (b : Bounds) → FitsWithin (pos n) b → unsigned_abs b.bottom ≤ n
+bottom_in_range n b f = side_in_range n b.bottom (le_trans (neg_ℤ (pos n)) b.top b.bottom f.top f.high) f.bottom
+
+pub before_is : (high low d : ℤ) (t : Bool) → unsigned_abs high ≤ 1500000000 → unsigned_abs low ≤ 1500000000 → pos 0 ≤ℤ d → d ≤ℤ pos 2000000001 → (IsTrue t ↔ (passed high +ℤ passed d) ≤ℤ passed low) → (IsTrue t ↔ (high +ℤ d) ≤ℤ low)
 before_is high low d t h k l m e = subst (λ (z : ℤ). IsTrue t ↔ z ≤ℤ low) (sum high d h l m) (subst (λ (z : ℤ). IsTrue t ↔ (passed high +ℤ passed d) ≤ℤ z) (one low k) e)
   where
-    one : (z : ℤ) → unsigned_abs z ≤ 1000000000 → passed z ≡ z
+    one : (z : ℤ) → unsigned_abs z ≤ 1500000000 → passed z ≡ z
     one z h = omega (arith, ints)
 
-    sum : (z d : ℤ) → unsigned_abs z ≤ 1000000000 → pos 0 ≤ℤ d → d ≤ℤ pos 2000000001 → passed z +ℤ passed d ≡ z +ℤ d
+    sum : (z d : ℤ) → unsigned_abs z ≤ 1500000000 → pos 0 ≤ℤ d → d ≤ℤ pos 2000000001 → passed z +ℤ passed d ≡ z +ℤ d
     sum z d h k l = omega (arith, ints)
 
 -- the same as `at_d`, as far as boxes are asked
@@ -208,23 +198,6 @@ at_reach P d b h k e = subst (λ (z : ℤ). IsTrue b ↔ P z) (reach d h k) e
   where
     reach : (d : ℤ) → pos 0 ≤ℤ d → d ≤ℤ pos 2000000001 → passed d ≡ d
     reach d h k = omega (arith, ints)
-
-lesser_by : (u v : ℤ) (t : Bool) → int_lt v u ≡ t → IsLesser u v (cond t v u)
-lesser_by u v true e = record { first = omega (arith, ints, e); second = le_refl v; either = inr refl }
-lesser_by u v false e = record { first = le_refl u; second = omega (arith, ints, e); either = inl refl }
-
-greater_by : (u v : ℤ) (t : Bool) → int_lt v u ≡ t → IsGreater u v (cond t u v)
-greater_by u v true e = record { first = le_refl u; second = omega (arith, ints, e); either = inl refl }
-greater_by u v false e = record { first = omega (arith, ints, e); second = le_refl v; either = inr refl }
-
--- what `min` and `max` give
-pub lesser_is : (u v r : ℤ) → unsigned_abs u ≤ 1000000000 → unsigned_abs v ≤ 1000000000 → FitsSigned w64 r → r ≡ int_min (passed u) (passed v) → IsLesser u v (passed r)
-lesser_is u v r h k fits e =
-    subst (λ (z : ℤ). IsLesser u v z) (sym (to_z-of_z w64 r fits ∙ e ∙ ap (λ z. int_min z (passed v)) (passed_is u (omega arith)) ∙ ap (λ z. int_min u z) (passed_is v (omega arith)))) (lesser_by u v (int_lt v u) refl)
-
-pub greater_is : (u v r : ℤ) → unsigned_abs u ≤ 1000000000 → unsigned_abs v ≤ 1000000000 → FitsSigned w64 r → r ≡ int_max (passed u) (passed v) → IsGreater u v (passed r)
-greater_is u v r h k fits e =
-    subst (λ (z : ℤ). IsGreater u v z) (sym (to_z-of_z w64 r fits ∙ e ∙ ap (λ z. int_max z (passed v)) (passed_is u (omega arith)) ∙ ap (λ z. int_max u z) (passed_is v (omega arith)))) (greater_by u v (int_lt v u) refl)
 
 -- a side moved out
 pub less_is : (u r : ℤ) → unsigned_abs u ≤ 1000000000 → pos 0 ≤ℤ r → r ≤ℤ pos 500000000 → passed (passed u -ℤ passed r) ≡ u -ℤ r

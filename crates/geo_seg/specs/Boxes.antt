@@ -1,5 +1,5 @@
 -- Boxes along the axes. As on a screen y grows downward, so the top of a box is its least y.
-use Rattle.std.specs.Prelude.{ℤ, neg_ℤ, ◌+ℤ◌, ◌-ℤ◌, ◌*ℤ◌, ◌≤ℤ◌, ◌⊎◌}
+use Rattle.std.specs.Prelude.{ℤ, neg_ℤ, ◌+ℤ◌, ◌-ℤ◌, ◌*ℤ◌, ◌≤ℤ◌, Bool, ◌&&◌, int_le, ◌⊎◌}
 use Rattle.geo_seg.specs.declared.boxes.Bounds.{Bounds}
 use Rattle.geo_seg.specs.Points.{Spot}
 
@@ -25,6 +25,27 @@ pub record IsLeastBox (P : Spot → Type 0) (b : Bounds) : Type 0 where
 -- the box with each side moved out by r
 abbrev pub widened : Bounds → ℤ → Bounds
 widened b r = record { left = b.left -ℤ r; top = b.top -ℤ r; right = b.right +ℤ r; bottom = b.bottom +ℤ r }
+
+-- the boxes share a point; their sides belong to them
+pub record BoxesMeet (b c : Bounds) : Type 0 where
+  pub left : b.left ≤ℤ c.right
+  pub right : c.left ≤ℤ b.right
+  pub top : b.top ≤ℤ c.bottom
+  pub bottom : c.top ≤ℤ b.bottom
+
+-- the same as a test
+abbrev pub do_boxes_meet : Bounds → Bounds → Bool
+do_boxes_meet b c = (int_le b.left c.right && int_le c.left b.right) && (int_le b.top c.bottom && int_le c.top b.bottom)
+
+-- the boxes meet where the first has each side moved out by r
+abbrev pub are_near : ℤ → Bounds → Bounds → Bool
+are_near r b c = do_boxes_meet (widened b r) c
+
+-- r is the least box that holds both b and c
+pub record IsUnion (b c r : Bounds) : Type 0 where
+  pub first : IsPartOf b r
+  pub second : IsPartOf c r
+  pub least : (other : Bounds) → IsPartOf b other → IsPartOf c other → IsPartOf r other
 
 -- the box is not empty, and reaches no farther than `limit` from the axes
 pub record FitsWithin (limit : ℤ) (b : Bounds) : Type 0 where

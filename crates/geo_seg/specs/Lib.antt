@@ -2,8 +2,11 @@ pub mod Points
 pub mod Nearer
 pub mod Inside
 pub mod Cores
+pub mod Distances
 pub mod Boxes
 pub mod Corners
 pub mod Gap
 pub mod Runs
 pub mod Kept
+pub mod Shifts
+pub mod ShiftedRuns

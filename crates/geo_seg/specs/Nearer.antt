@@ -1,7 +1,16 @@
 -- How near two points are to each other, and two sets of points. A distance is compared by its square, times the square of
 -- both denominators, so that everything is a whole number.
-use Rattle.std.specs.Prelude.{ℤ, ◌+ℤ◌, ◌-ℤ◌, ◌*ℤ◌, ◌≤ℤ◌, ◌<ℤ◌}
+use Rattle.std.specs.Prelude.{ℤ, pos, ◌+ℤ◌, ◌-ℤ◌, ◌*ℤ◌, ◌≤ℤ◌, ◌<ℤ◌}
 use Rattle.geo_seg.specs.Points.{Spot}
+
+-- z is from 0 to most
+pub record IsUpTo (most z : ℤ) : Type 0 where
+  pub from : pos 0 ≤ℤ z
+  pub to : z ≤ℤ most
+
+-- a distance that can be asked for: as long as the side of a board in half nanometres
+abbrev pub IsDistance : ℤ → Type 0
+IsDistance d = IsUpTo (pos 2000000000) d
 
 -- z times itself
 abbrev pub square : ℤ → ℤ

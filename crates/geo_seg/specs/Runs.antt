@@ -5,7 +5,7 @@ use Rattle.geo_seg.specs.declared.boxes.Bounds.{Bounds}
 use Rattle.geo_seg.specs.declared.frames.Frame.{Frame}
 use Rattle.geo_seg.specs.declared.runs.Indexed.{Indexed}
 use Rattle.geo_seg.specs.Boxes.{FitsWithin}
-use Rattle.geo_seg.specs.Corners.{IsHeld}
+use Rattle.geo_seg.specs.Corners.{IsHeld, IsCornerBox}
 use Rattle.geo_seg.specs.Inside.{EachEdge, outline}
 
 -- the box of a frame
@@ -27,6 +27,7 @@ AreRuns size [] es = Unit {0}
 AreRuns size (f ∷ fs) es = IsRunBox (take size es) (sides_of f) × AreRuns size fs (drop size es)
 
 pub record HasRuns (index : Indexed) : Type 0 where
+  pub whole : IsCornerBox index.corners.items (sides_of index.whole)
   pub first : AreRuns 8 index.first.items (outline index.corners.items)
   pub second : AreRuns 64 index.second.items (outline index.corners.items)
   pub third : AreRuns 512 index.third.items (outline index.corners.items)

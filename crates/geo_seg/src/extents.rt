@@ -1,6 +1,7 @@
 // The least boxes that hold points, segments and shapes.
 
 ghost use Rattle.std.specs.Prelude.{◌≤ℤ◌, ◌≡◌, ◌++◌, ◌∷◌, [], List, pos};
+ghost use Rattle.geo_seg.specs.Nearer.{IsUpTo};
 ghost use Rattle.geo_seg.specs.declared.points.Point.{Point};
 ghost use Rattle.geo_seg.specs.Boxes.{FitsWithin, IsLeastBox, widened};
 ghost use Rattle.geo_seg.specs.Corners.{IsCornerBox};
@@ -28,19 +29,13 @@ pub fn grown(bounds: Bounds, p: Point) -> Bounds
     requires { FitsWithin (pos 1000000000) bounds }
     ensures { (cs : List Point) → IsCornerBox cs bounds → IsCornerBox (cs ++ p ∷ []) result }
 {
-    Bounds {
-        left: bounds.left.min(p.x),
-        top: bounds.top.min(p.y),
-        right: bounds.right.max(p.x),
-        bottom: bounds.bottom.max(p.y),
-    }
+    bounds.union(around(p))
 }
 
 // The box with each side moved out by `radius`.
 fn widen(bounds: Bounds, radius: i64) -> Bounds
     requires fits { FitsWithin (pos 1000000000) bounds }
-    requires from { pos 0 ≤ℤ radius }
-    requires to { radius ≤ℤ pos 500000000 }
+    requires range { IsUpTo (pos 500000000) radius }
     ensures wider { result ≡ widened bounds radius }
     ensures fits { FitsWithin (pos 1500000000) result }
 {

@@ -6,17 +6,22 @@
 mod boxes;
 mod extents;
 mod frames;
+mod gaps;
 mod near;
 mod points;
 mod polygon;
 mod runs;
 mod shapes;
+mod shifts;
 #[cfg(test)]
 mod tests;
 mod vectors;
 
 pub use boxes::Bounds;
+pub use gaps::seg_gap;
 pub use near::{point_apart, point_within, seg_apart, seg_meet, seg_within};
 pub use points::{Point, Seg};
 pub use polygon::Poly;
+pub use runs::corner_box;
 pub use shapes::{Core, Shape};
+pub use shifts::Shift;

@@ -3,7 +3,7 @@
 
 ghost use Rattle.std.specs.Prelude.{◌≡◌, ◌≤ℤ◌, ◌≤◌, ◌*ℤ◌, pos, unsigned_abs, IsTrue, ◌↔◌};
 ghost use Rattle.geo_seg.specs.Points.{IsAt, IsOn};
-ghost use Rattle.geo_seg.specs.Nearer.{square, AreApart, AreWithin, DoMeet};
+ghost use Rattle.geo_seg.specs.Nearer.{IsDistance, square, AreApart, AreWithin, DoMeet};
 ghost use Rattle.geo_seg.specs.Gap.{IsLeastGap, IsFramed, IsCrossing, IsEndReached, AreEndsApart};
 
 use crate::points::{Point, Seg};
@@ -47,8 +47,7 @@ fn least_gap(p: Point, s: Seg) -> Gap
 
 // The square of d, times the denominator of a gap.
 fn limit(d: i64, under: i64) -> i128
-    requires from { pos 0 ≤ℤ d }
-    requires to { d ≤ℤ pos 2000000000 }
+    requires range { IsDistance d }
     requires under_in_range { unsigned_abs under ≤ 8000000000000000000 }
     ensures { result ≡ square d *ℤ under }
 {
@@ -57,8 +56,7 @@ fn limit(d: i64, under: i64) -> i128
 
 // `point_apart` by products.
 fn is_point_off(p: Point, s: Seg, d: i64) -> bool
-    requires from { pos 0 ≤ℤ d }
-    requires to { d ≤ℤ pos 2000000000 }
+    requires { IsDistance d }
     ensures { IsTrue result ↔ AreApart (IsAt p) (IsOn s) d }
 {
     let gap = least_gap(p, s);
@@ -67,8 +65,7 @@ fn is_point_off(p: Point, s: Seg, d: i64) -> bool
 
 // `point_within` by products.
 fn is_point_close(p: Point, s: Seg, d: i64) -> bool
-    requires from { pos 0 ≤ℤ d }
-    requires to { d ≤ℤ pos 2000000000 }
+    requires { IsDistance d }
     ensures { IsTrue result ↔ AreWithin (IsAt p) (IsOn s) d }
 {
     let gap = least_gap(p, s);
@@ -78,8 +75,7 @@ fn is_point_close(p: Point, s: Seg, d: i64) -> bool
 /// Whether no point of the segment is nearer to `p` than `d`, which is from 0 to 2,000,000,000 half
 /// nanometres.
 pub fn point_apart(p: Point, s: Seg, d: i64) -> bool
-    requires from { pos 0 ≤ℤ d }
-    requires to { d ≤ℤ pos 2000000000 }
+    requires { IsDistance d }
     ensures { IsTrue result ↔ AreApart (IsAt p) (IsOn s) d }
 {
     p.bounds().is_clear(s.bounds(), d) || is_point_off(p, s, d)
@@ -88,8 +84,7 @@ pub fn point_apart(p: Point, s: Seg, d: i64) -> bool
 /// Whether some point of the segment is at most `d` from `p`, for `d` from 0 to 2,000,000,000 half
 /// nanometres.
 pub fn point_within(p: Point, s: Seg, d: i64) -> bool
-    requires from { pos 0 ≤ℤ d }
-    requires to { d ≤ℤ pos 2000000000 }
+    requires { IsDistance d }
     ensures { IsTrue result ↔ AreWithin (IsAt p) (IsOn s) d }
 {
     !p.bounds().is_clear(s.bounds(), d + 1) && is_point_close(p, s, d)
@@ -115,16 +110,14 @@ fn crosses(a: Seg, b: Seg) -> bool
 }
 
 fn ends_within(ends: Seg, s: Seg, d: i64) -> bool
-    requires from { pos 0 ≤ℤ d }
-    requires to { d ≤ℤ pos 2000000000 }
+    requires { IsDistance d }
     ensures { IsTrue result ↔ IsEndReached ends s d }
 {
     point_within(ends.a, s, d) || point_within(ends.b, s, d)
 }
 
 fn ends_apart(ends: Seg, s: Seg, d: i64) -> bool
-    requires from { pos 0 ≤ℤ d }
-    requires to { d ≤ℤ pos 2000000000 }
+    requires { IsDistance d }
     ensures { IsTrue result ↔ AreEndsApart ends s d }
 {
     point_apart(ends.a, s, d) && point_apart(ends.b, s, d)
@@ -132,8 +125,7 @@ fn ends_apart(ends: Seg, s: Seg, d: i64) -> bool
 
 // `seg_apart` by products.
 fn are_off(a: Seg, b: Seg, d: i64) -> bool
-    requires from { pos 0 ≤ℤ d }
-    requires to { d ≤ℤ pos 2000000000 }
+    requires { IsDistance d }
     ensures { IsTrue result ↔ AreApart (IsOn a) (IsOn b) d }
 {
     d == 0 || !crosses(a, b) && ends_apart(a, b, d) && ends_apart(b, a, d)
@@ -141,8 +133,7 @@ fn are_off(a: Seg, b: Seg, d: i64) -> bool
 
 // `seg_within` by products.
 fn are_close(a: Seg, b: Seg, d: i64) -> bool
-    requires from { pos 0 ≤ℤ d }
-    requires to { d ≤ℤ pos 2000000000 }
+    requires { IsDistance d }
     ensures { IsTrue result ↔ AreWithin (IsOn a) (IsOn b) d }
 {
     crosses(a, b) || ends_within(a, b, d) || ends_within(b, a, d)
@@ -151,8 +142,7 @@ fn are_close(a: Seg, b: Seg, d: i64) -> bool
 /// Whether no point of `a` and point of `b` are nearer to each other than `d`, which is from 0 to
 /// 2,000,000,000 half nanometres.
 pub fn seg_apart(a: Seg, b: Seg, d: i64) -> bool
-    requires from { pos 0 ≤ℤ d }
-    requires to { d ≤ℤ pos 2000000000 }
+    requires { IsDistance d }
     ensures { IsTrue result ↔ AreApart (IsOn a) (IsOn b) d }
 {
     a.bounds().is_clear(b.bounds(), d) || are_off(a, b, d)
@@ -161,8 +151,7 @@ pub fn seg_apart(a: Seg, b: Seg, d: i64) -> bool
 /// Whether some point of `a` and some point of `b` are at most `d` apart, for `d` from 0 to
 /// 2,000,000,000 half nanometres.
 pub fn seg_within(a: Seg, b: Seg, d: i64) -> bool
-    requires from { pos 0 ≤ℤ d }
-    requires to { d ≤ℤ pos 2000000000 }
+    requires { IsDistance d }
     ensures { IsTrue result ↔ AreWithin (IsOn a) (IsOn b) d }
 {
     !a.bounds().is_clear(b.bounds(), d + 1) && are_close(a, b, d)

@@ -1,20 +1,21 @@
 // Polygons, as lists of corners.
 
-ghost use Rattle.std.specs.Prelude.{◌≡◌, ◌≤◌, pos, length, take, drop, IfOk, IfSome};
+ghost use Rattle.std.specs.Prelude.{◌≡◌, ◌≤◌, pos, length, take, drop, true, IfOk, IfSome};
+ghost use Rattle.std.specs.List.{AllZip, list_all};
+ghost use Rattle.geo_seg.specs.Shifts.{IsShiftedPoint, point_stays};
 ghost use Rattle.geo_seg.specs.Boxes.{FitsWithin, IsLeastBox};
-ghost use Rattle.geo_seg.specs.Corners.{IsCornerBox};
 ghost use Rattle.geo_seg.specs.Inside.{IsInside, outline};
-ghost use Rattle.geo_seg.specs.Runs.{IsRunBox, sides_of};
+ghost use Rattle.geo_seg.specs.Runs.{IsRunBox};
 
 use crate::boxes::Bounds;
-use crate::frames::Frame;
 use crate::points::Point;
-use crate::runs::{Indexed, corner_box};
+use crate::runs::{Indexed, box_of};
+use crate::shifts::{Shift, shift_outline};
 use std::alloc::{AllocError, Global};
 use std::marker::Model;
 
-// The corners, alone or with the boxes of their runs. Those stand apart, since few polygons have
-// them and a segment takes as much room as a polygon where either may stand.
+// The corners, alone or with boxes. Those of many corners stand apart with theirs, so that a polygon
+// takes no more room than a segment where either may stand.
 #[derive(Drop)]
 pub enum Outline {
     Plain(Vec<Point>),
@@ -26,7 +27,6 @@ pub enum Outline {
 #[derive(Drop)]
 pub struct Poly {
     outline: Outline,
-    frame: Frame,
 }
 
 impl Model for Poly {
@@ -38,15 +38,7 @@ impl Model for Poly {
 
     ghost view = { λ p. corners_of p.outline };
 
-    ghost invariant = { λ p. IsKept p.outline p.frame };
-}
-
-// The box of all corners.
-fn frame_of(corners: &[Point]) -> Frame
-    requires { 3 ≤ length corners.now }
-    ensures { IsCornerBox corners.now (sides_of result) }
-{
-    Frame::of(corner_box(corners[0], corners))
+    ghost invariant = { λ p. IsKept p.outline };
 }
 
 impl Poly {
@@ -55,10 +47,8 @@ impl Poly {
         requires { 3 ≤ length corners.items }
         ensures { result ≡ corners.items }
     {
-        let frame = frame_of(&corners);
         Poly {
             outline: Outline::Plain(corners),
-            frame,
         }
     }
 
@@ -71,9 +61,8 @@ impl Poly {
         if corners.len() <= 32 {
             return Ok(Poly::of(corners));
         }
-        let frame = frame_of(&corners);
         let outline = Outline::Runs(Box::new(alloc, Indexed::of(alloc, corners)?)?);
-        Ok(Poly { outline, frame })
+        Ok(Poly { outline })
     }
 
     /// Its corners, of which there are three or more.
@@ -98,12 +87,26 @@ impl Poly {
         }
     }
 
+    // Moves it by so many half nanometres.
+    pub(crate) fn shift(&mut self, by: Shift)
+        requires { list_all (point_stays by.dx by.dy) self.old ≡ true }
+        ensures { AllZip (IsShiftedPoint by.dx by.dy) self.old self.new }
+    {
+        match &mut self.outline {
+            Outline::Plain(corners) => shift_outline(corners, by),
+            Outline::Runs(index) => index.shift(by),
+        }
+    }
+
     /// The least box that holds it.
     pub fn bounds(&self) -> Bounds
         ensures least { IsLeastBox (IsInside self.now) result }
         ensures fits { FitsWithin (pos 1000000000) result }
     {
-        self.frame.bounds()
+        match &self.outline {
+            Outline::Plain(corners) => box_of(corners),
+            Outline::Runs(index) => index.bounds(),
+        }
     }
 
     /// A box that holds the `size` edges from edge `low` on, where one is kept: the edge that leads to

@@ -1,29 +1,34 @@
 // The corners of a large polygon, with the boxes of its runs of edges.
 
-ghost use Rattle.std.specs.Prelude.{◌≡◌, ◌<◌, ◌∷◌, List, IfOk, IfSome, length, take, drop};
+ghost use Rattle.std.specs.Prelude.{◌≡◌, ◌<◌, ◌∷◌, List, pos, true, IfOk, IfSome, length, take, drop};
 ghost use Rattle.geo_seg.specs.declared.points.Seg.{Seg};
+ghost use Rattle.geo_seg.specs.Boxes.{FitsWithin};
 ghost use Rattle.geo_seg.specs.Corners.{IsCornerBox};
 ghost use Rattle.geo_seg.specs.Inside.{outline};
+ghost use Rattle.std.specs.List.{AllZip, list_all};
+ghost use Rattle.geo_seg.specs.Shifts.{IsShiftedPoint, point_stays};
 ghost use Rattle.geo_seg.specs.Runs.{AreRuns, IsRunBox, HasRuns};
 
 use crate::boxes::Bounds;
 use crate::extents::{around, grown};
 use crate::frames::Frame;
 use crate::points::Point;
+use crate::shifts::{Shift, shift_outline, shift_row};
 use std::alloc::{AllocError, Global};
 
-// Of each row frame k holds the edges from k times the row's size on, so many as that size is: 8, 64,
+// Frame `whole` holds all corners. Of each row frame k holds the edges from k times the row's size on, so many as that size is: 8, 64,
 // 512 or 4096.
 #[derive(Drop)]
 pub struct Indexed {
     pub corners: Vec<Point>,
+    pub whole: Frame,
     pub first: Vec<Frame>,
     pub second: Vec<Frame>,
     pub third: Vec<Frame>,
     pub fourth: Vec<Frame>,
 }
 
-// The box of a corner and others.
+/// The least box that holds a corner and others.
 pub fn corner_box(first: Point, others: &[Point]) -> Bounds
     ensures { IsCornerBox (first ∷ others.now) result }
 {
@@ -32,6 +37,15 @@ pub fn corner_box(first: Point, others: &[Point]) -> Bounds
         bounds = grown(bounds, *corner);
     }
     bounds
+}
+
+// The box of all corners.
+pub fn box_of(corners: &[Point]) -> Bounds
+    requires { 0 < length corners.now }
+    ensures corners { IsCornerBox corners.now result }
+    ensures fits { FitsWithin (pos 1000000000) result }
+{
+    corner_box(corners[0], corners)
 }
 
 // The row of frames of the runs of `size` edges.
@@ -77,17 +91,44 @@ impl Indexed {
         ensures corners { IfOk result (λ index. index.corners ≡ corners) }
         ensures runs { IfOk result HasRuns }
     {
+        let whole = Frame::of(box_of(&corners));
         let first = row(alloc, &corners, 8)?;
         let second = row(alloc, &corners, 64)?;
         let third = row(alloc, &corners, 512)?;
         let fourth = row(alloc, &corners, 4096)?;
         Ok(Indexed {
             corners,
+            whole,
             first,
             second,
             third,
             fourth,
         })
+    }
+
+    // Moves all corners and frames.
+    pub fn shift(&mut self, by: Shift)
+        requires some { 0 < length self.old.corners.items }
+        requires runs { HasRuns self.old }
+        requires stays { list_all (point_stays by.dx by.dy) self.old.corners.items ≡ true }
+        ensures corners { AllZip (IsShiftedPoint by.dx by.dy) self.old.corners.items self.new.corners.items }
+        ensures runs { HasRuns self.new }
+    {
+        shift_outline(&mut self.corners, by);
+        self.whole = Frame::of(box_of(&self.corners));
+        shift_row(&mut self.first, by);
+        shift_row(&mut self.second, by);
+        shift_row(&mut self.third, by);
+        shift_row(&mut self.fourth, by);
+    }
+
+    // The box of all corners.
+    pub fn bounds(&self) -> Bounds
+        requires { HasRuns self.now }
+        ensures corners { IsCornerBox self.now.corners.items result }
+        ensures fits { FitsWithin (pos 1000000000) result }
+    {
+        self.whole.bounds()
     }
 
     // The box of the `size` edges from `low` on, where it is kept.

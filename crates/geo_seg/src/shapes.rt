@@ -23,4 +23,4 @@ pub struct Shape {
 }
 
 // A board has far more segments than polygons: what only polygons need is to stand elsewhere.
-const _: () = prove!(size_of::<Shape>() == 64);
+const _: () = prove!(size_of::<Shape>() == 48);

@@ -2,8 +2,9 @@
 // products of two products.
 
 ghost use Rattle.std.specs.Prelude.{◌≡◌, ◌*ℤ◌, ◌+ℤ◌, ◌-ℤ◌, ◌≤◌, unsigned_abs};
+ghost use Rattle.geo_seg.specs.Gap.{cross_of};
 
-use crate::points::Point;
+use crate::points::{Point, Seg};
 
 #[derive(Clone, Copy, Drop)]
 pub struct Vector {
@@ -52,4 +53,15 @@ pub fn cross(u: Vector, v: Vector) -> i64
     ensures in_range { unsigned_abs result ≤ 8000000000000000000 }
 {
     product(u.x, v.y) - product(u.y, v.x)
+}
+
+impl Seg {
+    /// With y upward: above 0 where the point lies to the left of the line through the segment, seen
+    /// from its start to its end, below 0 where it lies to the right, and 0 on the line.
+    pub fn side_of(self, p: Point) -> i64
+        ensures value { result ≡ cross_of p self }
+        ensures in_range { unsigned_abs result ≤ 8000000000000000000 }
+    {
+        cross(between(self.a, self.b), between(self.a, p))
+    }
 }

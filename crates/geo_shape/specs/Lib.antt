@@ -1,1 +1,1 @@
-pub mod Distances
+pub use Rattle.geo_seg.specs.Distances

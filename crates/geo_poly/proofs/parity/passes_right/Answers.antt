@@ -1,6 +1,6 @@
 use Rattle.std.proofs.Common.{true, false, refl, ◌∙◌}
 use Rattle.geo_seg.specs.Gap.{cross_of}
-use Rattle.geo_seg.proofs.Passed.{passed, passed_is}
+use Rattle.int_algebra.proofs.Scalars.{passed, passed_is}
 use Rattle.geo_poly.proofs.Outline.{passes_at, low_kept}
 use Rattle.geo_poly.proofs.parity.passes_right.Goals as goal
 

@@ -10,4 +10,4 @@ returns-then-is_missed c = missed_odd c.args.b c.args.p (between c.args.low c.ar
 pub returns-then-p-b : goal.returns-then-p-b
 returns-then-p-b c =
     let b = c.args.b in let p = c.args.p in
-    c.ends_odd.ensures b (lt_kept p.x b.left p.x_in_range (left_in_range b c.requires.hull.fits) c.if-p-b.true) c.requires.hull
+    c.ends_odd.ensures b (lt_kept p.x b.left p.x_in_range (left_in_range 1000000000 b c.requires.hull.fits) c.if-p-b.true) c.requires.hull

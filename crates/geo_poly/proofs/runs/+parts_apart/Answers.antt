@@ -17,11 +17,11 @@ P fs d e = EachEdge (λ f. IsApart f e d) fs
 pub returns-then-is_clear : goal.returns-then-is_clear
 returns-then-is_clear n c =
     let p = c.args.p in let q = c.args.q in let d = c.args.d in
-    let e = at_d (λ (z : ℤ). AreClear q.bounds p.bounds z) d _ c.requires.from c.requires.to c.is_clear.ensures in
-    surely _ refl (both_apart q.bounds p.bounds d (edges_of c.args.a.now p) (edges_of c.args.b.now q) c.requires.from (e.0 c.if-is_clear.true) c.requires.first.hull c.requires.second.hull)
+    let e = at_d (λ (z : ℤ). AreClear q.bounds p.bounds z) d _ c.requires.range.from c.requires.range.to c.is_clear.ensures in
+    surely _ refl (both_apart q.bounds p.bounds d (edges_of c.args.a.now p) (edges_of c.args.b.now q) c.requires.range.from (e.0 c.if-is_clear.true) c.requires.first.hull c.requires.second.hull)
 
 pub returns-then-q-le8 : goal.returns-then-q-le8
-returns-then-q-le8 n c = at_d (λ (z : ℤ). EachApart z (edges_of c.args.a.now c.args.p) (edges_of c.args.b.now c.args.q)) c.args.d _ c.requires.from c.requires.to c.short_apart.ensures
+returns-then-q-le8 n c = at_d (λ (z : ℤ). EachApart z (edges_of c.args.a.now c.args.p) (edges_of c.args.b.now c.args.q)) c.args.d _ c.requires.range.from c.requires.range.to c.short_apart.ensures
 
 pub first-init : goal.first-init
 first-init n c =
@@ -38,7 +38,7 @@ returns-then-not-parts_apart n c =
     (λ h. fails_by _ c.parts_apart.ensures c.if-not-parts_apart.true
     (subst (EachEdge (P fs (passed d))) (sym (edges_are cs c.part_of.result low high c.part_of.ensures.low c.part_of.ensures.high))
     (each_part (P fs (passed d)) p.low low high p.high (outline cs) c.first.invariant.0 after c.end-high.ensures.within
-    (subst (λ (z : ℤ). EachApart z (edges_of cs p) fs) (sym (d_kept d c.requires.from c.requires.to)) h))))
+    (subst (λ (z : ℤ). EachApart z (edges_of cs p) fs) (sym (d_kept d c.requires.range.from c.requires.range.to)) h))))
 
 pub first-preserved : goal.first-preserved
 first-preserved n c =
@@ -56,7 +56,7 @@ returns-after-first n c =
     let p = c.args.p in let cs = c.args.a.now in let fs = edges_of c.args.b.now c.args.q in
     let e : c.first.low ≡ p.high = omega arith in
     surely _ refl
-    (subst (λ (z : ℤ). EachApart z (edges_of cs p) fs) (d_kept c.args.d c.requires.from c.requires.to)
+    (subst (λ (z : ℤ). EachApart z (edges_of cs p) fs) (d_kept c.args.d c.requires.range.from c.requires.range.to)
     (subst (λ (z : ℕ). EachApart (passed c.args.d) (between p.low z (outline cs)) fs) e c.first.invariant.2))
 
 pub second-init : goal.second-init
@@ -74,7 +74,7 @@ returns-then-not-parts_apart-2 n c =
     (λ h. fails_by _ c.parts_apart-in-second.ensures c.if-not-parts_apart-2.true
     (subst (EachApart (passed d) us) (sym (edges_are ks c.part_of-in-second.result low high c.part_of-in-second.ensures.low c.part_of-in-second.ensures.high))
     (apart_part (passed d) us q.low low high q.high (outline ks) c.second.invariant.0 after c.end-high-in-second.ensures.within
-    (subst (λ (z : ℤ). EachApart z us (edges_of ks q)) (sym (d_kept d c.requires.from c.requires.to)) h))))
+    (subst (λ (z : ℤ). EachApart z us (edges_of ks q)) (sym (d_kept d c.requires.range.from c.requires.range.to)) h))))
 
 pub second-preserved : goal.second-preserved
 second-preserved n c =
@@ -92,5 +92,5 @@ returns-after-second n c =
     let q = c.args.q in let ks = c.args.b.now in let us = edges_of c.args.a.now c.args.p in
     let e : c.second.low ≡ q.high = omega arith in
     surely _ refl
-    (subst (λ (z : ℤ). EachApart z us (edges_of ks q)) (d_kept c.args.d c.requires.from c.requires.to)
+    (subst (λ (z : ℤ). EachApart z us (edges_of ks q)) (d_kept c.args.d c.requires.range.from c.requires.range.to)
     (subst (λ (z : ℕ). EachApart (passed c.args.d) us (between q.low z (outline ks))) e c.second.invariant.2))

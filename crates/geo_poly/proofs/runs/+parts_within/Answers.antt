@@ -17,11 +17,11 @@ P fs d e = SomeEdge (λ f. IsReached f e d) fs
 pub returns-then-is_clear : goal.returns-then-is_clear
 returns-then-is_clear n c =
     let p = c.args.p in let q = c.args.q in let d = c.args.d in
-    let e = at_more (λ (z : ℤ). AreClear q.bounds p.bounds z) d _ c.requires.from c.requires.to c.is_clear.ensures in
-    surely_not _ refl (none_both q.bounds p.bounds d (edges_of c.args.a.now p) (edges_of c.args.b.now q) c.requires.from (e.0 c.if-is_clear.true) c.requires.first.hull c.requires.second.hull)
+    let e = at_more (λ (z : ℤ). AreClear q.bounds p.bounds z) d _ c.requires.range.from c.requires.range.to c.is_clear.ensures in
+    surely_not _ refl (none_both q.bounds p.bounds d (edges_of c.args.a.now p) (edges_of c.args.b.now q) c.requires.range.from (e.0 c.if-is_clear.true) c.requires.first.hull c.requires.second.hull)
 
 pub returns-then-q-le8 : goal.returns-then-q-le8
-returns-then-q-le8 n c = at_d (λ (z : ℤ). SomeReached z (edges_of c.args.a.now c.args.p) (edges_of c.args.b.now c.args.q)) c.args.d _ c.requires.from c.requires.to c.short_within.ensures
+returns-then-q-le8 n c = at_d (λ (z : ℤ). SomeReached z (edges_of c.args.a.now c.args.p) (edges_of c.args.b.now c.args.q)) c.args.d _ c.requires.range.from c.requires.range.to c.short_within.ensures
 
 pub first-init : goal.first-init
 first-init n c =
@@ -35,7 +35,7 @@ returns-then-parts_within n c =
     let p = c.args.p in let cs = c.args.a.now in let fs = edges_of c.args.b.now c.args.q in let low = c.first.low in let high = c.end-high.result in let d = c.args.d in
     let after : low ≤ high = omega (arith, c.end-high.ensures.after) in
     surely _ refl
-    (subst (λ (z : ℤ). SomeReached z (edges_of cs p) fs) (d_kept d c.requires.from c.requires.to)
+    (subst (λ (z : ℤ). SomeReached z (edges_of cs p) fs) (d_kept d c.requires.range.from c.requires.range.to)
     (some_part (P fs (passed d)) p.low low high p.high (outline cs) c.first.invariant.0 after c.end-high.ensures.within
     (subst (SomeEdge (P fs (passed d))) (edges_are cs c.part_of.result low high c.part_of.ensures.low c.part_of.ensures.high) (c.parts_within.ensures.0 c.if-parts_within.true))))
 
@@ -57,7 +57,7 @@ returns-after-first n c =
     let e : c.first.low ≡ p.high = omega arith in
     surely_not _ refl
     (λ x. subst (λ (z : ℕ). ¬ (SomeReached (passed c.args.d) (between p.low z (outline cs)) fs)) e c.first.invariant.2
-    (subst (λ (z : ℤ). SomeReached z (edges_of cs p) fs) (sym (d_kept c.args.d c.requires.from c.requires.to)) x))
+    (subst (λ (z : ℤ). SomeReached z (edges_of cs p) fs) (sym (d_kept c.args.d c.requires.range.from c.requires.range.to)) x))
 
 pub second-init : goal.second-init
 second-init n c =
@@ -71,7 +71,7 @@ returns-then-parts_within-2 n c =
     let q = c.args.q in let ks = c.args.b.now in let us = edges_of c.args.a.now c.args.p in let low = c.second.low in let high = c.end-high-in-second.result in let d = c.args.d in
     let after : low ≤ high = omega (arith, c.end-high-in-second.ensures.after) in
     surely _ refl
-    (subst (λ (z : ℤ). SomeReached z us (edges_of ks q)) (d_kept d c.requires.from c.requires.to)
+    (subst (λ (z : ℤ). SomeReached z us (edges_of ks q)) (d_kept d c.requires.range.from c.requires.range.to)
     (reached_part (passed d) us q.low low high q.high (outline ks) c.second.invariant.0 after c.end-high-in-second.ensures.within
     (subst (SomeReached (passed d) us) (edges_are ks c.part_of-in-second.result low high c.part_of-in-second.ensures.low c.part_of-in-second.ensures.high) (c.parts_within-in-second.ensures.0 c.if-parts_within-2.true))))
 
@@ -93,4 +93,4 @@ returns-after-second n c =
     let e : c.second.low ≡ q.high = omega arith in
     surely_not _ refl
     (λ x. subst (λ (z : ℕ). ¬ (SomeReached (passed c.args.d) us (between q.low z (outline ks)))) e c.second.invariant.2
-    (subst (λ (z : ℤ). SomeReached z us (edges_of ks q)) (sym (d_kept c.args.d c.requires.from c.requires.to)) x))
+    (subst (λ (z : ℤ). SomeReached z us (edges_of ks q)) (sym (d_kept c.args.d c.requires.range.from c.requires.range.to)) x))

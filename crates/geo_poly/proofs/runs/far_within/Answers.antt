@@ -9,11 +9,11 @@ use Rattle.geo_poly.proofs.RunLemmas.{run_covers}
 use Rattle.geo_poly.proofs.runs.far_within.Goals as goal
 
 pub returns-then-not-is_clear : goal.returns-then-not-is_clear
-returns-then-not-is_clear c = at_d (λ (z : ℤ). SomeEdge (λ e. IsReached e c.args.s z) (path c.args.from c.args.part.now)) c.args.d _ c.requires.from c.requires.to c.path_within.ensures
+returns-then-not-is_clear c = at_d (λ (z : ℤ). SomeEdge (λ e. IsReached e c.args.s z) (path c.args.from c.args.part.now)) c.args.d _ c.requires.range.from c.requires.range.to c.path_within.ensures
 
 pub returns-else-not-is_clear : goal.returns-else-not-is_clear
 returns-else-not-is_clear c =
     let b = c.args.far in let k = c.bounds.result in let es = path c.args.from c.args.part.now in
-    let e = at_more (λ (z : ℤ). AreClear b k z) c.args.d _ c.requires.from c.requires.to c.is_clear.ensures in
+    let e = at_more (λ (z : ℤ). AreClear b k z) c.args.d _ c.requires.range.from c.requires.range.to c.is_clear.ensures in
     surely_not _ (ap not c.if-not-is_clear.false)
-    (none_clear b k c.args.s c.args.d c.requires.from c.bounds.ensures.least.holds (e.0 c.if-not-is_clear.false) es (run_covers b es c.requires.far))
+    (none_clear b k c.args.s c.args.d c.requires.range.from c.bounds.ensures.least.holds (e.0 c.if-not-is_clear.false) es (run_covers b es c.requires.far))

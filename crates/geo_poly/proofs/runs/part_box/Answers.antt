@@ -11,6 +11,6 @@ returns-in-Some c = shorter_run (c.args.high - c.args.low) c.args.size (drop c.a
 
 pub returns : goal.returns
 returns c =
-    let cs = c.corners-corners.result.now in let low = c.args.low in let high = c.args.high in let a = c.before-2.result in let b = c.path_box.result in
+    let cs = c.corners-corners.result.now in let low = c.args.low in let high = c.args.high in let a = c.before-2.result in let b = c.corner_box.result in
     subst (λ (es : List Seg). IsRunBox es b) (sym (piece a cs c.args.poly.now low high c.corners-corners.ensures.same c.before-2.ensures))
-    (run_box a (take (high - low) (drop low cs)) b c.path_box.ensures)
+    (run_box a (take (high - low) (drop low cs)) b c.corner_box.ensures)

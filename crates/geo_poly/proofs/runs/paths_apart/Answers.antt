@@ -16,7 +16,7 @@ returns-then-not-far_apart c =
     let cs = c.args.part.now in let i = c.loop-c.c-index in let a = c.loop-c.at in let b = c.c-item.result in let from = c.args.from in
     surely_not _ refl
     (λ h. each_fails (P c.args.other c.args.others.now (passed c.args.d)) (path from cs) (path a (drop i cs)) (edge a b) (path b (drop (i + 1) cs)) c.loop-c.invariant (path_next a b cs i c.loop-c-test.true c.c-item.is)
-    (fails_by _ c.far_apart.ensures c.if-not-far_apart.true) (subst (λ (z : ℤ). EachEdge (P c.args.other c.args.others.now z) (path from cs)) (sym (d_kept c.args.d c.requires.from c.requires.to)) h))
+    (fails_by _ c.far_apart.ensures c.if-not-far_apart.true) (subst (λ (z : ℤ). EachEdge (P c.args.other c.args.others.now z) (path from cs)) (sym (d_kept c.args.d c.requires.range.from c.requires.range.to)) h))
 
 pub loop-c-preserved : goal.loop-c-preserved
 loop-c-preserved c =
@@ -28,5 +28,5 @@ pub returns : goal.returns
 returns c =
     let cs = c.args.part.now in let i = c.loop-c.c-index in let a = c.loop-c.at in let from = c.args.from in
     surely _ refl
-    (subst (λ (z : ℤ). EachEdge (P c.args.other c.args.others.now z) (path from cs)) (d_kept c.args.d c.requires.from c.requires.to)
+    (subst (λ (z : ℤ). EachEdge (P c.args.other c.args.others.now z) (path from cs)) (d_kept c.args.d c.requires.range.from c.requires.range.to)
     (each_done (P c.args.other c.args.others.now (passed c.args.d)) (path from cs) (path a (drop i cs)) c.loop-c.invariant (path_end a cs i c.loop-c-test.false)))

@@ -15,7 +15,7 @@ pub returns-then-far_within : goal.returns-then-far_within
 returns-then-far_within c =
     let cs = c.args.part.now in let i = c.loop-c.c-index in let a = c.loop-c.at in let b = c.c-item.result in let from = c.args.from in
     surely _ refl
-    (subst (λ (z : ℤ). SomeEdge (P c.args.other c.args.others.now z) (path from cs)) (d_kept c.args.d c.requires.from c.requires.to)
+    (subst (λ (z : ℤ). SomeEdge (P c.args.other c.args.others.now z) (path from cs)) (d_kept c.args.d c.requires.range.from c.requires.range.to)
     (some_found (P c.args.other c.args.others.now (passed c.args.d)) (path from cs) (path a (drop i cs)) (edge a b) (path b (drop (i + 1) cs)) c.loop-c.invariant (path_next a b cs i c.loop-c-test.true c.c-item.is)
     (c.far_within.ensures.0 c.if-far_within.true)))
 
@@ -30,4 +30,4 @@ returns c =
     let cs = c.args.part.now in let i = c.loop-c.c-index in let a = c.loop-c.at in let from = c.args.from in
     surely_not _ refl
     (λ h. some_none (P c.args.other c.args.others.now (passed c.args.d)) (path from cs) (path a (drop i cs)) c.loop-c.invariant (path_end a cs i c.loop-c-test.false)
-    (subst (λ (z : ℤ). SomeEdge (P c.args.other c.args.others.now z) (path from cs)) (sym (d_kept c.args.d c.requires.from c.requires.to)) h))
+    (subst (λ (z : ℤ). SomeEdge (P c.args.other c.args.others.now z) (path from cs)) (sym (d_kept c.args.d c.requires.range.from c.requires.range.to)) h))

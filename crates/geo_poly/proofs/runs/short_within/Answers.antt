@@ -20,4 +20,4 @@ returns c =
     let us = path c.before-2.result (take (p.high - p.low) (drop p.low cs)) in let vs = path c.before-3.result (take (q.high - q.low) (drop q.low ks)) in
     iff_at (λ (z : List Seg). SomeReached d z (edges_of c.args.b.now q)) _ _ (sym (piece c.before-2.result cs c.args.a.now p.low p.high c.corners-corners.ensures.same c.before-2.ensures))
     (iff_at (λ (z : List Seg). SomeReached d us z) _ _ (sym (piece c.before-3.result ks c.args.b.now q.low q.high c.corners-others.ensures.same c.before-3.ensures))
-    (at_d (λ (z : ℤ). SomeReached z us vs) d _ c.requires.from c.requires.to c.paths_within.ensures))
+    (at_d (λ (z : ℤ). SomeReached z us vs) d _ c.requires.range.from c.requires.range.to c.paths_within.ensures))

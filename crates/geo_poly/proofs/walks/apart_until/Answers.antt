@@ -14,14 +14,14 @@ P s d e = IsApart e s d
 pub returns-then-clear-low-clause-apart : goal.returns-then-clear-low-clause-apart
 returns-then-clear-low-clause-apart c =
     let near = c.args.near in let d = c.args.d in let es = between c.args.low c.clear_end-clear.result (outline c.args.poly.now) in
-    each_apart near d c.args.s es c.requires.from c.requires.near.holds
-    (subst (λ (z : ℤ). EachEdge (LiesClear near z) es) (d_kept d c.requires.from c.requires.to) c.clear_end-clear.ensures.clear)
+    each_apart near d c.args.s es c.requires.range.from c.requires.near.holds
+    (subst (λ (z : ℤ). EachEdge (LiesClear near z) es) (d_kept d c.requires.range.from c.requires.range.to) c.clear_end-clear.ensures.clear)
 
 pub returns-then-path_apart-clause-apart : goal.returns-then-path_apart-clause-apart
 returns-then-path_apart-clause-apart c =
     let cs = c.corners-corners.result.now in let low = c.args.low in let high = c.end-high.result in let a = c.before-2.result in
     subst (EachEdge (P c.args.s c.args.d)) (sym (piece a cs c.args.poly.now low high c.corners-corners.ensures.same c.before-2.ensures))
-    ((at_d (λ (z : ℤ). EachEdge (P c.args.s z) (path a (take (high - low) (drop low cs)))) c.args.d _ c.requires.from c.requires.to c.path_apart.ensures).0 c.if-path_apart.true)
+    ((at_d (λ (z : ℤ). EachEdge (P c.args.s z) (path a (take (high - low) (drop low cs)))) c.args.d _ c.requires.range.from c.requires.range.to c.path_apart.ensures).0 c.if-path_apart.true)
 
 pub returns-else-path_apart-clause-apart : goal.returns-else-path_apart-clause-apart
 returns-else-path_apart-clause-apart c = each_of_none (P c.args.s c.args.d) c.args.low c.args.low (outline c.args.poly.now) (omega arith)
@@ -33,6 +33,6 @@ returns-else-path_apart-clause-stuck c = λ _ x.
     let after : low ≤ high = omega (arith, c.end-high.ensures.after) in
     let first : 0 ≤ low = omega arith in
     let all : length cs ≤ n = omega arith in
-    fails_by _ (at_d (λ (z : ℤ). EachEdge (P c.args.s z) (path a (take (high - low) (drop low cs)))) c.args.d _ c.requires.from c.requires.to c.path_apart.ensures) c.if-path_apart.false
+    fails_by _ (at_d (λ (z : ℤ). EachEdge (P c.args.s z) (path a (take (high - low) (drop low cs)))) c.args.d _ c.requires.range.from c.requires.range.to c.path_apart.ensures) c.if-path_apart.false
     (subst (EachEdge (P c.args.s c.args.d)) (piece a cs ks low high c.corners-corners.ensures.same c.before-2.ensures)
     (each_part (P c.args.s c.args.d) 0 low high n (outline ks) first after c.end-high.ensures.within (subst (EachEdge (P c.args.s c.args.d)) (sym (all_edges cs ks n c.corners-corners.ensures.same all)) x)))

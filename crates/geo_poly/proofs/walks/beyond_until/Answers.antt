@@ -14,8 +14,8 @@ P s d e = IsReached e s d
 pub returns-then-clear-low-clause-beyond : goal.returns-then-clear-low-clause-beyond
 returns-then-clear-low-clause-beyond c =
     let near = c.args.near in let d = c.args.d in let es = between c.args.low c.clear_end-clear.result (outline c.args.poly.now) in
-    none_reached near d c.args.s es c.requires.from c.requires.near.holds
-    (subst (λ (z : ℤ). EachEdge (LiesClear near z) es) (d_more d c.requires.from c.requires.to) c.clear_end-clear.ensures.clear)
+    none_reached near d c.args.s es c.requires.range.from c.requires.near.holds
+    (subst (λ (z : ℤ). EachEdge (LiesClear near z) es) (d_more d c.requires.range.from c.requires.range.to) c.clear_end-clear.ensures.clear)
 
 pub returns-then-path_within-clause-beyond : goal.returns-then-path_within-clause-beyond
 returns-then-path_within-clause-beyond c = none_of_none (P c.args.s c.args.d) c.args.low c.args.low (outline c.args.poly.now) (omega arith)
@@ -30,10 +30,10 @@ returns-then-path_within-clause-stuck c = λ _.
     subst (SomeEdge (P c.args.s c.args.d)) (all_edges cs ks n c.corners-corners.ensures.same all)
     (some_part (P c.args.s c.args.d) 0 low high n (outline ks) first after c.end-high.ensures.within
     (subst (SomeEdge (P c.args.s c.args.d)) (sym (piece a cs ks low high c.corners-corners.ensures.same c.before-2.ensures))
-    ((at_d (λ (z : ℤ). SomeEdge (P c.args.s z) (path a (take (high - low) (drop low cs)))) c.args.d _ c.requires.from c.requires.to c.path_within.ensures).0 c.if-path_within.true)))
+    ((at_d (λ (z : ℤ). SomeEdge (P c.args.s z) (path a (take (high - low) (drop low cs)))) c.args.d _ c.requires.range.from c.requires.range.to c.path_within.ensures).0 c.if-path_within.true)))
 
 pub returns-else-path_within-clause-beyond : goal.returns-else-path_within-clause-beyond
 returns-else-path_within-clause-beyond c = λ x.
     let cs = c.corners-corners.result.now in let low = c.args.low in let high = c.end-high.result in let a = c.before-2.result in
-    fails_by _ (at_d (λ (z : ℤ). SomeEdge (P c.args.s z) (path a (take (high - low) (drop low cs)))) c.args.d _ c.requires.from c.requires.to c.path_within.ensures) c.if-path_within.false
+    fails_by _ (at_d (λ (z : ℤ). SomeEdge (P c.args.s z) (path a (take (high - low) (drop low cs)))) c.args.d _ c.requires.range.from c.requires.range.to c.path_within.ensures) c.if-path_within.false
     (subst (SomeEdge (P c.args.s c.args.d)) (piece a cs c.args.poly.now low high c.corners-corners.ensures.same c.before-2.ensures) x)

@@ -7,4 +7,4 @@ use Rattle.geo_poly.proofs.walks.is_run_clear.Goals as goal
 pub returns-in-Some : goal.returns-in-Some
 returns-in-Some c =
     let b = c.in-Some.b in let near = c.args.near in
-    λ t. clear_held b near c.args.d _ ((at_reach (λ (z : ℤ). AreClear b near z) c.args.d _ c.requires.from c.requires.to c.is_clear.ensures).0 t) c.in-Some.ensures.holds
+    λ t. clear_held b near c.args.d _ ((at_reach (λ (z : ℤ). AreClear b near z) c.args.d _ c.requires.range.from c.requires.range.to c.is_clear.ensures).0 t) c.in-Some.ensures.holds

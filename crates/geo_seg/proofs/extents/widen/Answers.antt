@@ -12,5 +12,5 @@ same_sides l t r b l' t' r' b' h k m n = cc
 pub returns-clause-wider : goal.returns-clause-wider
 returns-clause-wider c =
     let b = c.args.bounds in let r = c.args.radius in let f = c.requires.fits in
-    same_sides _ _ _ _ _ _ _ _ (less_is b.left r (left_in_range b f) c.requires.from c.requires.to) (less_is b.top r (top_in_range b f) c.requires.from c.requires.to)
-    (more_is b.right r (right_in_range b f) c.requires.from c.requires.to) (more_is b.bottom r (bottom_in_range b f) c.requires.from c.requires.to)
+    same_sides _ _ _ _ _ _ _ _ (less_is b.left r (left_in_range 1000000000 b f) c.requires.range.from c.requires.range.to) (less_is b.top r (top_in_range 1000000000 b f) c.requires.range.from c.requires.range.to)
+    (more_is b.right r (right_in_range 1000000000 b f) c.requires.range.from c.requires.range.to) (more_is b.bottom r (bottom_in_range 1000000000 b f) c.requires.range.from c.requires.range.to)

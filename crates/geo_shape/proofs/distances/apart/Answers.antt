@@ -10,4 +10,4 @@ pub returns : goal.returns
 returns c =
     let a = c.args.a.now in let b = c.args.b.now in
     iff_at (λ (z : ℤ). AreApart (IsPointOf a.core) (IsPointOf b.core) z) _ _
-    (d_kept c.reach.result c.reach.ensures.from c.reach.ensures.to ∙ c.reach.ensures.value ∙ ap (λ (z : ℤ). a.radius +ℤ b.radius +ℤ z) (small_kept c.args.c c.requires.from c.requires.to)) c.cores_apart.ensures
+    (d_kept c.reach.result c.reach.ensures.range.from c.reach.ensures.range.to ∙ c.reach.ensures.value ∙ ap (λ (z : ℤ). a.radius +ℤ b.radius +ℤ z) (small_kept c.args.c c.requires.from c.requires.to)) c.cores_apart.ensures

@@ -10,4 +10,4 @@ pub returns : goal.returns
 returns c =
     let a = c.args.a.now in let b = c.args.b.now in
     iff_at (λ (z : ℤ). AreWithin (IsPointOf a.core) (IsPointOf b.core) z) _ _
-    (d_kept c.reach.result c.reach.ensures.from c.reach.ensures.to ∙ c.reach.ensures.value ∙ add_zero (a.radius +ℤ b.radius)) c.cores_within.ensures
+    (d_kept c.reach.result c.reach.ensures.range.from c.reach.ensures.range.to ∙ c.reach.ensures.value ∙ add_zero (a.radius +ℤ b.radius)) c.cores_within.ensures

@@ -6,10 +6,10 @@ use Rattle.geo_seg.proofs.boxes.Bounds.is_clear_in_y.Goals as goal
 pub returns-then-is_before : goal.returns-then-is_before
 returns-then-is_before c =
     let b = c.args.self in let k = c.args.other in
-    or_first _ _ (before_is b.bottom k.top c.args.d _ (bottom_in_range b c.requires.first) (top_in_range k c.requires.second) c.requires.from c.requires.to c.is_before.ensures) c.if-is_before.true refl
+    or_first _ _ (before_is b.bottom k.top c.args.d _ (bottom_in_range 1500000000 b c.requires.first) (top_in_range 1500000000 k c.requires.second) c.requires.range.from c.requires.range.to c.is_before.ensures) c.if-is_before.true refl
 
 pub returns-else-is_before : goal.returns-else-is_before
 returns-else-is_before c =
     let b = c.args.self in let k = c.args.other in
-    or_second _ _ _ (before_is b.bottom k.top c.args.d _ (bottom_in_range b c.requires.first) (top_in_range k c.requires.second) c.requires.from c.requires.to c.is_before.ensures)
-    (before_is k.bottom b.top c.args.d _ (bottom_in_range k c.requires.second) (top_in_range b c.requires.first) c.requires.from c.requires.to c.is_before-else-is_before.ensures) c.if-is_before.false refl
+    or_second _ _ _ (before_is b.bottom k.top c.args.d _ (bottom_in_range 1500000000 b c.requires.first) (top_in_range 1500000000 k c.requires.second) c.requires.range.from c.requires.range.to c.is_before.ensures)
+    (before_is k.bottom b.top c.args.d _ (bottom_in_range 1500000000 k c.requires.second) (top_in_range 1500000000 b c.requires.first) c.requires.range.from c.requires.range.to c.is_before-else-is_before.ensures) c.if-is_before.false refl

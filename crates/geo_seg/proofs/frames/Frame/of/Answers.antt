@@ -16,4 +16,4 @@ narrowed z h = omega (arith, ints)
 pub returns : goal.returns
 returns c =
     let b = c.args.bounds in let f = c.requires in
-    same_sides _ _ _ _ _ _ _ _ (narrowed b.left (left_in_range b f)) (narrowed b.top (top_in_range b f)) (narrowed b.right (right_in_range b f)) (narrowed b.bottom (bottom_in_range b f))
+    same_sides _ _ _ _ _ _ _ _ (narrowed b.left (left_in_range 1000000000 b f)) (narrowed b.top (top_in_range 1000000000 b f)) (narrowed b.right (right_in_range 1000000000 b f)) (narrowed b.bottom (bottom_in_range 1000000000 b f))

@@ -1,0 +1,7 @@
+use Rattle.std.proofs.Common.{arith}
+use Rattle.std.proofs.lemmas.Int.{ints}
+use Rattle.geo_seg.proofs.GapLemmas.{gap_same}
+use Rattle.geo_seg.proofs.gaps.seg_gap.Goals as goal
+
+pub returns-else-seg_apart : goal.returns-else-seg_apart
+returns-else-seg_apart c = gap_same (omega (arith, ints)) (omega (arith, ints)) c.greatest.ensures
