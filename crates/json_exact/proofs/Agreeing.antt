@@ -254,7 +254,7 @@ string_stops text at counted limit Rest a t c q (i, k, h, inl half) =
       no_letter = λ j lt le can. letter_inside text at j limit Rest a t c (omega arith) (omega arith) q (refused_on text (suc at) j k (omega arith) le l h.before) (h.inside j lt le) can;
       surrogate = half.0.surrogate;
     } in
-    (k, stops text at k limit Rest a (omega arith) l (string_halts text at i k limit Rest a t c q h), inl (subst (λ (x : ℕ). IsAlone text x k) (sym half.1) alone))
+    (k, stops text at k limit Rest a (omega arith) l (string_halts text at i k limit Rest a t c q h), inl (i, alone, half.1))
 string_stops text at counted limit Rest a t c q (i, k, h, inr other) =
     let f : suc at ≤ i = h.forward in
     let o : i ≤ k = h.order in

@@ -10,7 +10,7 @@ use Rattle.json_exact.specs.Characters.{decoded}
 use Rattle.json_exact.specs.Bytes.{same_bytes}
 use Rattle.json_exact.specs.JsonText.{Blanks, SpelledWithin, SpellsLeaf, Spells, SpellsFirst, SpellsMore, SpellsPart, opening, closing}
 use Rattle.json_exact.specs.Reading.{kind_of, kind_of_bracket, cell, cells_of, cells_in}
-use Rattle.json_exact.specs.Handles.{node, node_of, name_of, parts_of, all_parts, first_value, own_cells, other_cells, first_kind, first_inside}
+use Rattle.json_exact.specs.Cells.{node, node_of, name_of, parts_of, all_parts, first_value, own_cells, other_cells, first_kind, first_inside}
 use Rattle.json_exact.specs.declared.cells.Cell.{Cell}
 use Rattle.json_exact.specs.declared.cells.Kind.{Kind}
 use Rattle.json_exact.specs.declared.cells.Kind.TheVariants.{Null, True, False, Number, String, List as AList, Object}
@@ -121,7 +121,7 @@ leaf_slice text l from to s t (p, e) sp =
     let n2 : length s ≡ length sp.0 + length t = ap length sp.2 ∙ length-append sp.0 t in
     ap (λ (x : List ℕ). slice_range x from to) all ∙ slice_at p sp.0 t from to (omega (arith, sp.3)) (omega (arith, sp.3, sp.4))
 
-string_slice : (text : List ℕ) (raw : List ℕ) (from to : ℕ) (s t bytes : List ℕ) → Suffix text s → bytes ≡ 34 ∷ raw ++ 34 ∷ [] → s ≡ bytes ++ t → from + length s ≡ length text → to + length t ≡ length text
+pub string_slice : (text : List ℕ) (raw : List ℕ) (from to : ℕ) (s t bytes : List ℕ) → Suffix text s → bytes ≡ 34 ∷ raw ++ 34 ∷ [] → s ≡ bytes ++ t → from + length s ≡ length text → to + length t ≡ length text
     → slice_range text (from + 1) (to - 1) ≡ raw
 unfolding Suffix
 string_slice text raw from to s t bytes (p, e) f g h k =

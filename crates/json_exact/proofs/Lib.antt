@@ -17,6 +17,8 @@ pub mod Calls
 pub mod Unique
 pub mod Decoding
 pub mod Fronts
+pub mod Encoded
+pub mod TextCells
 pub mod Whole
 pub mod Placed
 pub mod OneValue

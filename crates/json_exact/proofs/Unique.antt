@@ -1,11 +1,11 @@
 -- A text has one refusal at most, and none where it has a value.
-use Rattle.std.proofs.Common.{◌≡◌, ◌≢◌, ℕ, suc, ◌<◌, ◌≤◌, List, ◌++◌, length, take, drop, refl, sym, ◌∙◌, ap, subst, arith, ◌⊎◌, inl, inr}
-use Rattle.std.proofs.lemmas.Bool.{cases_lt, cases_order}
+use Rattle.std.proofs.Common.{◌≡◌, ◌≢◌, ℕ, suc, ◌+◌, ◌<◌, ◌≤◌, List, ◌++◌, length, take, drop, refl, sym, ◌∙◌, ap, subst, arith, ◌⊎◌, inl, inr}
+use Rattle.std.proofs.lemmas.Bool.{both_ways, cases_lt, cases_order}
 use Rattle.std.proofs.lemmas.List.{take-append-drop}
 use Rattle.std.specs.Prelude.{slice_range}
 use Rattle.json_exact.specs.Json.{Json}
 use Rattle.json_exact.specs.JsonText.{SpelledWithin}
-use Rattle.json_exact.specs.Refusals.{depth_limit, CanGoOn, Stops, IsAlone, IsBad, IsTooDeep, IsRefused}
+use Rattle.json_exact.specs.Refusals.{depth_limit, CanGoOn, Stops, IsAlone, EndsDigits, CountsAt, IsBad, IsTooDeep, IsRefused}
 use Rattle.json_exact.specs.declared.error.JsonError.{JsonError}
 use Rattle.json_exact.specs.declared.error.JsonError.TheVariants.{Bad, TooDeep, OutOfMemory}
 use Rattle.json_exact.proofs.Ranges.{up_to_with}
@@ -43,16 +43,42 @@ same_alone text s t k a b (inl e) = e
 same_alone text s t k a b (inr (inl lt)) = absurd (a.no_letter t lt b.order b.letter)
 same_alone text s t k a b (inr (inr lt)) = absurd (b.no_letter s lt a.order a.letter)
 
-same_counted : (text : List ℕ) (k a b : ℕ) → (IsAlone text a k ⊎ (((s : ℕ) → IsAlone text s k → ⊥) × (a ≡ k))) → (IsAlone text b k ⊎ (((s : ℕ) → IsAlone text s k → ⊥) × (b ≡ k))) → a ≡ b
-same_counted text k a b (inl x) (inl y) = same_alone text a b k x y (cases_order a b)
-same_counted text k a b (inl x) (inr y) = absurd (y.0 a x)
-same_counted text k a b (inr x) (inl y) = absurd (x.0 b y)
+-- the digits of an escape end once
+no_further : (text : List ℕ) (s a b : ℕ) → EndsDigits text s a → EndsDigits text s b → a < b → ⊥
+no_further text s a b x y lt =
+    let few : b ≤ s + 6 = y.few in
+    let in_text : b ≤ length text = y.in_text in
+    both_ways _ (x.next (omega arith) (omega arith)) (y.digits a x.forward lt)
+
+same_digits : (text : List ℕ) (s a b : ℕ) → EndsDigits text s a → EndsDigits text s b → ((a ≡ b) ⊎ ((a < b) ⊎ (b < a))) → a ≡ b
+same_digits text s a b x y (inl e) = e
+same_digits text s a b x y (inr (inl lt)) = absurd (no_further text s a b x y lt)
+same_digits text s a b x y (inr (inr lt)) = absurd (no_further text s b a y x lt)
+
+same_place : (s m n a b : ℕ) → m ≡ n → ((m ≡ s + 6) × (a ≡ s)) ⊎ ((m < s + 6) × (a ≡ m)) → ((n ≡ s + 6) × (b ≡ s)) ⊎ ((n < s + 6) × (b ≡ n)) → a ≡ b
+same_place s m n a b e (inl x) (inl y) = x.1 ∙ sym y.1
+same_place s m n a b e (inl x) (inr y) = absurd (omega (arith, x.0, y.0))
+same_place s m n a b e (inr x) (inl y) = absurd (omega (arith, x.0, y.0))
+same_place s m n a b e (inr x) (inr y) = x.1 ∙ e ∙ sym y.1
+
+same_counts_at : (text : List ℕ) (s a b : ℕ) → CountsAt text s a → CountsAt text s b → a ≡ b
+same_counts_at text s a b x y = same_place s x.0 y.0 a b (same_digits text s x.0 y.0 x.1 y.1 (cases_order x.0 y.0)) x.2 y.2
+
+abbrev Counted : List ℕ → ℕ → ℕ → Type 0
+Counted text k at = ((s : ℕ) × IsAlone text s k × CountsAt text s at) ⊎ (((s : ℕ) → IsAlone text s k → ⊥) × (at ≡ k))
+
+same_counted : (text : List ℕ) (k a b : ℕ) → Counted text k a → Counted text k b → a ≡ b
+same_counted text k a b (inl x) (inl y) =
+    let e : y.0 ≡ x.0 = same_alone text y.0 x.0 k y.1 x.1 (cases_order y.0 x.0) in
+    same_counts_at text x.0 a b x.2 (subst (λ (s : ℕ). CountsAt text s b) e y.2)
+same_counted text k a b (inl x) (inr y) = absurd (y.0 x.0 x.1)
+same_counted text k a b (inr x) (inl y) = absurd (x.0 y.0 y.1)
 same_counted text k a b (inr x) (inr y) = x.1 ∙ sym y.1
 
 pub same_bad : (text : List ℕ) (a b : ℕ) → IsBad text a → IsBad text b → a ≡ b
 same_bad text a b x y =
     let e : y.0 ≡ x.0 = same_stop text y.0 x.0 y.1 x.1 (cases_order y.0 x.0) in
-    same_counted text x.0 a b x.2 (subst (λ (k : ℕ). IsAlone text b k ⊎ (((s : ℕ) → IsAlone text s k → ⊥) × (b ≡ k))) e y.2)
+    same_counted text x.0 a b x.2 (subst (λ (k : ℕ). Counted text k b) e y.2)
 
 bad_or_deep : (text : List ℕ) (k b : ℕ) → Stops text k → IsTooDeep text b → ((k ≡ b) ⊎ ((k < b) ⊎ (b < k))) → ⊥
 bad_or_deep text k b s d (inl e) = s.byte (subst (λ (m : ℕ). m < length text) (sym e) d.in_text) 1 (subst (λ (m : ℕ). CanGoOn 65 (take (suc m) text)) (sym e) d.deeper)

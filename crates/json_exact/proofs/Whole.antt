@@ -4,11 +4,13 @@ use Rattle.json_exact.specs.Json.{Json}
 use Rattle.json_exact.specs.JsonText.{SpelledWithin}
 use Rattle.json_exact.specs.Refusals.{depth_limit, IsRefused}
 use Rattle.json_exact.specs.Reading.{IsRead}
-use Rattle.json_exact.specs.Handles.{first_value}
+use Rattle.json_exact.specs.Cells.{first_value}
 use Rattle.json_exact.specs.declared.cells.Cell.{Cell}
 use Rattle.json_exact.specs.declared.error.JsonError.{JsonError}
 use Rattle.json_exact.specs.declared.error.JsonError.TheVariants.{OutOfMemory}
 use Rattle.json_exact.proofs.Decoding.{decoded_value}
+use Rattle.json_exact.specs.Texts.{AreTexts}
+use Rattle.json_exact.proofs.TextCells.{are_texts}
 use Rattle.json_exact.specs.Spans.{IsPlaced}
 use Rattle.json_exact.proofs.Placed.{spelled_placed}
 use Rattle.json_exact.proofs.Unique.{only_memory}
@@ -27,3 +29,6 @@ read_not_refused text cells r e h n = n (only_memory text r.0 e r.2 h)
 
 pub read_placed : (text : List ℕ) (cells : List Cell) → IsRead text cells → IsPlaced text 0 (first_value text cells) (length text)
 read_placed text cells r = spelled_placed text depth_limit (first_value text cells) (read_spelled text cells r)
+
+pub read_texts : (text : List ℕ) (cells : List Cell) → IsRead text cells → AreTexts text cells
+read_texts text cells h = subst (AreTexts text) (sym h.1) (are_texts text depth_limit h.0 h.2)

@@ -3,8 +3,11 @@ pub mod Characters
 pub mod Numbers
 pub mod JsonText
 pub mod Refusals
+pub mod Reasons
 pub mod Spans
 pub mod Bytes
+pub mod Cells
+pub mod Texts
 pub mod Handles
 pub mod Scans
 pub mod Reading

@@ -1,8 +1,8 @@
 -- Where a text is refused. This is told by what texts there are, and by no way to read them: a text is
 -- refused at the first byte with which no text goes on, or at its end where it ends too early.
-use Rattle.std.specs.Prelude.{◌≡◌, ℕ, suc, ◌+◌, ◌-◌, ◌<◌, ◌≤◌, ◌⊎◌, List, [], ◌∷◌, ◌++◌, length, take, drop, slice_index, IsTrue}
+use Rattle.std.specs.Prelude.{◌≡◌, ℕ, suc, ◌+◌, ◌-◌, ◌<◌, ◌≤◌, ◌⊎◌, List, [], ◌∷◌, ◌++◌, length, take, drop, slice_index, true, false, IsTrue}
 use Rattle.json_exact.specs.Json.{Json}
-use Rattle.json_exact.specs.Characters.{is_d, is_high_digit, is_low_digit}
+use Rattle.json_exact.specs.Characters.{is_d, is_hex, is_high_digit, is_low_digit}
 use Rattle.json_exact.specs.JsonText.{SpelledWithin}
 use Rattle.json_exact.specs.declared.error.JsonError.{JsonError}
 use Rattle.json_exact.specs.declared.error.JsonError.TheVariants.{Bad, TooDeep, OutOfMemory}
@@ -29,7 +29,7 @@ IsSurrogate bytes =
     × (IsTrue (is_low_digit c) ⊎ (IsTrue (is_high_digit c) × (2 < length more)))
 
 -- A letter (here x) could stand in place of the byte at s and not later up to k, so a character begins at s,
--- and the text stops at k inside it; and that character is the escape of a surrogate that stays alone.
+-- and the text stops at k inside it; and that character is the escape of a surrogate that would stay alone.
 pub record IsAlone (text : List ℕ) (s : ℕ) (k : ℕ) : Type 0 where
   pub order : s ≤ k
   pub stops_inside : k < length text
@@ -37,9 +37,24 @@ pub record IsAlone (text : List ℕ) (s : ℕ) (k : ℕ) : Type 0 where
   pub no_letter : (j : ℕ) → s < j → j ≤ k → CanGoOn depth_limit (take j text ++ 120 ∷ []) → ⊥
   pub surrogate : IsSurrogate (take (suc k - s) (drop s text))
 
--- A surrogate that stays alone counts at its backslash, all else where the text stops.
+-- the hexadecimal digits of the escape at s end there; four of them belong to it
+pub record EndsDigits (text : List ℕ) (s : ℕ) (end : ℕ) : Type 0 where
+  pub forward : s + 2 ≤ end
+  pub few : end ≤ s + 6
+  pub in_text : end ≤ length text
+  pub digits : (i : ℕ) → s + 2 ≤ i → i < end → is_hex (slice_index text i) ≡ true
+  pub next : end < s + 6 → end < length text → is_hex (slice_index text end) ≡ false
+
+-- A surrogate counts at its backslash. An escape with fewer than four digits is no surrogate yet, and counts where
+-- its digits end.
+abbrev pub CountsAt : List ℕ → ℕ → ℕ → Type 0
+CountsAt text s at = (end : ℕ) × EndsDigits text s end × (((end ≡ s + 6) × (at ≡ s)) ⊎ ((end < s + 6) × (at ≡ end)))
+
+-- where the text stops, or where the surrogate counts that would stay alone there
 abbrev pub IsBad : List ℕ → ℕ → Type 0
-IsBad text at = (k : ℕ) × Stops text k × (IsAlone text at k ⊎ (((s : ℕ) → IsAlone text s k → ⊥) × (at ≡ k)))
+IsBad text at =
+    (k : ℕ) × Stops text k
+    × (((s : ℕ) × IsAlone text s k × CountsAt text s at) ⊎ (((s : ℕ) → IsAlone text s k → ⊥) × (at ≡ k)))
 
 -- The bracket at this place is the first that opens a level too many: up to it the text can go on within
 -- the levels, with it only to one level more.

@@ -4,7 +4,7 @@ use Rattle.std.specs.Prelude.{◌≡◌, ◌≢◌, ℕ, suc, ◌+◌, ◌-◌, 
 use Rattle.json_exact.specs.Characters.{Way, refused, whole, one, tail, steps, within, is_hex, is_d, is_low_digit, AreCharacters}
 use Rattle.json_exact.specs.Numbers.{is_digit, is_mark}
 use Rattle.json_exact.specs.JsonText.{is_blank, AreBlanks}
-use Rattle.json_exact.specs.Refusals.{IsSurrogate}
+use Rattle.json_exact.specs.Refusals.{IsSurrogate, CountsAt}
 use Rattle.json_exact.specs.declared.scan.Last.{Last}
 use Rattle.json_exact.specs.declared.scan.Last.TheVariants.{Nothing, Minus, Zero, Whole, Point, Fraction, Mark, Sign, Exponent, Misplaced}
 use Rattle.json_exact.specs.declared.strings.Class.{Class}
@@ -153,8 +153,10 @@ pub record StopsString (text : List ℕ) (at : ℕ) (i : ℕ) (k : ℕ) : Type 0
   pub quote : k < length text → i ≡ k → slice_index text k ≢ 34
   pub byte : k < length text → steps whole (slice_range text at (suc k)) ≡ refused
 
+-- what is counted where the text stops at k inside the character at i
+abbrev pub CountsCharacter : List ℕ → ℕ → ℕ → ℕ → Type 0
+CountsCharacter text i k counted = (IsHalf text i k × CountsAt text i counted) ⊎ ((IsHalf text i k → ⊥) × (counted ≡ k))
+
 -- what is counted where a string stops
 abbrev pub CountsString : List ℕ → ℕ → ℕ → Type 0
-CountsString text at counted =
-    (i k : ℕ) × StopsString text at i k
-    × ((IsHalf text i k × (counted ≡ i)) ⊎ ((IsHalf text i k → ⊥) × (counted ≡ k)))
+CountsString text at counted = (i k : ℕ) × StopsString text at i k × CountsCharacter text i k counted

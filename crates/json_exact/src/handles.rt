@@ -1,23 +1,18 @@
 // A text that was read, and handles on its values.
-ghost use Rattle.std.specs.Prelude.{ℕ, List, ◌≡◌, ◌≢◌, ◌⊎◌, ◌+◌, ◌-◌, ◌≤◌, ◌++◌, length, drop, true, false, None, Some, IfOk, IfErr, OnErr, MatchOption, MatchResult, slice_range};
-ghost use Rattle.std.specs.Option.{option_map};
-ghost use Rattle.json_exact.specs.Json.{Json as JsonValue, begins_at, ends_at, items, member, number_of, text_of, is_null, is_list, is_object};
-ghost use Rattle.json_exact.specs.JsonText.{SpelledWithin};
-ghost use Rattle.json_exact.specs.Refusals.{IsRefused, depth_limit};
-ghost use Rattle.json_exact.specs.Spans.{IsPlaced};
-ghost use Rattle.json_exact.specs.Bytes.{same_bytes};
-ghost use Rattle.json_exact.specs.Handles.{json_of, value_of, items_left, first_kind, first_inside, own_cells, other_cells};
+ghost use Rattle.std.specs.Prelude.{ℕ, List, ◌≡◌, ◌+◌, ◌-◌, ◌≤◌, length, drop, slice_range};
+ghost use Rattle.json_exact.specs.Cells.{first_kind, first_inside, own_cells, other_cells};
+ghost use Rattle.json_exact.specs.Texts.{AreTexts, AreTexts-prop};
 
 use crate::cells::{Cell, Kind};
-use crate::error::JsonError;
-use crate::{decode, reader};
-use std::alloc::{AllocError, Global};
+use crate::decode;
+use std::alloc::AllocError;
 
 /// A text that was read: a cell for each value and each name, beside the text itself.
 #[derive(Drop)]
 pub struct Json<'t> {
-    text: &'t [u8],
-    cells: Vec<Cell>,
+    pub(crate) text: &'t [u8],
+    pub(crate) cells: Vec<Cell>,
+    ghost texts: { AreTexts text.now cells.items } by { AreTexts-prop text.now cells.items },
 }
 
 /// A value of a text that was read. It borrows the text and what was read of it, and is copied freely.
@@ -25,6 +20,7 @@ pub struct Json<'t> {
 pub struct Value<'j, 't> {
     cells: &'j [Cell],
     text: &'t [u8],
+    ghost texts: { AreTexts text.now cells.now } by { AreTexts-prop text.now cells.now },
 }
 
 /// The values in a list, in the order of the text.
@@ -32,6 +28,7 @@ pub struct Value<'j, 't> {
 pub struct Items<'j, 't> {
     cells: &'j [Cell],
     text: &'t [u8],
+    ghost texts: { AreTexts text.now cells.now } by { AreTexts-prop text.now cells.now },
 }
 
 /// Where a value begins, and where the text goes on behind it.
@@ -40,32 +37,6 @@ pub struct Span {
     pub at: u32,
     pub end: u32,
 }
-
-/// Reads the one value of a text (RFC 8259, in UTF-8), with brackets at most 64 deep. The text has at most
-/// 33,554,432 bytes, so that its places fit. It is read once, and nothing of it is copied.
-pub fn parse<'t>(alloc: Global, text: &'t [u8]) -> Result<Json<'t>, JsonError>
-    requires { length text.now ≤ 33554432 }
-    // What is read is the value that the text spells,
-    ensures value { IfOk result (λ j. SpelledWithin depth_limit text.now (value_of j)) }
-    // what the text spells is read, and there is no other value,
-    ensures only { (v : JsonValue) → SpelledWithin depth_limit text.now v → MatchResult result (λ j. value_of j ≡ v) (λ e. e ≡ JsonError.OutOfMemory) }
-    // spans are in order and inside those around them, and a number is the slice of its span,
-    ensures spans { IfOk result (λ j. IsPlaced text.now 0 (value_of j) (length text.now)) }
-    // a refusal is that of the text,
-    ensures refusal { IfErr result (λ e. IsRefused text.now e) }
-    // and a text that is to be refused so is refused so.
-    ensures refused { (e : JsonError) → IsRefused text.now e → e ≢ JsonError.OutOfMemory → MatchResult result (λ _. ⊥) (λ f. (f ≡ e) ⊎ (f ≡ JsonError.OutOfMemory)) }
-{
-    match reader::read(alloc, text) {
-        Ok(cells) => Ok(Json { text, cells }),
-        Err(refused) => Err(refused),
-    }
-}
-
-/// No text has two values, however deep brackets may nest: a law of the definitions alone.
-pub fn one_value()
-    ensures { (levels more : ℕ) (text : List ℕ) (v w : JsonValue) → SpelledWithin levels text v → SpelledWithin more text w → v ≡ w }
-{}
 
 /// The bytes from one place to another, as far as the text has them.
 fn part(text: &[u8], from: usize, to: usize) -> &[u8]
@@ -88,6 +59,8 @@ fn characters(text: &[u8], cell: Cell) -> &[u8]
 }
 
 impl<'t> Json<'t> {
+    ghost use Rattle.json_exact.specs.Handles.{json_of, value_of};
+
     /// The value of the whole text.
     pub fn root(&self) -> Value<'_, 't>
         ensures { json_of result ≡ value_of self.now }
@@ -100,6 +73,12 @@ impl<'t> Json<'t> {
 }
 
 impl<'j, 't> Value<'j, 't> {
+    ghost use Rattle.std.specs.Prelude.{◌++◌, [], true, false, None, Some, IfOk, OnErr, MatchOption, unwrap_or, IsUtf8};
+    ghost use Rattle.std.specs.Option.{option_map};
+    ghost use Rattle.json_exact.specs.Json.{begins_at, ends_at, items, member, number_of, text_of, is_null, is_list, is_object};
+    ghost use Rattle.json_exact.specs.Bytes.{same_bytes};
+    ghost use Rattle.json_exact.specs.Handles.{json_of, items_left};
+
     fn kind(self) -> Kind
         ensures { result ≡ first_kind self.entry.cells.now }
     {
@@ -111,7 +90,8 @@ impl<'j, 't> Value<'j, 't> {
 
     /// The cells of what the brackets hold.
     fn inside(self) -> &'j [Cell]
-        ensures { result.now ≡ first_inside self.entry.cells.now }
+        ensures is { result.now ≡ first_inside self.entry.cells.now }
+        ensures texts { AreTexts self.entry.text.now result.now }
     {
         if self.cells.is_empty() {
             return self.cells;
@@ -174,16 +154,15 @@ impl<'j, 't> Value<'j, 't> {
     pub fn items(self) -> Items<'j, 't>
         ensures { items_left result ≡ items (json_of self.entry) }
     {
-        if self.kind() == Kind::List {
-            Items {
-                cells: self.inside(),
-                text: self.text,
-            }
-        } else {
-            Items {
+        if self.kind() != Kind::List {
+            return Items {
                 cells: &[],
                 text: self.text,
-            }
+            };
+        }
+        Items {
+            cells: self.inside(),
+            text: self.text,
         }
     }
 
@@ -209,11 +188,12 @@ impl<'j, 't> Value<'j, 't> {
     }
 
     /// Appends the characters of a string, in UTF-8, and answers true. For any other value it answers
-    /// false. After false, and where memory runs out, nothing was appended.
+    /// false. After false, and where memory runs out, nothing was appended. What is appended is UTF-8.
     pub fn text(self, out: &mut Vec<u8>) -> Result<bool, AllocError>
         ensures ok { IfOk result (λ said. MatchOption (text_of (json_of self.entry))
             ((said ≡ false) × (out.new.items ≡ out.old.items)) (λ text. (said ≡ true) × (out.new.items ≡ out.old.items ++ text))) }
         ensures err { OnErr result (out.new.items ≡ out.old.items) }
+        ensures utf8 { IsUtf8 (unwrap_or (text_of (json_of self.entry)) []) }
     {
         if self.kind() != Kind::String {
             return Ok(false);
@@ -231,16 +211,19 @@ impl<'j, 't> Value<'j, 't> {
 }
 
 /// The cells behind the first.
+#[tactic(auto, using(crate::proofs::TextCells::texts_behind))]
 fn behind_first(cells: &[Cell]) -> &[Cell]
     requires { 1 ≤ length cells.now }
-    ensures { result.now ≡ drop 1 cells.now }
+    ensures is { result.now ≡ drop 1 cells.now }
+    ensures texts { (text : List ℕ) → AreTexts text cells.now → AreTexts text result.now }
 {
     &cells[1..]
 }
 
 /// The first cell and those within it.
 fn own(cells: &[Cell]) -> &[Cell]
-    ensures { result.now ≡ own_cells cells.now }
+    ensures is { result.now ≡ own_cells cells.now }
+    ensures texts { (text : List ℕ) → AreTexts text cells.now → AreTexts text result.now }
 {
     if cells.is_empty() {
         return cells;
@@ -251,7 +234,8 @@ fn own(cells: &[Cell]) -> &[Cell]
 
 /// The cells behind them.
 fn others(cells: &[Cell]) -> &[Cell]
-    ensures { result.now ≡ other_cells cells.now }
+    ensures is { result.now ≡ other_cells cells.now }
+    ensures texts { (text : List ℕ) → AreTexts text cells.now → AreTexts text result.now }
 {
     if cells.is_empty() {
         return cells;

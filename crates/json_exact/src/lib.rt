@@ -6,12 +6,14 @@ mod cells;
 mod decode;
 mod error;
 mod handles;
+mod parsing;
 mod reader;
 mod scan;
 mod strings;
 
 pub use error::JsonError;
-pub use handles::{Items, Json, Span, Value, one_value, parse};
+pub use handles::{Items, Json, Span, Value};
+pub use parsing::{one_value, parse};
 
 #[cfg(test)]
 mod tests;

@@ -1,7 +1,8 @@
 // The reader of strings.
 ghost use Rattle.std.specs.Prelude.{◌≡◌, ◌≢◌, ◌↔◌, ◌+◌, ◌<◌, ◌≤◌, false, length, MatchResult, IfErr, slice_index, IsTrue};
 ghost use Rattle.json_exact.specs.Characters.{is_plain, is_hex, is_d, is_high_digit, is_low_digit, is_short, escape, digits, surrogate, two_digits, low_half, within, character};
-ghost use Rattle.json_exact.specs.Scans.{PassesWay, StopsWay, PassesCharacter, StopsCharacter, IsHalf, EndsString, CountsString, accepts, way_of, four_bytes};
+ghost use Rattle.json_exact.specs.Refusals.{EndsDigits};
+ghost use Rattle.json_exact.specs.Scans.{PassesWay, StopsWay, PassesCharacter, StopsCharacter, IsHalf, EndsString, CountsCharacter, CountsString, accepts, way_of, four_bytes};
 
 /// What one byte of a character may be.
 #[derive(Clone, Copy, Drop)]
@@ -224,6 +225,32 @@ fn is_half(text: &[u8], at: usize, stop: usize) -> bool
     is_low_digit(digit) || (is_high_digit(digit) && stop - at >= 6)
 }
 
+/// Where the hexadecimal digits end of the escape that stands at `at`. Four of them belong to it.
+fn escape_digits_end(text: &[u8], at: usize) -> usize
+    requires { at + 2 ≤ length text.now }
+    ensures { EndsDigits text.now at result }
+{
+    let mut end = at + 2;
+    'digits: while end < text.len() && end - at < 6 && is_hex(text[end]) {
+        end += 1;
+    }
+    end
+}
+
+/// What counts where the text stops at `stop` inside the character at `at`.
+fn counted(text: &[u8], at: usize, stop: usize) -> usize
+    requires order { at ≤ stop }
+    requires in_text { stop ≤ length text.now }
+    ensures counted { CountsCharacter text.now at stop result }
+    ensures bound { result ≤ length text.now }
+{
+    if !is_half(text, at, stop) {
+        return stop;
+    }
+    let end = escape_digits_end(text, at);
+    if end - at == 6 { at } else { end }
+}
+
 /// The place behind the closing quote of the string whose characters begin at `at`, or the place
 /// that its fault counts at.
 pub(crate) fn string_end(text: &[u8], at: usize) -> Result<usize, usize>
@@ -242,7 +269,7 @@ pub(crate) fn string_end(text: &[u8], at: usize) -> Result<usize, usize>
         } else {
             match character_end(text, i) {
                 Ok(end) => i = end,
-                Err(stop) => return Err(if is_half(text, i, stop) { i } else { stop }),
+                Err(stop) => return Err(counted(text, i, stop)),
             }
         }
     }

@@ -4,8 +4,10 @@ pub mod Texts
 pub mod Comments
 pub mod Spelling
 pub mod Refusals
+pub mod Reasons
 pub mod Runs
 pub mod Kinds
 pub mod Places
 pub mod Cells
 pub mod Views
+pub mod Endings

@@ -43,13 +43,13 @@ pub struct Arena {
 }
 
 impl Arena {
-    /// No cell, and room for those of a text of so many bytes, if it has six bytes for each.
-    pub fn for_text(alloc: Global, bytes: usize) -> Result<Arena, AllocError>
+    /// No cell, and room for so many.
+    pub fn with_room(alloc: Global, cells: usize) -> Result<Arena, AllocError>
         ensures cells { IfOk result (λ arena. arena.cells.items ≡ []) }
         ensures innermost { IfOk result (λ arena. arena.innermost ≡ 0) }
     {
         Ok(Arena {
-            cells: Vec::with_capacity(alloc, bytes / 6)?,
+            cells: Vec::with_capacity(alloc, cells)?,
             innermost: 0,
         })
     }

@@ -1,5 +1,6 @@
 ghost use Rattle.std.specs.Prelude.{◌≡◌, ◌<◌, ◌++◌, ◌∷◌, ◌↔◌, [], length, IsTrue, OnOk, OnErr, MatchOption, ⊤};
 ghost use Rattle.sexpr_read.specs.Tree.{unescaped, meant};
+ghost use Rattle.sexpr_read.specs.Endings.{ends_in};
 
 use std::alloc::AllocError;
 
@@ -64,4 +65,32 @@ pub fn append_unescaped(out: &mut Vec<u8>, content: &[u8]) -> Result<(), AllocEr
         content = rest;
     }
     Ok(())
+}
+
+/// Whether a text ends in `tail`.
+pub fn ends_plain(content: &[u8], tail: &[u8]) -> bool
+    ensures { result ≡ ends_in tail.now content.now }
+{
+    let mut content = content;
+    while let Some((_, rest)) = content.split_first() {
+        if content == tail {
+            return true;
+        }
+        content = rest;
+    }
+    tail.is_empty()
+}
+
+/// Whether what the content of a string stands for ends in `tail`.
+pub fn ends_unescaped(content: &[u8], tail: &[u8]) -> bool
+    ensures { result ≡ ends_in tail.now (unescaped content.now) }
+{
+    let mut content = content;
+    while let Some((_, rest)) = first_meant(content) {
+        if is_unescaped(content, tail) {
+            return true;
+        }
+        content = rest;
+    }
+    tail.is_empty()
 }

@@ -13,6 +13,7 @@ mod decode;
 pub mod laws;
 mod place;
 mod reader;
+mod room;
 mod runs;
 mod view;
 

@@ -13,6 +13,7 @@ use crate::arena::Arena;
 use crate::bytes::{Class, sign_at};
 use crate::comments::skip;
 use crate::place::{Span, TextError};
+use crate::room::about_cells;
 use crate::runs::{gap_end, string_end, word_end};
 use crate::view::Doc;
 use std::alloc::Global;
@@ -137,7 +138,7 @@ fn read_one<'t>(alloc: Global, text: &'t [u8]) -> Result<Doc<'t>, TextError>
         ⊎ (whole_fault true (sign_of text.now) (length text.now) ≡ Some e)) }
 {
     let start = list_start(text)?;
-    let mut arena = Arena::for_text(alloc, text.len())?;
+    let mut arena = Arena::with_room(alloc, about_cells(text))?;
     let close = read_forest(text, start + 1, true, &mut arena)?;
     if close == text.len() {
         return Err(TextError::EndInside { at: close as u32 });
@@ -182,7 +183,7 @@ fn read_all<'t>(alloc: Global, text: &'t [u8]) -> Result<Doc<'t>, TextError>
     ensures err { IfErr result (λ e. (e ≡ TextError.OutOfMemory)
         ⊎ (whole_fault false (shown text.now) (length text.now) ≡ Some e)) }
 {
-    let mut arena = Arena::for_text(alloc, text.len())?;
+    let mut arena = Arena::with_room(alloc, about_cells(text))?;
     let stop = read_forest(text, 0, false, &mut arena)?;
     if stop != text.len() {
         return Err(TextError::CloseWithoutOpen { at: stop as u32 });

@@ -6,7 +6,7 @@ ghost use Rattle.sexpr_read.specs.declared.arena.Kind.TheVariants.{List as Neste
 
 use crate::arena::{Cell, Kind, kind_of};
 use crate::bytes::sign_at;
-use crate::decode::{append_unescaped, is_unescaped};
+use crate::decode::{append_unescaped, ends_plain, ends_unescaped, is_unescaped};
 use crate::place::Span;
 use std::alloc::AllocError;
 
@@ -55,7 +55,8 @@ pub struct Node<'d, 't> {
 
 #[tactic(auto, unfolding(crate::specs::Views::tree_of, crate::specs::Views::trees_left))]
 impl<'d, 't> Node<'d, 't> {
-    ghost use Rattle.std.specs.Prelude.{◌≡◌, ◌++◌, ◌↔◌, ◌<◌, ◌^◌, [], length, IsTrue, Some, option_copied, unwrap_or, IsUtf8, OnOk, OnErr};
+    ghost use Rattle.std.specs.Prelude.{◌≡◌, ◌++◌, ◌↔◌, ◌<◌, ◌^◌, [], length, IsTrue, Some, option_copied, unwrap_or, IfSome, IsUtf8, OnOk, OnErr};
+    ghost use Rattle.sexpr_read.specs.Endings.{ends_in};
     ghost use Rattle.sexpr_read.specs.Tree.{is_list, content, quoted, span, parts, value};
     ghost use Rattle.sexpr_read.specs.Views.{tree_of, trees_left};
 
@@ -127,6 +128,30 @@ impl<'d, 't> Node<'d, 't> {
                 Kind::String => is_unescaped(content, text),
                 Kind::Word | Kind::List => content == text,
             },
+        }
+    }
+
+    /// Whether what an atom stands for ends in `tail`; a list stands for nothing.
+    pub fn ends_in(self, tail: &[u8]) -> bool
+        ensures { result ≡ ends_in tail.now (unwrap_or (value (tree_of self.entry)) []) }
+    {
+        match self.atom() {
+            None => tail.is_empty(),
+            Some(content) => match self.kind {
+                Kind::String => ends_unescaped(content, tail),
+                Kind::Word | Kind::List => ends_plain(content, tail),
+            },
+        }
+    }
+
+    /// The bytes of a word, which stands for itself; `None` for a string and for a list.
+    pub fn word(self) -> Option<&'t [u8]>
+        ensures value { IfSome result (λ word. value (tree_of self.entry) ≡ Some word.now) }
+        ensures utf8 { IfSome result (λ word. IsUtf8 word.now) }
+    {
+        match self.kind {
+            Kind::Word => self.atom(),
+            Kind::String | Kind::List => None,
         }
     }
 

@@ -1,6 +1,6 @@
-use Rattle.json_exact.proofs.Whole.{read_spelled, read_only, read_not_refused, read_placed}
+use Rattle.json_exact.proofs.Whole.{read_spelled, read_only, read_not_refused, read_placed, read_texts}
 use Rattle.json_exact.proofs.Unique.{only_memory, one_refusal}
-use Rattle.json_exact.proofs.handles.parse.Goals as goal
+use Rattle.json_exact.proofs.parsing.parse.Goals as goal
 
 pub returns-in-Ok-clause-value : goal.returns-in-Ok-clause-value
 returns-in-Ok-clause-value c = read_spelled c.args.text.now c.in-Ok.cells.items c.in-Ok.ensures
@@ -19,3 +19,6 @@ returns-in-Err-clause-refused c = λ e h n. one_refusal c.args.text.now e c.in-E
 
 pub returns-in-Ok-clause-spans : goal.returns-in-Ok-clause-spans
 returns-in-Ok-clause-spans c = read_placed c.args.text.now c.in-Ok.cells.items c.in-Ok.ensures
+
+pub invariant_of-result : goal.invariant_of-result
+invariant_of-result c = record { texts = read_texts c.args.text.now c.in-Ok.cells.items c.in-Ok.ensures }

@@ -1,0 +1,10 @@
+use Rattle.std.proofs.Common.{length, ◌≡◌}
+use Rattle.sexpr_read.specs.Endings.{ends_in}
+use Rattle.sexpr_read.proofs.decode.ends_plain.Given as goal
+
+-- the text ends so where what is left of it does
+abbrev pub invariant-loop-rest : goal.invariant-loop-rest
+invariant-loop-rest l = ends_in l.tail l.content ≡ ends_in l.tail l.fn.content
+
+abbrev pub decreases-loop-rest : goal.decreases-loop-rest
+decreases-loop-rest l = length l.content
