@@ -1,13 +1,14 @@
 -- Sets of layers: a set lies within another exactly where each of its layers does; the set of one layer; the layers from one
 -- to another.
-use Rattle.std.proofs.Common.{◌≡◌, ℕ, ◌+◌, ◌-◌, ◌*◌, ◌/◌, ◌%◌, ◌^◌, ◌<◌, ◌≤◌, IsTrue, ◌↔◌, min, max, ◌⊎◌, inl, inr, bit_and, sym, ◌∙◌, ap, subst, arith, zero, suc, rules, ◌==◌}
+use Rattle.std.proofs.Common.{◌≡◌, ℕ, ◌+◌, ◌-◌, ◌*◌, ◌/◌, ◌%◌, ◌^◌, ◌<◌, ◌≤◌, IsTrue, ◌↔◌, min, max, ◌⊎◌, inl, inr, not, bit_and, bit_or, nat_eq, ◌≢◌, sym, ◌∙◌, ap, subst, arith, zero, suc, rules, ◌==◌}
 use Rattle.std.proofs.lemmas.Bool.{cases_eq}
-use Rattle.std.proofs.lemmas.Nat.{one_shl, pow_pos}
-use Rattle.std.proofs.lemmas.Nat.Bits.{bit_at_and, bit_at-pow_same, bit_at-pow_other, bit_at_mask_inside, bit_at_mask_below, bit_at_mask_above, ones_shr, same_from_bits}
+use Rattle.std.proofs.lemmas.Nat.{one_shl, pow_pos, and_le_l}
+use Rattle.std.proofs.lemmas.Nat.Bits.{bit_at_and, bit_at_or, bit_at-zero, bit_at-lt, bit_at-trailing_zeros, bit_at-pow_same, bit_at-pow_other, bit_at_mask_inside, bit_at_mask_below, bit_at_mask_above, ones_shr, same_from_bits}
+use mir.Syntax.{w32}
 use Rattle.std.proofs.Math.Pow.{pow_mono}
-use Rattle.std.specs.Int.{bit_at}
+use Rattle.std.specs.Int.{bit_at, trailing_zeros}
 use Rattle.board_items.specs.declared.layers.LayerSet.{LayerSet}
-use Rattle.board_items.specs.Layers.{has_layer, is_within, single_layer, layers_between}
+use Rattle.board_items.specs.Layers.{has_layer, is_within, single_layer, layers_between, union_of}
 
 -- a bit is 0 or 1
 bit_at-small : (n i : ℕ) → bit_at n i < 2
@@ -106,3 +107,52 @@ between_layers s a b layer =
 
 pub between_within : (s : LayerSet) (a b : ℕ) → IsTrue (is_within (layers_between s a b) s)
 between_within s a b = (within_layers (layers_between s a b) s).1 (λ layer h. ((between_layers s a b layer).0 h).0)
+
+-- ---- the layers of either set
+either_bit : (a b : ℕ) → a < 2 → b < 2 → max a b ≡ 1 → (a ≡ 1) ⊎ (b ≡ 1)
+either_bit zero b h k e = inr (omega arith)
+either_bit (suc a) b h k e = inl (omega arith)
+
+first_bit : (a b : ℕ) → a < 2 → b < 2 → a ≡ 1 → max a b ≡ 1
+first_bit a b h k e = omega arith
+
+second_bit : (a b : ℕ) → a < 2 → b < 2 → b ≡ 1 → max a b ≡ 1
+second_bit a b h k e = omega arith
+
+pub union_layers : (s t : LayerSet) (layer : ℕ) → (IsTrue (has_layer (union_of s t) layer) ↔ (IsTrue (has_layer s layer) ⊎ IsTrue (has_layer t layer)))
+union_layers s t layer =
+    let joined : bit_at (bit_or s.bits t.bits) layer ≡ max (bit_at s.bits layer) (bit_at t.bits layer) = bit_at_or s.bits t.bits layer in (
+      λ h. to (either_bit (bit_at s.bits layer) (bit_at t.bits layer) (bit_at-small s.bits layer) (bit_at-small t.bits layer) (sym joined ∙ test_of (bit_or s.bits t.bits) layer h)),
+      λ h. test_by (bit_or s.bits t.bits) layer (joined ∙ from h),
+    )
+  where
+    to : (bit_at s.bits layer ≡ 1) ⊎ (bit_at t.bits layer ≡ 1) → IsTrue (has_layer s layer) ⊎ IsTrue (has_layer t layer)
+    to (inl e) = inl (test_by s.bits layer e)
+    to (inr e) = inr (test_by t.bits layer e)
+
+    from : IsTrue (has_layer s layer) ⊎ IsTrue (has_layer t layer) → max (bit_at s.bits layer) (bit_at t.bits layer) ≡ 1
+    from (inl h) = first_bit (bit_at s.bits layer) (bit_at t.bits layer) (bit_at-small s.bits layer) (bit_at-small t.bits layer) (test_of s.bits layer h)
+    from (inr h) = second_bit (bit_at s.bits layer) (bit_at t.bits layer) (bit_at-small s.bits layer) (bit_at-small t.bits layer) (test_of t.bits layer h)
+
+-- ---- two sets share a layer exactly where they share a bit
+some_bit : (n : ℕ) → IsTrue (not (nat_eq n 0)) → n ≢ 0
+some_bit n h = search (rules, h)
+
+no_bits : (n : ℕ) → n ≢ 0 → IsTrue (not (nat_eq n 0))
+no_bits n h = search (rules, h)
+
+pub shared_from : (a b : ℕ) → a < 2 ^ 32 → IsTrue (not (nat_eq (bit_and a b) 0)) → (layer : ℕ) × IsTrue (bit_at a layer == 1) × IsTrue (bit_at b layer == 1)
+shared_from a b small h =
+    let le = and_le_l a b in
+    let more : 0 < bit_and a b = let some = some_bit (bit_and a b) h in omega arith in
+    let fits : bit_and a b < 2 ^ 32 = omega arith in
+    let layer = trailing_zeros w32 (bit_and a b) in
+    let set = (bit_at-trailing_zeros w32 (bit_and a b) more fits).1 in
+    let both = both_bits (bit_at a layer) (bit_at b layer) (sym (bit_at_and a b layer) ∙ set) (bit_at-lt a layer) (bit_at-lt b layer) in
+    (layer, test_by a layer both.0, test_by b layer both.1)
+
+pub shared_to : (a b layer : ℕ) → IsTrue (bit_at a layer == 1) → IsTrue (bit_at b layer == 1) → IsTrue (not (nat_eq (bit_and a b) 0))
+shared_to a b layer h k = no_bits (bit_and a b) (λ e. none (bit_at_and a b layer) (ap (λ n. bit_at n layer) e ∙ bit_at-zero layer))
+  where
+    none : bit_at (bit_and a b) layer ≡ min (bit_at a layer) (bit_at b layer) → bit_at (bit_and a b) layer ≡ 0 → ⊥
+    none both e = let one = both_ones (bit_at a layer) (bit_at b layer) (test_of a layer h) (test_of b layer k) in omega arith

@@ -1,6 +1,11 @@
-mod LayerLemmas
+pub mod LayerLemmas
 mod Around
-mod Rising
+pub mod Rising
 mod Admitted
 mod Nets
 mod Growing
+pub mod MeasureLemmas
+mod NetIds
+mod Removing
+mod Walking
+mod Moving

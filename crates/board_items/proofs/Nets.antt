@@ -9,7 +9,7 @@ still_first net more [] h = absurd cc
 still_first net more (e ∷ es) h = h
 
 -- a number that no net has is not that of the first
-absent_parts : (net : ℕ) (e : ℕ × List ℕ) (es : List (ℕ × List ℕ)) → lookup (nat_eq net) (e ∷ es) ≡ None → (nat_eq net e.0 ≡ false) × (lookup (nat_eq net) es ≡ None)
+pub absent_parts : (net : ℕ) (e : ℕ × List ℕ) (es : List (ℕ × List ℕ)) → lookup (nat_eq net) (e ∷ es) ≡ None → (nat_eq net e.0 ≡ false) × (lookup (nat_eq net) es ≡ None)
 absent_parts net e es h = by (nat_eq net e.0) h
   where
     by : (t : Bool) → cond t (Some e.1) (lookup (nat_eq net) es) ≡ None → (t ≡ false) × (lookup (nat_eq net) es ≡ None)

@@ -1,8 +1,8 @@
 -- Lists of items whose ids rise.
-use Rattle.std.proofs.Common.{◌≡◌, ◌≢◌, ℕ, ◌+◌, ◌<◌, ◌≤◌, Bool, true, false, cond, List, [], ◌∷◌, ◌++◌, None, Some, nat_eq, refl, ◌∙◌, ap, subst, arith, eq-eqb}
+use Rattle.std.proofs.Common.{◌≡◌, ◌≢◌, ℕ, ◌+◌, ◌<◌, ◌≤◌, Bool, true, false, cond, List, [], ◌∷◌, ◌++◌, None, Some, nat_eq, map, filter, refl, ◌∙◌, ap, subst, arith, eq-eqb}
 use Rattle.std.proofs.lemmas.Bool.{eqb-true}
 use Rattle.board_items.specs.declared.item.Item.{Item}
-use Rattle.board_items.specs.Boards.{Rise, IsRising, UnitsBelow, item_at, is_mark, marks_of}
+use Rattle.board_items.specs.Boards.{Rise, IsRising, UnitsBelow, item_at, is_mark, marks_of, ids_where}
 
 pub rise_ends : (low high : ℕ) (xs : List (ℕ × Item)) → Rise low high xs → low ≤ high
 rise_ends low high [] h = h
@@ -16,14 +16,18 @@ pub units_added : (high more id : ℕ) (xs : List (ℕ × Item)) (item : Item) �
 units_added high more id [] item h le lt = (lt, tt)
 units_added high more id (e ∷ es) item h le lt = (omega (arith, h.0), units_added high more id es item h.1 le lt)
 
--- the marks of two lists one after the other
-pub marks-append : (xs ys : List (ℕ × Item)) → marks_of (xs ++ ys) ≡ marks_of xs ++ marks_of ys
-marks-append [] ys = refl
-marks-append (e ∷ es) ys = by (is_mark e.1.what) (marks_of (es ++ ys)) (marks-append es ys)
+-- the ids of two lists one after the other
+pub ids_where-append : (test : Item → Bool) (xs ys : List (ℕ × Item)) → ids_where test (xs ++ ys) ≡ ids_where test xs ++ ids_where test ys
+ids_where-append test [] ys = refl
+ids_where-append test (e ∷ es) ys = by (test e.1) (filter (λ x. test x.1) es) (filter (λ x. test x.1) ys) (filter (λ x. test x.1) (es ++ ys)) (ids_where-append test es ys)
   where
-    by : (b : Bool) (all : List ℕ) → all ≡ marks_of es ++ marks_of ys → cond b (e.0 ∷ all) all ≡ cond b (e.0 ∷ marks_of es) (marks_of es) ++ marks_of ys
-    by true all h = ap (λ ids. e.0 ∷ ids) h
-    by false all h = h
+    by : (b : Bool) (front back all : List (ℕ × Item)) → map (λ x. x.0) all ≡ map (λ x. x.0) front ++ map (λ x. x.0) back
+        → map (λ x. x.0) (cond b (e ∷ all) all) ≡ map (λ x. x.0) (cond b (e ∷ front) front) ++ map (λ x. x.0) back
+    by true front back all h = ap (λ ids. e.0 ∷ ids) h
+    by false front back all h = h
+
+pub marks-append : (xs ys : List (ℕ × Item)) → marks_of (xs ++ ys) ≡ marks_of xs ++ marks_of ys
+marks-append xs ys = ids_where-append (λ item. is_mark item.what) xs ys
 
 -- ---- before and behind an item
 pub rise_front : (low high : ℕ) (xs : List (ℕ × Item)) (e : ℕ × Item) (ys : List (ℕ × Item)) → Rise low high (xs ++ e ∷ ys) → Rise low e.0 xs
@@ -42,7 +46,7 @@ other_id a b h = by (nat_eq a b) refl
     by false e = refl
 
 -- the first entry has another id
-passed_over : (id : ℕ) (e : ℕ × Item) (xs : List (ℕ × Item)) → id ≢ e.0 → item_at (e ∷ xs) id ≡ item_at xs id
+pub passed_over : (id : ℕ) (e : ℕ × Item) (xs : List (ℕ × Item)) → id ≢ e.0 → item_at (e ∷ xs) id ≡ item_at xs id
 passed_over id e xs h = ap (λ b. cond b (Some e.1) (item_at xs id)) (other_id id e.0 h)
 
 not_below : (low high id : ℕ) (xs : List (ℕ × Item)) → Rise low high xs → id < low → item_at xs id ≡ None

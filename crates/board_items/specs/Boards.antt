@@ -1,5 +1,5 @@
 -- A board as plain lists. Lengths are nanometres, and the places of its items are their ids.
-use Rattle.std.specs.Prelude.{◌≡◌, ℕ, ◌+◌, ◌<◌, ◌≤◌, max, ℤ, pos, neg_ℤ, Bool, true, false, ◌&&◌, List, [], ◌∷◌, ◌++◌, length, Option, None, Some, is_some, slice_get, nat_eq, if◌then◌else◌}
+use Rattle.std.specs.Prelude.{◌≡◌, ℕ, ◌+◌, ◌<◌, ◌≤◌, max, ℤ, pos, neg_ℤ, Bool, true, false, ◌&&◌, List, [], ◌∷◌, ◌++◌, length, Option, None, Some, is_some, slice_get, nat_eq, map, filter, if◌then◌else◌}
 use Rattle.std.specs.Int.Signed.{le_z}
 use Rattle.std.specs.List.{list_all}
 use Rattle.std.specs.Map.{lookup}
@@ -66,10 +66,17 @@ is_mark (Area title bans shape) = true
 is_mark (Body reference front back on_back) = true
 is_mark _ = false
 
--- the ids of all areas and bodies, in order
+-- the ids of the items that pass the test, in order
+abbrev pub ids_where : (Item → Bool) → List (ℕ × Item) → List ℕ
+ids_where test items = map (λ entry. entry.0) (filter (λ entry. test entry.1) items)
+
+-- the ids of all areas and bodies
 abbrev pub marks_of : List (ℕ × Item) → List ℕ
-marks_of [] = []
-marks_of (entry ∷ entries) = if is_mark entry.1.what then entry.0 ∷ marks_of entries else marks_of entries
+marks_of items = ids_where (λ item. is_mark item.what) items
+
+-- the ids of all items of the net
+abbrev pub ids_of_net : ℕ → List (ℕ × Item) → List ℕ
+ids_of_net net items = ids_where (λ item. nat_eq item.net net) items
 
 -- the ids rise along the list, from `low` on, and are below `high`
 abbrev pub Rise : ℕ → ℕ → List (ℕ × Item) → Type 0

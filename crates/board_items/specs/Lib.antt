@@ -1,6 +1,13 @@
 pub mod Layers
 pub mod Parts
+pub mod Measures
 pub mod Extents
 pub mod Boards
 pub mod Refusals
 pub mod Walks
+pub mod Reasons
+pub mod Turns
+pub mod Copper
+pub mod Kept
+pub mod Units
+pub mod Moves

@@ -1,18 +1,23 @@
 //! Boards.
 
-ghost use Rattle.std.specs.Prelude.{◌≡◌, ◌<◌, ◌≤◌, ℕ, List, is_some, true, None, Some, Err, ◌≢◌, ◌++◌, ◌∷◌, [], IfOk, IfErr, OnOk, OnErr, IfSome, IsUtf8, length};
+ghost use Rattle.std.specs.Prelude.{◌≡◌, ◌<◌, ◌≤◌, ℕ, List, is_some, true, false, None, Some, Err, ◌≢◌, ◌++◌, ◌∷◌, [], IfOk, IfErr, OnOk, OnErr, IfSome, IsUtf8, length, vec_len, vec_capacity};
 ghost use Rattle.std.specs.Option.{option_copied};
 ghost use Rattle.std.specs.List.{list_all};
 ghost use Rattle.board_items.specs.Layers.{is_within};
 ghost use Rattle.board_items.specs.Parts.{parts_of};
 ghost use Rattle.board_items.specs.Refusals.{refusal_of, reason_in, room_of};
-ghost use Rattle.board_items.specs.Boards.{PlainBoard, IsSound, IsRising, Rise, empty_board, name_of, with_net, item_at, with_item, is_near, is_admitted, is_mark, marks_of};
+ghost use Rattle.board_items.specs.Boards.{PlainBoard, IsSound, IsRising, Rise, empty_board, name_of, with_net, item_at, with_item, is_near, is_admitted, is_mark, marks_of, ids_of_net};
+ghost use Rattle.board_items.specs.Kept.{IsNetAt};
+ghost use Rattle.board_items.specs.Moves.{unit_stays, IsMoved};
+ghost use Rattle.board_items.specs.Units.{without_unit, found_of};
 ghost use Rattle.board_items.specs.Walks.{items_left, nets_left};
 
-use crate::errors::ItemError;
-use crate::item::{Item, What};
+use crate::errors::{Found, ItemError};
+use crate::item::{Item, Nm, What};
 use crate::layers::LayerSet;
+use crate::moves::{Step, shift_unit, unit_stays};
 use crate::parts::Part;
+use crate::units::{drop_ids, drop_ids_of_nets, drop_items, found_of};
 use crate::walk::{BoardIter, BoardNets};
 use drc_io::Name;
 use indexmap::IndexMap;
@@ -36,6 +41,8 @@ const GREATEST: i64 = 500_000_000;
 pub struct Board {
     copper: LayerSet,
     names: IndexMap<u32, Name>,
+    // of each net, in the order of the names, the ids of its items
+    of_nets: Vec<Vec<u32>>,
     items: Vec<(u32, Item)>,
     marks: Vec<u32>,
     next_id: u32,
@@ -43,14 +50,14 @@ pub struct Board {
 }
 
 impl Model for Board {
-    ghost use Rattle.std.specs.Prelude.{◌≡◌};
-    ghost use Rattle.board_items.specs.Boards.{PlainBoard, IsSound, marks_of};
+    ghost use Rattle.board_items.specs.Boards.{PlainBoard};
+    ghost use Rattle.board_items.specs.Kept.{IsKept};
 
     ghost Value = { PlainBoard };
 
     ghost view = { λ b. record { copper = b.copper; nets = b.names.entries; items = b.items.items; next_id = b.next_id; next_unit = b.next_unit } };
 
-    ghost invariant = { λ b. IsSound (record { copper = b.copper; nets = b.names.entries; items = b.items.items; next_id = b.next_id; next_unit = b.next_unit }) × (b.marks.items ≡ marks_of b.items.items) };
+    ghost invariant = { λ b. IsKept (record { copper = b.copper; nets = b.names.entries; items = b.items.items; next_id = b.next_id; next_unit = b.next_unit }) b.marks.items b.of_nets.items };
 }
 
 // Whether all these parts lie on layers of the board.
@@ -75,14 +82,14 @@ fn has_layers_of(copper: LayerSet, item: &Item) -> bool
         && are_within(second, copper)
 }
 
-fn is_near(z: i64) -> bool
+pub(crate) fn is_near(z: i64) -> bool
     ensures { result ≡ is_near z }
 {
     -GREATEST <= z && z <= GREATEST
 }
 
 // The item of an id, by halves of the list.
-fn find(items: &[(u32, Item)], id: u32) -> Option<&Item>
+pub(crate) fn item_at(items: &[(u32, Item)], id: u32) -> Option<&Item>
     requires { IsRising items.now }
     ensures { option_copied result ≡ item_at items.now id }
 {
@@ -90,8 +97,8 @@ fn find(items: &[(u32, Item)], id: u32) -> Option<&Item>
     let (middle, after) = back.split_first()?;
     match id.cmp(&middle.0) {
         Ordering::Equal => Some(&middle.1),
-        Ordering::Less => find(front, id),
-        Ordering::Greater => find(after, id),
+        Ordering::Less => item_at(front, id),
+        Ordering::Greater => item_at(after, id),
     }
 }
 
@@ -109,11 +116,14 @@ impl Board {
     pub fn new(alloc: Global, copper: LayerSet) -> Result<Board, AllocError>
         ensures { IfOk result (λ board. board ≡ empty_board copper) }
     {
+        let mut of_nets = Vec::new(alloc);
+        of_nets.push(Vec::new(alloc))?;
         let mut names = IndexMap::new(alloc);
         names.insert(0, Name::of(Vec::new(alloc)))?;
         Ok(Board {
             copper,
             names,
+            of_nets,
             items: Vec::new(alloc),
             marks: Vec::new(alloc),
             next_id: 0,
@@ -139,8 +149,18 @@ impl Board {
         if self.names.contains_key(&net) {
             return Ok(());
         }
+        self.of_nets.reserve(1)?;
         self.names.insert(net, name)?;
+        let none = Vec::new(*self.items.allocator());
+        self.of_nets.push_reserved(none);
         Ok(())
+    }
+
+    /// Makes room for so many more items, so that adding them takes no memory but their own. The board stays as it was.
+    pub fn reserve(&mut self, more: usize) -> Result<(), AllocError>
+        ensures { self.new ≡ self.old }
+    {
+        self.items.reserve(more)
     }
 
     /// Appends an item and gives its id, one above the greatest that was ever given, or 0.
@@ -153,34 +173,80 @@ impl Board {
         ensures added { OnOk result (self.new ≡ with_item self.old item) }
         ensures unchanged { OnErr result (self.new ≡ self.old) }
     {
-        self.admit(&item)?;
+        let place = self.admit(&item)?;
         let id = self.next_id;
         let next_unit = self.next_unit.max(item.unit + 1);
-        push_entry(&mut self.items, &mut self.marks, id, item)?;
+        let of_net = &mut self.of_nets[place];
+        push_entry(&mut self.items, &mut self.marks, of_net, id, item)?;
         self.next_id = id + 1;
         self.next_unit = next_unit;
         Ok(id)
     }
 
-    // Whether the item may be added.
-    fn admit(&self, item: &Item) -> Result<(), ItemError>
+    // Whether the item may be added: the place of its net.
+    fn admit(&self, item: &Item) -> Result<usize, ItemError>
         ensures refused { refusal_of self.now item.now ≡ reason_in result }
         ensures room { OnOk result (0 < room_of self.now) }
         ensures only { result ≢ Err ItemError.OutOfMemory }
+        ensures place { IfOk result (IsNetAt item.now.net self.now.nets) }
     {
         if !(is_near(item.x) && is_near(item.y)) {
             return Err(ItemError::OutOfBoard);
         }
-        if !self.names.contains_key(&item.net) {
+        let Some(place) = self.names.get_index_of(&item.net) else {
             return Err(ItemError::UnknownNet);
-        }
+        };
         if !has_layers_of(self.copper, item) {
             return Err(ItemError::UnknownLayer);
         }
         if self.left() == 0 {
             return Err(ItemError::TooMany);
         }
+        Ok(place)
+    }
+
+    /// Takes all items of the unit out. It takes no memory.
+    pub fn remove(&mut self, unit: u32)
+        ensures { self.new ≡ without_unit self.old unit }
+    {
+        drop_ids(&mut self.marks, &self.items, unit);
+        drop_ids_of_nets(&mut self.of_nets, &self.items, unit);
+        drop_items(&mut self.items, unit);
+    }
+
+    /// Moves every item of the unit but its notes by `dx` and `dy` nanometres. It takes no memory.
+    ///
+    /// It refuses with `OutOfBoard` where a position, or a point of a shape, would be more than 500 mm from 0. The board
+    /// is then as it was.
+    pub fn moved(&mut self, unit: u32, dx: Nm, dy: Nm) -> Result<(), ItemError>
+        ensures moved { OnOk result (IsMoved unit dx dy self.old self.new) }
+        ensures stays { OnOk result (unit_stays unit dx dy self.old.items ≡ true) }
+        ensures refused { IfErr result (λ e. (e ≡ ItemError.OutOfBoard) × (unit_stays unit dx dy self.old.items ≡ false)) }
+        ensures unchanged { OnErr result (self.new ≡ self.old) }
+    {
+        let step = Step { dx, dy };
+        if !unit_stays(&self.items, unit, step) {
+            return Err(ItemError::OutOfBoard);
+        }
+        shift_unit(&mut self.items, unit, step);
         Ok(())
+    }
+
+    /// What the name stands for: no unit, several, a part of a footprint, or one unit. It takes no memory.
+    pub fn find(&self, name: &Name) -> Found
+        ensures { result ≡ found_of name.now self.now.items }
+    {
+        found_of(&self.items, name)
+    }
+
+    /// The ids of all items of the net, rising; none where the net was not declared.
+    pub fn of_net(&self, net: u32) -> &[u32]
+        ensures { result.now ≡ ids_of_net net self.now.items }
+    {
+        match self.names.get_index_of(&net) {
+            None => &[],
+            Some(place) => &self.of_nets[place],
+        }
     }
 
     /// The item with this id. It is found by halves, since ids rise. It is one that `add` took.
@@ -188,7 +254,7 @@ impl Board {
         ensures found { option_copied result ≡ item_at self.now.items id }
         ensures admitted { IfSome result (λ item. is_admitted self.now item.now ≡ true) }
     {
-        find(&self.items, id)
+        item_at(&self.items, id)
     }
 
     /// All items with their ids, by rising id.
@@ -247,26 +313,39 @@ impl Board {
     }
 }
 
-// Appends an entry, and its id where it is a mark, or changes nothing.
+// Makes room for one more in both lists.
+fn make_room(marks: &mut Vec<u32>, of_net: &mut Vec<u32>) -> Result<(), AllocError>
+    ensures marks_stay { marks.new.items ≡ marks.old.items }
+    ensures of_net_stays { of_net.new.items ≡ of_net.old.items }
+    ensures marks { OnOk result (vec_len marks.new < vec_capacity marks.new) }
+    ensures of_net { OnOk result (vec_len of_net.new < vec_capacity of_net.new) }
+{
+    marks.reserve(1)?;
+    of_net.reserve(1)
+}
+
+// Appends an entry, and its id to those of its net and where it is a mark, or changes nothing.
 fn push_entry(
     items: &mut Vec<(u32, Item)>,
     marks: &mut Vec<u32>,
+    of_net: &mut Vec<u32>,
     id: u32,
     item: Item,
 ) -> Result<(), ItemError>
     ensures only { IfErr result (λ e. e ≡ ItemError.OutOfMemory) }
     ensures items { OnOk result (items.new.items ≡ items.old.items ++ (id, item) ∷ []) }
     ensures marks { OnOk result (marks.new.items ≡ marks.old.items ++ marks_of ((id, item) ∷ [])) }
+    ensures of_net { OnOk result (of_net.new.items ≡ of_net.old.items ++ id ∷ []) }
     ensures items_stay { OnErr result (items.new.items ≡ items.old.items) }
     ensures marks_stay { OnErr result (marks.new.items ≡ marks.old.items) }
+    ensures of_net_stays { OnErr result (of_net.new.items ≡ of_net.old.items) }
 {
     let is_mark = item.what.is_mark();
-    if is_mark {
-        marks.reserve(1)?;
-    }
+    make_room(marks, of_net)?;
     items.push((id, item))?;
+    of_net.push_reserved(id);
     if is_mark {
-        let _ = marks.push(id);
+        marks.push_reserved(id);
     }
     Ok(())
 }

@@ -2,7 +2,7 @@
 
 ghost use Rattle.std.specs.Prelude.{◌≡◌, ◌++◌, pos, List, Option, IfSome, [], ◌∷◌};
 ghost use Rattle.geo_seg.specs.declared.boxes.Bounds.{Bounds};
-ghost use Rattle.geo_seg.specs.Boxes.{FitsWithin, IsPartOf};
+ghost use Rattle.geo_seg.specs.Boxes.{FitsWithin};
 ghost use Rattle.board_items.specs.declared.parts.Part.{Part};
 ghost use Rattle.board_items.specs.Extents.{AreBoundsOf};
 ghost use Rattle.board_items.specs.Parts.{parts_of, hole_parts, kind_parts};
@@ -11,23 +11,6 @@ use crate::item::{Hole, Item, What};
 use crate::parts::Part;
 use geo_seg::{Bounds, Shape};
 use std::slice;
-
-// The least box that holds both.
-fn union(a: Bounds, b: Bounds) -> Bounds
-    requires a_fits { FitsWithin (pos 1500000000) a }
-    requires b_fits { FitsWithin (pos 1500000000) b }
-    ensures first { IsPartOf a result }
-    ensures second { IsPartOf b result }
-    ensures least { (c : Bounds) → IsPartOf a c → IsPartOf b c → IsPartOf result c }
-    ensures fits { FitsWithin (pos 1500000000) result }
-{
-    Bounds {
-        left: a.left.min(b.left),
-        top: a.top.min(b.top),
-        right: a.right.max(b.right),
-        bottom: a.bottom.max(b.bottom),
-    }
-}
 
 // The box around what was found so far and one shape more.
 fn grown(found: Option<Bounds>, shape: &Shape) -> Bounds
@@ -38,7 +21,7 @@ fn grown(found: Option<Bounds>, shape: &Shape) -> Bounds
     let bounds = shape.bounds();
     match found {
         None => bounds,
-        Some(box_so_far) => union(box_so_far, bounds),
+        Some(box_so_far) => box_so_far.union(bounds),
     }
 }
 
@@ -73,9 +56,9 @@ impl What {
         ensures { result.0.now ++ result.1.now ≡ kind_parts self.now }
     {
         match self {
-            What::Edge { lines } => (lines.as_slice(), &[]),
-            What::Area { shape, .. } => (slice::from_ref(shape), &[]),
-            What::Body { front, back, .. } => (front.as_slice(), back.as_slice()),
+            What::Edge { lines } => (lines.get().as_slice(), &[]),
+            What::Area { shape, .. } => (slice::from_ref(shape.get()), &[]),
+            What::Body { front, back, .. } => (front.get().as_slice(), back.get().as_slice()),
             What::Track { .. }
             | What::Via { .. }
             | What::Pad { .. }

@@ -1,9 +1,14 @@
 //! What lies on a board.
 
+ghost use Rattle.drc_io.specs.Lengths.{IsLength, IsLengthIfSome};
+ghost use Rattle.board_items.specs.Measures.{HasLengths};
+
+use crate::boxed::Boxed;
 use crate::layers::LayerSet;
 use crate::parts::{Part, Parts};
 use drc_io::Name;
 use geo_seg::Shape;
+use std::mem::size_of;
 
 /// A length or a coordinate in nanometres.
 pub type Nm = i64;
@@ -15,8 +20,9 @@ pub struct Hole {
     /// The layers through which it goes.
     pub layers: LayerSet,
     pub plated: bool,
-    /// The smaller of its two sizes.
+    /// The smaller of its two sizes, 0 to 500 mm.
     pub least: Nm,
+    pub ghost least_in_range: { IsLength least },
 }
 
 /// What a rule area keeps out.
@@ -37,7 +43,8 @@ pub enum About {
     FootZone,
 }
 
-/// The kind of an item, with what that kind alone has.
+/// The kind of an item, with what that kind alone has. What few kinds have stands apart, since a board has far more
+/// tracks and vias than anything else.
 #[derive(Drop)]
 pub enum What {
     Track {
@@ -52,8 +59,8 @@ pub enum What {
     },
     /// A pad, with the reference of its footprint.
     Pad {
-        number: Name,
-        reference: Name,
+        number: Boxed<Name>,
+        reference: Boxed<Name>,
     },
     /// A graphic on copper.
     Graphic,
@@ -61,28 +68,29 @@ pub enum What {
     Fill,
     /// A graphic on Edge.Cuts.
     Edge {
-        lines: Parts,
+        lines: Boxed<Parts>,
     },
     /// A rule area.
     Area {
-        title: Name,
+        title: Boxed<Name>,
         bans: Bans,
-        shape: Part,
+        shape: Boxed<Part>,
     },
     /// A footprint as a whole, with its courtyards on both sides.
     Body {
-        reference: Name,
-        front: Parts,
-        back: Parts,
+        reference: Boxed<Name>,
+        front: Boxed<Parts>,
+        back: Boxed<Parts>,
         on_back: bool,
     },
     Note {
         about: About,
-        layer: Name,
+        layer: Boxed<Name>,
     },
 }
 
-/// An item of a board. Contracts see it as the record of its fields, its names and parts as lists.
+/// An item of a board. Contracts see it as the record of its fields, its names and parts as lists. Its lengths are 0 to
+/// 500 mm.
 #[derive(Drop)]
 pub struct Item {
     /// The `tstamp` of the board file, or empty.
@@ -99,4 +107,9 @@ pub struct Item {
     /// A clearance of its own.
     pub local: Option<Nm>,
     pub what: What,
+    pub ghost local_in_range: { IsLengthIfSome local },
+    pub ghost what_in_range: { HasLengths what },
 }
+
+// A board may hold 200,000 items.
+const _: () = prove!(size_of::<Item>() <= 320);

@@ -11,7 +11,7 @@ pub struct LayerSet {
 }
 
 impl LayerSet {
-    ghost use Rattle.std.specs.Prelude.{◌≡◌, ◌<◌, ◌≤◌, ◌↔◌, ℕ, min, max, IsTrue};
+    ghost use Rattle.std.specs.Prelude.{◌≡◌, ◌<◌, ◌≤◌, ◌↔◌, ◌⊎◌, ℕ, min, max, IsTrue};
     ghost use Rattle.board_items.specs.declared.layers.LayerSet.{LayerSet};
     ghost use Rattle.board_items.specs.Layers.{has_layer, is_within, single_layer, union_of, layers_between};
 
@@ -42,7 +42,8 @@ impl LayerSet {
 
     /// The layers of either set.
     pub fn union(self, other: LayerSet) -> LayerSet
-        ensures { result ≡ union_of self other }
+        ensures value { result ≡ union_of self other }
+        ensures each { (layer : ℕ) → (IsTrue (has_layer result layer) ↔ (IsTrue (has_layer self layer) ⊎ IsTrue (has_layer other layer))) }
     {
         LayerSet {
             bits: self.bits | other.bits,

@@ -4,18 +4,24 @@
 #![tactic(auto)]
 
 mod board;
+mod boxed;
 mod errors;
 mod extents;
 mod item;
 mod layers;
+mod moves;
 mod parts;
 #[cfg(test)]
 mod tests;
+mod turns;
+mod units;
 mod walk;
 
 pub use board::Board;
+pub use boxed::Boxed;
 pub use errors::{BoardError, Found, ItemError};
 pub use item::{About, Bans, Hole, Item, Nm, What};
 pub use layers::{LayerSet, layer_name};
 pub use parts::{Part, Parts};
+pub use turns::turn;
 pub use walk::{BoardIter, BoardNets};

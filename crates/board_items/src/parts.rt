@@ -33,7 +33,7 @@ impl<A: Allocator> MadeWith<A> for Part {
 /// A list of parts. Up to two are kept in place, since most items have no more.
 #[derive(Drop)]
 pub struct Parts {
-    list: SmallVec<Part, 2>,
+    pub(crate) list: SmallVec<Part, 2>,
 }
 
 impl Model for Parts {

@@ -14,5 +14,5 @@ returns-in-None-clause-grown c = λ parts part same before.
 pub returns-in-Some-clause-grown : goal.returns-in-Some-clause-grown
 returns-in-Some-clause-grown c = λ parts part same before.
     one_more parts part c.in-Some.box_so_far c.bounds-bounds.result c.union.result (subst (λ (s : Shape). IsBoundsOf s c.bounds-bounds.result) (sym same) c.bounds-bounds.ensures.least)
-    c.union.ensures.first c.union.ensures.second c.union.ensures.least
+    c.union.ensures.least.first c.union.ensures.least.second c.union.ensures.least.least
     (subst (λ (found : Option Bounds). AreBoundsOf parts found) c.in-Some.is before)

@@ -6,6 +6,6 @@ use Rattle.board_items.proofs.board.Board.get.Goals as goal
 pub returns-clause-admitted : goal.returns-clause-admitted
 returns-clause-admitted c =
     let before : PlainBoard = record { copper = c.self.inside.copper; nets = c.self.inside.names.entries; items = c.self.inside.items.items; next_id = c.self.inside.next_id; next_unit = c.self.inside.next_unit } in
-    subst (λ (b : PlainBoard). IfSome c.find.result (λ item. is_admitted b item.now ≡ true)) c.self.view_is
-    (admitted_found before c.args.id c.find.result c.self.inside.items.items c.self.invariant.0.admitted
-    (c.find.ensures ∙ ap (λ xs. item_at xs c.args.id) c.deref.ensures.value))
+    subst (λ (b : PlainBoard). IfSome c.item_at.result (λ item. is_admitted b item.now ≡ true)) c.self.view_is
+    (admitted_found before c.args.id c.item_at.result c.self.inside.items.items c.self.invariant.sound.admitted
+    (c.item_at.ensures ∙ ap (λ xs. item_at xs c.args.id) c.deref.ensures.value))

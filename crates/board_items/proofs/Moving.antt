@@ -1,0 +1,281 @@
+-- A board after the items of a unit were moved.
+use Rattle.std.proofs.Common.{◌≡◌, ◌⊎◌, ℕ, ◌+◌, ◌<◌, ◌≤◌, ℤ, pos, neg_ℤ, ◌+ℤ◌, ◌*ℤ◌, unsigned_abs, Bool, true, false, cond, ◌&&◌, List, [], ◌∷◌, ◌++◌, length, map, filter, All, Vec, nat_eq, Option, None, Some, is_some, inl, inr, refl, sym, ◌∙◌, ap, subst, arith}
+use Rattle.std.proofs.lemmas.Int.{ints}
+use Rattle.std.proofs.lemmas.Bool.{and_from, and_parts}
+use Rattle.std.specs.Int.Signed.{le_z}
+use Rattle.int_algebra.proofs.Scalars.{passed}
+use Rattle.std.proofs.lemmas.List.Elements.{All-nil, All-cons}
+use Rattle.std.specs.Prelude.{MatchBool}
+use Rattle.std.specs.List.{AllZip, list_all}
+use Rattle.geo_seg.specs.Shifts.{core_stays}
+use Rattle.board_items.specs.declared.layers.LayerSet.{LayerSet}
+use Rattle.board_items.specs.declared.parts.Part.{Part}
+use Rattle.board_items.specs.declared.item.Hole.{Hole}
+use Rattle.board_items.specs.declared.item.What.{What}
+use Rattle.board_items.specs.declared.item.What.TheVariants.{Track, Via, Pad, Graphic, Fill, Edge, Area, Body, Note}
+use Rattle.board_items.specs.declared.item.Item.{Item}
+use Rattle.board_items.specs.Layers.{is_within}
+use Rattle.board_items.specs.Parts.{parts_of, hole_parts, kind_parts}
+use Rattle.board_items.specs.Boards.{PlainBoard, IsSound, Rise, UnitsBelow, AllAdmitted, name_of, is_near, is_on_board, has_layers_of, is_admitted, is_mark, ids_where}
+use Rattle.std.proofs.lemmas.List.{with_items_is}
+use Rattle.std.specs.Vec.{with_items}
+use Rattle.std.specs.declared.alloc.Global.{Global}
+use Rattle.board_items.specs.Measures.{HasLengths}
+use Rattle.board_items.specs.Kept.{IsKept}
+use Rattle.board_items.proofs.MeasureLemmas.{no_lengths}
+use Rattle.board_items.proofs.NetIds.{ids_unchanged}
+use Rattle.board_items.proofs.Admitted.{all_kept}
+use Rattle.board_items.specs.Moves.{AreShifted, HoleIsShifted, KindIsShifted, IsShiftedPart, IsShiftedItem, IsMovedEntry, moves, item_stays, unit_stays}
+
+-- ---- parts
+zip_append : {X : Type 0} (R : X → X → Type 0) (xs ys us vs : List X) → AllZip R xs ys → AllZip R us vs → AllZip R (xs ++ us) (ys ++ vs)
+zip_append R [] [] us vs h k = k
+zip_append R [] (y ∷ ys) us vs h k = absurd h
+zip_append R (x ∷ xs) [] us vs h k = absurd h
+zip_append R (x ∷ xs) (y ∷ ys) us vs h k = (h.0, zip_append R xs ys us vs h.1 k)
+
+layers_same : (dx dy : ℤ) (copper : LayerSet) (ps qs : List Part) → AreShifted dx dy ps qs → list_all (λ part. is_within part.layers copper) qs ≡ list_all (λ part. is_within part.layers copper) ps
+layers_same dx dy copper [] [] h = refl
+layers_same dx dy copper [] (q ∷ qs) h = absurd h
+layers_same dx dy copper (p ∷ ps) [] h = absurd h
+layers_same dx dy copper (p ∷ ps) (q ∷ qs) h =
+    ap (λ b. b && list_all (λ part. is_within part.layers copper) qs) (ap (λ (s : LayerSet). is_within s copper) h.0.layers)
+    ∙ ap (λ b. is_within p.layers copper && b) (layers_same dx dy copper ps qs h.1)
+
+hole_zip : (dx dy : ℤ) (a b : Option Hole) → HoleIsShifted dx dy a b → AreShifted dx dy (hole_parts a) (hole_parts b)
+hole_zip dx dy None None h = tt
+hole_zip dx dy None (Some b) h = absurd h
+hole_zip dx dy (Some a) None h = absurd h
+hole_zip dx dy (Some a) (Some b) h = (record { layers = h.layers; shape = h.shape }, tt)
+
+kind_zip : (dx dy : ℤ) (a b : What) → KindIsShifted dx dy a b → AreShifted dx dy (kind_parts a) (kind_parts b)
+kind_zip dx dy (Track w) b h = subst (λ (k : What). AreShifted dx dy [] (kind_parts k)) (sym h) tt
+kind_zip dx dy (Via s d m l) b h = subst (λ (k : What). AreShifted dx dy [] (kind_parts k)) (sym h) tt
+kind_zip dx dy (Pad n r) b h = subst (λ (k : What). AreShifted dx dy [] (kind_parts k)) (sym h) tt
+kind_zip dx dy Graphic b h = subst (λ (k : What). AreShifted dx dy [] (kind_parts k)) (sym h) tt
+kind_zip dx dy Fill b h = subst (λ (k : What). AreShifted dx dy [] (kind_parts k)) (sym h) tt
+kind_zip dx dy (Edge lines) b h = subst (λ (k : What). AreShifted dx dy lines (kind_parts k)) (sym h.1) h.2
+kind_zip dx dy (Area t s p) b h = subst (λ (k : What). AreShifted dx dy (p ∷ []) (kind_parts k)) (sym h.1) (h.2, tt)
+kind_zip dx dy (Body r f k o) b h = subst (λ (w : What). AreShifted dx dy (f ++ k) (kind_parts w)) (sym h.2) (zip_append (IsShiftedPart dx dy) f h.0 k h.1 h.3 h.4)
+kind_zip dx dy (Note a l) b h = subst (λ (k : What). AreShifted dx dy [] (kind_parts k)) (sym h) tt
+
+mark_same : (dx dy : ℤ) (a b : What) → KindIsShifted dx dy a b → is_mark b ≡ is_mark a
+mark_same dx dy (Track w) b h = ap is_mark h
+mark_same dx dy (Via s d m l) b h = ap is_mark h
+mark_same dx dy (Pad n r) b h = ap is_mark h
+mark_same dx dy Graphic b h = ap is_mark h
+mark_same dx dy Fill b h = ap is_mark h
+mark_same dx dy (Edge lines) b h = ap is_mark h.1
+mark_same dx dy (Area t s p) b h = ap is_mark h.1
+mark_same dx dy (Body r f k o) b h = ap is_mark h.2
+mark_same dx dy (Note a l) b h = ap is_mark h
+
+parts_zip : (dx dy : ℤ) (a b : Item) → IsShiftedItem dx dy a b → AreShifted (pos 2 *ℤ dx) (pos 2 *ℤ dy) (parts_of a) (parts_of b)
+parts_zip dx dy a b s =
+    zip_append (IsShiftedPart (pos 2 *ℤ dx) (pos 2 *ℤ dy)) a.copper b.copper (hole_parts a.hole ++ kind_parts a.what) (hole_parts b.hole ++ kind_parts b.what) s.copper
+    (zip_append (IsShiftedPart (pos 2 *ℤ dx) (pos 2 *ℤ dy)) (hole_parts a.hole) (hole_parts b.hole) (kind_parts a.what) (kind_parts b.what)
+    (hole_zip (pos 2 *ℤ dx) (pos 2 *ℤ dy) a.hole b.hole s.hole) (kind_zip (pos 2 *ℤ dx) (pos 2 *ℤ dy) a.what b.what s.what))
+
+module _ (unit : ℕ) (dx dy : ℤ) where
+  -- ---- one entry
+  abbrev Stays : ℕ × Item → Type 0
+  Stays e = cond (moves unit e.1) (item_stays dx dy e.1) true ≡ true
+
+  moved_or_same : (e f : ℕ × Item) → IsMovedEntry unit dx dy e f → ((moves unit e.1 ≡ true) × IsShiftedItem dx dy e.1 f.1) ⊎ (f.1 ≡ e.1)
+  moved_or_same e f m = by (moves unit e.1) refl m.item
+    where
+      by : (b : Bool) → moves unit e.1 ≡ b → MatchBool b (IsShiftedItem dx dy e.1 f.1) (f.1 ≡ e.1) → ((moves unit e.1 ≡ true) × IsShiftedItem dx dy e.1 f.1) ⊎ (f.1 ≡ e.1)
+      by true k h = inl (k, h)
+      by false k h = inr h
+
+  pub same_net : (e f : ℕ × Item) → IsMovedEntry unit dx dy e f → f.1.net ≡ e.1.net
+  same_net e f m = by (moved_or_same e f m)
+    where
+      by : ((moves unit e.1 ≡ true) × IsShiftedItem dx dy e.1 f.1) ⊎ (f.1 ≡ e.1) → f.1.net ≡ e.1.net
+      by (inl h) = h.1.net
+      by (inr h) = ap (λ (i : Item). i.net) h
+
+  same_unit : (e f : ℕ × Item) → IsMovedEntry unit dx dy e f → f.1.unit ≡ e.1.unit
+  same_unit e f m = by (moved_or_same e f m)
+    where
+      by : ((moves unit e.1 ≡ true) × IsShiftedItem dx dy e.1 f.1) ⊎ (f.1 ≡ e.1) → f.1.unit ≡ e.1.unit
+      by (inl h) = h.1.unit
+      by (inr h) = ap (λ (i : Item). i.unit) h
+
+  pub same_mark : (e f : ℕ × Item) → IsMovedEntry unit dx dy e f → is_mark f.1.what ≡ is_mark e.1.what
+  same_mark e f m = by (moved_or_same e f m)
+    where
+      by : ((moves unit e.1 ≡ true) × IsShiftedItem dx dy e.1 f.1) ⊎ (f.1 ≡ e.1) → is_mark f.1.what ≡ is_mark e.1.what
+      by (inl h) = mark_same (pos 2 *ℤ dx) (pos 2 *ℤ dy) e.1.what f.1.what h.1.what
+      by (inr h) = ap (λ (i : Item). is_mark i.what) h
+
+  admitted_moved : (b : PlainBoard) (e f : ℕ × Item) → IsMovedEntry unit dx dy e f → Stays e → is_admitted b e.1 ≡ true → is_admitted b f.1 ≡ true
+  admitted_moved b e f m stays h = by (moved_or_same e f m)
+    where
+      all : (is_on_board e.1 && is_some (name_of b e.1.net) ≡ true) × (has_layers_of b e.1 ≡ true)
+      all = and_parts (is_on_board e.1 && is_some (name_of b e.1.net)) (has_layers_of b e.1) h
+
+      by : ((moves unit e.1 ≡ true) × IsShiftedItem dx dy e.1 f.1) ⊎ (f.1 ≡ e.1) → is_admitted b f.1 ≡ true
+      by (inl k) =
+          let own : item_stays dx dy e.1 ≡ true = subst (λ t. cond t (item_stays dx dy e.1) true ≡ true) k.0 stays in
+          let both = and_parts (is_near (e.1.x +ℤ dx) && is_near (e.1.y +ℤ dy)) (list_all (λ part. core_stays (pos 2 *ℤ dx) (pos 2 *ℤ dy) part.shape.core) (parts_of e.1)) own in
+          let near = and_parts (is_near (e.1.x +ℤ dx)) (is_near (e.1.y +ℤ dy)) both.0 in
+          let x : is_near f.1.x ≡ true = subst (λ (z : ℤ). is_near z ≡ true) (sym k.1.x) near.0 in
+          let y : is_near f.1.y ≡ true = subst (λ (z : ℤ). is_near z ≡ true) (sym k.1.y) near.1 in
+          let declared : is_some (name_of b f.1.net) ≡ true = subst (λ n. is_some (name_of b n) ≡ true) (sym k.1.net) (and_parts (is_on_board e.1) (is_some (name_of b e.1.net)) all.0).1 in
+          and_from _ _ (and_from _ _ (and_from _ _ x y) declared) (layers_same (pos 2 *ℤ dx) (pos 2 *ℤ dy) b.copper (parts_of e.1) (parts_of f.1) (parts_zip dx dy e.1 f.1 k.1) ∙ all.1)
+      by (inr k) = subst (λ (i : Item). is_admitted b i ≡ true) (sym k) h
+
+  -- ---- lists
+  abbrev AreMoved : List (ℕ × Item) → List (ℕ × Item) → Type 0
+  AreMoved xs ys = AllZip (IsMovedEntry unit dx dy) xs ys
+
+  pub same_ids : (test : Item → Bool) → ((e f : ℕ × Item) → IsMovedEntry unit dx dy e f → test f.1 ≡ test e.1) → (xs ys : List (ℕ × Item)) → AreMoved xs ys → ids_where test ys ≡ ids_where test xs
+  same_ids test same [] [] h = refl
+  same_ids test same [] (y ∷ ys) h = absurd h
+  same_ids test same (x ∷ xs) [] h = absurd h
+  same_ids test same (x ∷ xs) (y ∷ ys) h = by (test x.1) (test y.1) (same x y h.0) (same_ids test same xs ys h.1)
+    where
+      by : (s t : Bool) → t ≡ s → map (λ e. e.0) (filter (λ e. test e.1) ys) ≡ map (λ e. e.0) (filter (λ e. test e.1) xs)
+          → map (λ e. e.0) (cond t (y ∷ filter (λ e. test e.1) ys) (filter (λ e. test e.1) ys)) ≡ map (λ e. e.0) (cond s (x ∷ filter (λ e. test e.1) xs) (filter (λ e. test e.1) xs))
+      by true true k ih = ap (λ n. n ∷ map (λ e. e.0) (filter (λ e. test e.1) ys)) h.0.id ∙ ap (λ ids. x.0 ∷ ids) ih
+      by true false k ih = absurd cc
+      by false true k ih = absurd cc
+      by false false k ih = ih
+
+  same_rise : (low high : ℕ) (xs ys : List (ℕ × Item)) → AreMoved xs ys → Rise low high xs → Rise low high ys
+  same_rise low high [] [] h r = r
+  same_rise low high [] (y ∷ ys) h r = absurd h
+  same_rise low high (x ∷ xs) [] h r = absurd h
+  same_rise low high (x ∷ xs) (y ∷ ys) h r = (
+    subst (λ n. low ≤ n) (sym h.0.id) r.0,
+    subst (λ n. Rise (n + 1) high ys) (sym h.0.id) (same_rise (x.0 + 1) high xs ys h.1 r.1),
+  )
+
+  same_units : (high : ℕ) (xs ys : List (ℕ × Item)) → AreMoved xs ys → UnitsBelow high xs → UnitsBelow high ys
+  same_units high [] [] h u = tt
+  same_units high [] (y ∷ ys) h u = absurd h
+  same_units high (x ∷ xs) [] h u = absurd h
+  same_units high (x ∷ xs) (y ∷ ys) h u = (subst (λ n. n < high) (sym (same_unit x y h.0)) u.0, same_units high xs ys h.1 u.1)
+
+  same_length : (xs ys : List (ℕ × Item)) → AreMoved xs ys → length ys ≡ length xs
+  same_length [] [] h = refl
+  same_length [] (y ∷ ys) h = absurd h
+  same_length (x ∷ xs) [] h = absurd h
+  same_length (x ∷ xs) (y ∷ ys) h = let rest = same_length xs ys h.1 in omega arith
+
+  all_admitted : (b : PlainBoard) (xs ys : List (ℕ × Item)) → AreMoved xs ys → unit_stays unit dx dy xs ≡ true → AllAdmitted b xs → AllAdmitted b ys
+  all_admitted b [] [] h s a = tt
+  all_admitted b [] (y ∷ ys) h s a = absurd h
+  all_admitted b (x ∷ xs) [] h s a = absurd h
+  all_admitted b (x ∷ xs) (y ∷ ys) h s a =
+      let both = and_parts (cond (moves unit x.1) (item_stays dx dy x.1) true) (unit_stays unit dx dy xs) s in
+      (admitted_moved b x y h.0 both.0 a.0, all_admitted b xs ys h.1 both.1 a.1)
+
+  pub sound_moved : (b : PlainBoard) (items : List (ℕ × Item)) → IsSound b → AreMoved b.items items → unit_stays unit dx dy b.items ≡ true → IsSound (record b { items = items })
+  sound_moved b items s h stays = record {
+    ids = same_rise 0 b.next_id b.items items h s.ids;
+    units = same_units b.next_unit b.items items h s.units;
+    last_id = s.last_id;
+    last_unit = s.last_unit;
+    few = subst (λ n. n ≤ 200000) (sym (same_length b.items items h)) s.few;
+    first_net = s.first_net;
+    distinct = s.distinct;
+    no_net = s.no_net;
+    admitted = all_kept b (record b { items = items }) (λ i k. k) items (all_admitted b b.items items h stays s.admitted);
+  }
+
+-- ---- before the move
+pub on_board : (b : PlainBoard) (xs : List (ℕ × Item)) → AllAdmitted b xs → All (λ e. is_on_board e.1 ≡ true) xs
+on_board b [] h = All-nil (λ e. is_on_board e.1 ≡ true)
+on_board b (x ∷ xs) h =
+    let own = (and_parts (is_on_board x.1) (is_some (name_of b x.1.net)) (and_parts (is_on_board x.1 && is_some (name_of b x.1.net)) (has_layers_of b x.1) h.0).0).0 in
+    All-cons (λ e. is_on_board e.1 ≡ true) x xs own (on_board b xs h.1)
+
+-- ---- numbers
+near_range : (z : ℤ) → is_near z ≡ true → unsigned_abs z ≤ 500000000
+near_range z h = by (le_z (neg_ℤ (pos 500000000)) z) (le_z z (pos 500000000)) refl refl h
+  where
+    by : (a b : Bool) → le_z (neg_ℤ (pos 500000000)) z ≡ a → le_z z (pos 500000000) ≡ b → a && b ≡ true → unsigned_abs z ≤ 500000000
+    by true true k l e = omega (arith, ints, k, l)
+    by true false k l e = absurd cc
+    by false b k l e = absurd cc
+
+-- between two places on the board
+pub step_range : (z d : ℤ) → is_near z ≡ true → is_near (z +ℤ d) ≡ true → unsigned_abs d ≤ 1000000000
+step_range z d h k = small (near_range z h) (near_range (z +ℤ d) k)
+  where
+    small : unsigned_abs z ≤ 500000000 → unsigned_abs (z +ℤ d) ≤ 500000000 → unsigned_abs d ≤ 1000000000
+    small l m = omega (arith, ints)
+
+pub sum_near : (z d : ℤ) → is_near z ≡ true → is_near (z +ℤ d) ≡ true → passed (passed z +ℤ passed d) ≡ z +ℤ d
+sum_near z d h k = small (near_range z h) (near_range (z +ℤ d) k)
+  where
+    small : unsigned_abs z ≤ 500000000 → unsigned_abs (z +ℤ d) ≤ 500000000 → passed (passed z +ℤ passed d) ≡ z +ℤ d
+    small l m = omega (arith, ints)
+
+pub item_small : (dx dy : ℤ) (item : Item) → is_on_board item ≡ true → is_near (item.x +ℤ dx) && is_near (item.y +ℤ dy) ≡ true → (unsigned_abs dx ≤ 1000000000) × (unsigned_abs dy ≤ 1000000000)
+item_small dx dy item h k =
+    let here = and_parts (is_near item.x) (is_near item.y) h in
+    let there = and_parts (is_near (item.x +ℤ dx)) (is_near (item.y +ℤ dy)) k in
+    (step_range item.x dx here.0 there.0, step_range item.y dy here.1 there.1)
+
+-- ---- an item that stays
+module _ (dx dy : ℤ) (item : Item) (here : is_on_board item ≡ true) (stays : item_stays dx dy item ≡ true) where
+  places : (is_near item.x ≡ true) × (is_near item.y ≡ true)
+  places = and_parts (is_near item.x) (is_near item.y) here
+
+  halves : (is_near (item.x +ℤ dx) && is_near (item.y +ℤ dy) ≡ true) × (list_all (λ part. core_stays (pos 2 *ℤ dx) (pos 2 *ℤ dy) part.shape.core) (parts_of item) ≡ true)
+  halves = and_parts (is_near (item.x +ℤ dx) && is_near (item.y +ℤ dy)) (list_all (λ part. core_stays (pos 2 *ℤ dx) (pos 2 *ℤ dy) part.shape.core) (parts_of item)) stays
+
+  ends : (is_near (item.x +ℤ dx) ≡ true) × (is_near (item.y +ℤ dy) ≡ true)
+  ends = and_parts (is_near (item.x +ℤ dx)) (is_near (item.y +ℤ dy)) halves.0
+
+  pub small_dx : unsigned_abs dx ≤ 1000000000
+  small_dx = step_range item.x dx places.0 ends.0
+
+  pub small_dy : unsigned_abs dy ≤ 1000000000
+  small_dy = step_range item.y dy places.1 ends.1
+
+  pub new_x : passed (passed item.x +ℤ passed dx) ≡ item.x +ℤ dx
+  new_x = sum_near item.x dx places.0 ends.0
+
+  pub new_y : passed (passed item.y +ℤ passed dy) ≡ item.y +ℤ dy
+  new_y = sum_near item.y dy places.1 ends.1
+
+  pub all_parts : list_all (λ part. core_stays (pos 2 *ℤ dx) (pos 2 *ℤ dy) part.shape.core) (parts_of item) ≡ true
+  all_parts = halves.1
+
+pub list_all_front : {X : Type 0} (test : X → Bool) (xs ys : List X) → list_all test (xs ++ ys) ≡ true → list_all test xs ≡ true
+list_all_front test [] ys h = refl
+list_all_front test (x ∷ xs) ys h =
+    let both = and_parts (test x) (list_all test (xs ++ ys)) h in and_from _ _ both.0 (list_all_front test xs ys both.1)
+
+pub list_all_back : {X : Type 0} (test : X → Bool) (xs ys : List X) → list_all test (xs ++ ys) ≡ true → list_all test ys ≡ true
+list_all_back test [] ys h = h
+list_all_back test (x ∷ xs) ys h = list_all_back test xs ys (and_parts (test x) (list_all test (xs ++ ys)) h).1
+
+-- ---- lengths do not change
+pub lengths_moved : (dx dy : ℤ) (a b : What) → KindIsShifted dx dy a b → HasLengths a → HasLengths b
+lengths_moved dx dy (Track w) b h l = subst HasLengths (sym h) l
+lengths_moved dx dy (Via s d m k) b h l = subst HasLengths (sym h) l
+lengths_moved dx dy (Pad n r) b h l = subst HasLengths (sym h) l
+lengths_moved dx dy Graphic b h l = subst HasLengths (sym h) l
+lengths_moved dx dy Fill b h l = subst HasLengths (sym h) l
+lengths_moved dx dy (Edge lines) b h l = subst HasLengths (sym h.1) (no_lengths (Edge h.0) (λ w e. absurd cc) (λ s d m k e. absurd cc))
+lengths_moved dx dy (Area t s p) b h l = subst HasLengths (sym h.1) (no_lengths (Area t s h.0) (λ w e. absurd cc) (λ s d m k e. absurd cc))
+lengths_moved dx dy (Body r f k o) b h l = subst HasLengths (sym h.2) (no_lengths (Body r h.0 h.1 o) (λ w e. absurd cc) (λ s d m k e. absurd cc))
+lengths_moved dx dy (Note a k) b h l = subst HasLengths (sym h) l
+
+-- ---- all that the board keeps
+pub kept_moved : (b : PlainBoard) (unit : ℕ) (dx dy : ℤ) (v : Vec (ℕ × Item) Global) (xs from ws : List (ℕ × Item)) (marks : List ℕ) (lists : List (Vec ℕ Global)) → IsKept b marks lists → v.items ≡ b.items → xs ≡ b.items → from ≡ b.items
+    → length ws ≡ v.len → unit_stays unit dx dy xs ≡ true → AllZip (IsMovedEntry unit dx dy) from ws → IsKept (record b { items = (with_items v ws).items }) marks lists
+kept_moved b unit dx dy v xs from ws marks lists k same e f long stays zip =
+    subst (λ (is : List (ℕ × Item)). IsKept (record b { items = is }) marks lists) (sym (with_items_is v ws long)) (record {
+      sound = sound_moved unit dx dy b ws k.sound own (subst (λ (zs : List (ℕ × Item)). unit_stays unit dx dy zs ≡ true) e stays);
+      marks = k.marks ∙ sym (same_ids unit dx dy (λ item. is_mark item.what) (same_mark unit dx dy) b.items ws own);
+      of_nets = ids_unchanged b.items ws (λ net. same_ids unit dx dy (λ item. nat_eq item.net net) (λ o n m. ap (λ k. nat_eq k net) (same_net unit dx dy o n m)) b.items ws own) b.nets lists k.of_nets;
+    })
+  where
+    own : AllZip (IsMovedEntry unit dx dy) b.items ws
+    own = subst (λ (zs : List (ℕ × Item)). AllZip (IsMovedEntry unit dx dy) zs ws) f zip

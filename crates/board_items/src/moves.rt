@@ -1,0 +1,226 @@
+//! Moves of units.
+
+ghost use Rattle.std.specs.Prelude.{◌≡◌, ◌≤◌, ◌+ℤ◌, ◌*ℤ◌, ◌++◌, ◌&&◌, pos, true, All, unsigned_abs, if◌then◌else◌};
+ghost use Rattle.std.specs.List.{AllZip, list_all};
+ghost use Rattle.geo_seg.specs.Shifts.{core_stays};
+ghost use Rattle.board_items.specs.Boards.{is_near, is_on_board};
+ghost use Rattle.board_items.specs.Parts.{parts_of, hole_parts, kind_parts};
+ghost use Rattle.board_items.specs.Moves.{is_note, moves, item_stays, unit_stays, IsMovedEntry, IsShiftedItem, IsShiftedPart, AreShifted, HoleIsShifted, KindIsShifted};
+
+use crate::board::is_near;
+use crate::item::{Hole, Item, Nm, What};
+use crate::parts::{Part, Parts};
+use geo_seg::Shift;
+
+/// How far positions are moved, in nanometres.
+#[derive(Clone, Copy, Drop)]
+pub(crate) struct Step {
+    pub(crate) dx: Nm,
+    pub(crate) dy: Nm,
+}
+
+impl Step {
+    // The same in half nanometres.
+    fn doubled(self) -> Shift
+        requires dx { unsigned_abs self.dx ≤ 1000000000 }
+        requires dy { unsigned_abs self.dy ≤ 1000000000 }
+        ensures { result ≡ record { dx = pos 2 *ℤ self.dx; dy = pos 2 *ℤ self.dy } }
+    {
+        Shift {
+            dx: 2 * self.dx,
+            dy: 2 * self.dy,
+        }
+    }
+}
+
+impl What {
+    fn is_note(&self) -> bool
+        ensures { result ≡ is_note self.now }
+    {
+        matches!(self, What::Note { .. })
+    }
+}
+
+// Whether the item moves with the unit.
+fn moves(item: &Item, unit: u32) -> bool
+    ensures { result ≡ moves unit item.now }
+{
+    item.unit == unit && !item.what.is_note()
+}
+
+// Whether the coordinate of a position stays on the board where it changes by so much.
+fn stays_near(at: Nm, by: Nm) -> bool
+    ensures { result ≡ is_near (at +ℤ by) }
+{
+    match at.checked_add(by) {
+        None => false,
+        Some(moved) => is_near(moved),
+    }
+}
+
+// ---- whether all points stay on the board
+
+fn parts_stay(parts: &[Part], by: Shift) -> bool
+    ensures { result ≡ list_all (λ part. core_stays by.dx by.dy part.shape.core) parts.now }
+{
+    parts.iter().all(|part| part.shape.stays(by))
+}
+
+fn hole_stays(hole: &Option<Hole>, by: Shift) -> bool
+    ensures { result ≡ list_all (λ part. core_stays by.dx by.dy part.shape.core) (hole_parts hole.now) }
+{
+    match hole {
+        None => true,
+        Some(hole) => hole.shape.stays(by),
+    }
+}
+
+fn kind_stays(what: &What, by: Shift) -> bool
+    ensures { result ≡ list_all (λ part. core_stays by.dx by.dy part.shape.core) (kind_parts what.now) }
+{
+    let (first, second) = what.parts();
+    parts_stay(first, by) && parts_stay(second, by)
+}
+
+// Its hole, and what its kind gives.
+fn others_stay(item: &Item, by: Shift) -> bool
+    ensures { result ≡ list_all (λ part. core_stays by.dx by.dy part.shape.core) (hole_parts item.now.hole ++ kind_parts item.now.what) }
+{
+    hole_stays(&item.hole, by) && kind_stays(&item.what, by)
+}
+
+fn shapes_stay(item: &Item, by: Shift) -> bool
+    ensures { result ≡ list_all (λ part. core_stays by.dx by.dy part.shape.core) (parts_of item.now) }
+{
+    parts_stay(item.copper.as_slice(), by) && others_stay(item, by)
+}
+
+fn place_stays(item: &Item, step: Step) -> bool
+    ensures { result ≡ (is_near (item.now.x +ℤ step.dx) && is_near (item.now.y +ℤ step.dy)) }
+{
+    stays_near(item.x, step.dx) && stays_near(item.y, step.dy)
+}
+
+fn item_stays(item: &Item, step: Step) -> bool
+    requires { is_on_board item.now ≡ true }
+    ensures { result ≡ item_stays step.dx step.dy item.now }
+{
+    if !place_stays(item, step) {
+        return false;
+    }
+    shapes_stay(item, step.doubled())
+}
+
+// Whether the item stays, or does not move with the unit.
+fn entry_stays(item: &Item, unit: u32, step: Step) -> bool
+    requires { is_on_board item.now ≡ true }
+    ensures { result ≡ (if moves unit item.now then item_stays step.dx step.dy item.now else true) }
+{
+    !moves(item, unit) || item_stays(item, step)
+}
+
+// Whether each item that moves with the unit stays on the board.
+pub(crate) fn unit_stays(items: &[(u32, Item)], unit: u32, step: Step) -> bool
+    requires { All (λ entry. is_on_board entry.1 ≡ true) items.now }
+    ensures { result ≡ unit_stays unit step.dx step.dy items.now }
+{
+    for entry in items {
+        if !entry_stays(&entry.1, unit, step) {
+            return false;
+        }
+    }
+    true
+}
+
+// ---- moving
+
+fn shift_part(part: &mut Part, by: Shift)
+    requires { core_stays by.dx by.dy part.old.shape.core ≡ true }
+    ensures { IsShiftedPart by.dx by.dy part.old part.new }
+{
+    part.shape.shift(by);
+}
+
+fn shift_parts(parts: &mut [Part], by: Shift)
+    requires { list_all (λ part. core_stays by.dx by.dy part.shape.core) parts.old ≡ true }
+    ensures { AreShifted by.dx by.dy parts.old parts.new }
+{
+    for part in parts.iter_mut() {
+        shift_part(part, by);
+    }
+}
+
+impl Parts {
+    fn shift(&mut self, by: Shift)
+        requires { list_all (λ part. core_stays by.dx by.dy part.shape.core) self.old ≡ true }
+        ensures { AreShifted by.dx by.dy self.old self.new }
+    {
+        shift_parts(self.list.as_mut_slice(), by);
+    }
+}
+
+fn shift_hole(hole: &mut Option<Hole>, by: Shift)
+    requires { list_all (λ part. core_stays by.dx by.dy part.shape.core) (hole_parts hole.old) ≡ true }
+    ensures { HoleIsShifted by.dx by.dy hole.old hole.new }
+{
+    if let Some(hole) = hole {
+        hole.shape.shift(by);
+    }
+}
+
+impl What {
+    fn shift(&mut self, by: Shift)
+        requires { list_all (λ part. core_stays by.dx by.dy part.shape.core) (kind_parts self.old) ≡ true }
+        ensures { KindIsShifted by.dx by.dy self.old self.new }
+    {
+        match self {
+            What::Edge { lines } => lines.inner.shift(by),
+            What::Area { shape, .. } => shift_part(&mut shape.inner, by),
+            What::Body { front, back, .. } => {
+                front.inner.shift(by);
+                back.inner.shift(by);
+            }
+            What::Track { .. }
+            | What::Via { .. }
+            | What::Pad { .. }
+            | What::Graphic
+            | What::Fill
+            | What::Note { .. } => {}
+        }
+    }
+}
+
+fn shift_item(item: &mut Item, step: Step)
+    requires on_board { is_on_board item.old ≡ true }
+    requires stays { item_stays step.dx step.dy item.old ≡ true }
+    ensures { IsShiftedItem step.dx step.dy item.old item.new }
+{
+    let by = step.doubled();
+    item.x += step.dx;
+    item.y += step.dy;
+    item.copper.shift(by);
+    shift_hole(&mut item.hole, by);
+    item.what.shift(by);
+}
+
+// Moves the item if it moves with the unit.
+fn shift_entry(entry: &mut (u32, Item), unit: u32, step: Step)
+    requires on_board { is_on_board entry.old.1 ≡ true }
+    requires stays { (if moves unit entry.old.1 then item_stays step.dx step.dy entry.old.1 else true) ≡ true }
+    ensures { IsMovedEntry unit step.dx step.dy entry.old entry.new }
+{
+    if moves(&entry.1, unit) {
+        shift_item(&mut entry.1, step);
+    }
+}
+
+// Moves each item that moves with the unit.
+pub(crate) fn shift_unit(items: &mut [(u32, Item)], unit: u32, step: Step)
+    requires on_board { All (λ entry. is_on_board entry.1 ≡ true) items.old }
+    requires stays { unit_stays unit step.dx step.dy items.old ≡ true }
+    ensures { AllZip (IsMovedEntry unit step.dx step.dy) items.old items.new }
+{
+    for entry in items.iter_mut() {
+        shift_entry(entry, unit, step);
+    }
+}

@@ -1,0 +1,6 @@
+use Rattle.std.specs.List.{AllWithin}
+use Rattle.board_items.specs.Copper.{PartsMeet}
+use Rattle.item_copper.proofs.touch.touches_some.Given as goal
+
+abbrev pub invariant-loop-other : goal.invariant-loop-other
+invariant-loop-other l = AllWithin (λ other. ¬ (PartsMeet l.part other)) l.others 0 l.other-index

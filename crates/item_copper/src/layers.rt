@@ -1,0 +1,13 @@
+//! Layers that two parts share.
+
+ghost use Rattle.std.specs.Prelude.{ℕ, IsTrue, ◌↔◌};
+ghost use Rattle.board_items.specs.Layers.{has_layer};
+
+use board_items::LayerSet;
+
+// Whether some layer is in both sets.
+pub(crate) fn share_layer(a: LayerSet, b: LayerSet) -> bool
+    ensures { IsTrue result ↔ ((layer : ℕ) × IsTrue (has_layer a layer) × IsTrue (has_layer b layer)) }
+{
+    a.bits & b.bits != 0
+}
