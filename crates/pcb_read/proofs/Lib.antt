@@ -1,3 +1,1 @@
-pub mod Shapes
-pub mod Names
-pub mod Items
+pub mod Making

@@ -1,6 +1,6 @@
-//! Boards of KiCad 7, read from their text.
+//! Boards of KiCad 7 and KiCad 8, read from their text.
 //!
-//! The format is that of the KiCad developer documentation, version 20221018. Lengths are millimetres in the text and
+//! The format is that of the KiCad developer documentation, versions 20221018 and 20240108. Lengths are millimetres in the text and
 //! whole nanometres on the board, what is finer cut off.
 #![tactic(auto)]
 
@@ -9,11 +9,9 @@ ghost use Rattle.board_items.specs.declared.errors.BoardError.{BoardError};
 ghost use Rattle.board_items.specs.Boards.{PlainBoard};
 ghost use Rattle.pcb_read.specs.BoardText.{Says};
 
-mod copper;
-mod elements;
+mod items;
 pub mod laws;
 mod nets;
-mod on_board;
 mod root;
 #[cfg(test)]
 mod tests;

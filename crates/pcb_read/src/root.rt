@@ -1,19 +1,19 @@
 //! The root of a board's text, part by part.
 
-ghost use Rattle.std.specs.Prelude.{◌≡◌, option_map, find, true, false, is_some, OnOk};
+ghost use Rattle.std.specs.Prelude.{◌≡◌, option_map, find, true, false, is_some, Ok, OnOk};
 ghost use Rattle.std.specs.List.{list_any};
 ghost use Rattle.sexpr_read.specs.Tree.{Tree, parts, is_list};
 ghost use Rattle.sexpr_read.specs.Views.{tree_of, trees_left};
 ghost use Rattle.board_items.specs.Boards.{PlainBoard, IsSound, name_of, is_admitted};
-ghost use Rattle.pcb_read.specs.Elements.{has_head};
-ghost use Rattle.pcb_read.specs.Nodes.{Gives, Leaves};
-ghost use Rattle.pcb_read.specs.BoardOf.{Reading, with_layers, has_room, with_item_of, not_built, refused_part, with_track, with_via, with_part, with_parts, version_in, unread, board_of};
+ghost use Rattle.part_read.specs.Elements.{has_head};
+ghost use Rattle.part_read.specs.Nodes.{Gives, Leaves};
+ghost use Rattle.pcb_read.specs.Tracks.{track_of, via_of};
+ghost use Rattle.pcb_read.specs.BoardOf.{Reading, with_layers, has_room, with_one, items_of, not_built, with_other, with_part, with_parts, version_in, unread, board_of};
 
-use crate::copper::layers_in;
-use crate::elements::{first_atom, has_head, place};
 use crate::nets::read_net;
 use crate::tracks::{track_of, via_of};
 use board_items::{Board, BoardError, Item, ItemError, LayerSet};
+use part_read::{first_atom, has_head, layers_listed, place};
 use sexpr_read::Node;
 use std::alloc::Global;
 
@@ -29,7 +29,7 @@ fn first_list<'d, 't>(node: Node<'d, 't>) -> Option<Node<'d, 't>>
     None
 }
 
-/// Whether the root begins with `(version 20221018)`.
+/// Whether the root begins with `(version N)`, N being that of KiCad 7 or KiCad 8.
 #[tactic(auto, unfolding(crate::specs::BoardOf::version_in))]
 fn check_version(root: Node<'_, '_>) -> Result<(), BoardError>
     ensures { result ≡ version_in (tree_of root.entry) }
@@ -37,7 +37,7 @@ fn check_version(root: Node<'_, '_>) -> Result<(), BoardError>
     match first_list(root) {
         Some(list) if has_head(list, b"version") => {
             let atom = first_atom(list)?;
-            if atom.is(b"20221018") {
+            if atom.is(b"20221018") || atom.is(b"20240108") {
                 Ok(())
             } else {
                 Err(BoardError::Version { at: place(atom) })
@@ -57,7 +57,7 @@ fn read_layers(board: &mut Board, layered: &mut bool, list: Node<'_, '_>) -> Res
     if *layered {
         return Ok(());
     }
-    let copper = layers_in(list)?;
+    let copper = layers_listed(list)?;
     board.set_copper(copper);
     *layered = true;
     Ok(())
@@ -65,19 +65,18 @@ fn read_layers(board: &mut Board, layered: &mut bool, list: Node<'_, '_>) -> Res
 
 /// Whether there is room for one more item, an id and a unit number.
 fn has_room(board: &Board) -> bool
-    ensures value { result ≡ has_room board.now }
+    ensures value { result ≡ has_room board.now board.now.next_unit 1 }
     ensures sound { IsSound board.now }
 {
-    0 < board.left() && board.next_unit() < u32::MAX
+    1 <= board.left() && board.next_unit() < u32::MAX
 }
 
-/// Appends the item, unless the board is full.
-#[tactic(auto, unfolding(crate::specs::BoardOf::with_item_of))]
+/// Appends the one item of a list, as a unit of its own, unless the board is full.
 fn add_item(board: &mut Board, node: Node<'_, '_>, item: Item) -> Result<(), BoardError>
     requires unit { item.unit ≡ board.old.next_unit }
     requires admitted { is_some (name_of board.old 0) ≡ true → is_admitted board.old item ≡ true }
     ensures copper { OnOk result (board.new.copper ≡ board.old.copper) }
-    ensures added { Leaves result board.new (with_item_of board.old (tree_of node.entry) item) }
+    ensures added { Leaves result board.new (with_one board.old (tree_of node.entry) (Ok item)) }
 {
     if !has_room(board) {
         return Err(BoardError::TooMany { at: place(node) });
@@ -136,23 +135,8 @@ fn is_not_built(node: Node<'_, '_>) -> bool
     false
 }
 
-/// Refuses what is not read; all other parts are passed over.
-#[tactic(auto, unfolding(crate::specs::BoardOf::refused_part))]
-fn refuse_part(node: Node<'_, '_>) -> Result<(), BoardError>
-    ensures { result ≡ refused_part (tree_of node.entry) }
-{
-    if has_head(node, b"arc") {
-        return Err(BoardError::Arc { at: place(node) });
-    }
-    if is_not_built(node) {
-        return Err(BoardError::NotBuilt { at: place(node) });
-    }
-    Ok(())
-}
-
-#[tactic(auto, unfolding(crate::specs::BoardOf::with_track))]
 fn read_track(alloc: Global, board: &mut Board, node: Node<'_, '_>) -> Result<(), BoardError>
-    ensures read { Leaves result board.new (with_track board.old (tree_of node.entry)) }
+    ensures read { Leaves result board.new (with_one board.old (tree_of node.entry) (track_of board.old board.old.next_unit (tree_of node.entry))) }
     ensures copper { OnOk result (board.new.copper ≡ board.old.copper) }
 {
     let unit = board.next_unit();
@@ -160,9 +144,8 @@ fn read_track(alloc: Global, board: &mut Board, node: Node<'_, '_>) -> Result<()
     add_item(board, node, track)
 }
 
-#[tactic(auto, unfolding(crate::specs::BoardOf::with_via))]
 fn read_via(alloc: Global, board: &mut Board, node: Node<'_, '_>) -> Result<(), BoardError>
-    ensures read { Leaves result board.new (with_via board.old (tree_of node.entry)) }
+    ensures read { Leaves result board.new (with_one board.old (tree_of node.entry) (via_of board.old board.old.next_unit (tree_of node.entry))) }
     ensures copper { OnOk result (board.new.copper ≡ board.old.copper) }
 {
     let unit = board.next_unit();
@@ -170,8 +153,29 @@ fn read_via(alloc: Global, board: &mut Board, node: Node<'_, '_>) -> Result<(), 
     add_item(board, node, via)
 }
 
+/// Reads a part that gives no items; what is neither a net nor the layers is passed over.
+#[tactic(auto, unfolding(crate::specs::BoardOf::with_other))]
+fn read_other(
+    alloc: Global,
+    board: &mut Board,
+    layered: &mut bool,
+    node: Node<'_, '_>,
+) -> Result<(), BoardError>
+    requires { layered.old ≡ false → board.old.copper.bits ≡ 0 }
+    ensures read { Leaves result (record { board = board.new; layered = layered.new }) (with_other (record { board = board.old; layered = layered.old }) (tree_of node.entry)) }
+    ensures unlisted { OnOk result (layered.new ≡ false → board.new.copper.bits ≡ 0) }
+{
+    if has_head(node, b"net") {
+        read_net(alloc, board, node)
+    } else if has_head(node, b"layers") {
+        read_layers(board, layered, node)
+    } else {
+        Ok(())
+    }
+}
+
 /// Reads one part of the root.
-#[tactic(auto, unfolding(crate::specs::BoardOf::with_part))]
+#[tactic(auto, unfolding(crate::specs::BoardOf::with_part, crate::specs::BoardOf::items_of))]
 fn read_part(
     alloc: Global,
     board: &mut Board,
@@ -186,13 +190,24 @@ fn read_part(
         read_track(alloc, board, node)
     } else if has_head(node, b"via") {
         read_via(alloc, board, node)
-    } else if has_head(node, b"net") {
-        read_net(alloc, board, node)
-    } else if has_head(node, b"layers") {
-        read_layers(board, layered, node)
+    } else if has_head(node, b"arc") {
+        Err(BoardError::Arc { at: place(node) })
+    } else if is_not_built(node) {
+        Err(BoardError::NotBuilt { at: place(node) })
     } else {
-        refuse_part(node)
+        read_other(alloc, board, layered, node)
     }
+}
+
+/// How many parts the root has, as far as a board may have items.
+fn count_parts(root: Node<'_, '_>) -> usize {
+    let mut count = 0;
+    for _ in root.children() {
+        if count < 200_000 {
+            count += 1;
+        }
+    }
+    count
 }
 
 /// The board of the root, or the first reason in the text why there is none.
@@ -205,6 +220,8 @@ pub(crate) fn board_of(alloc: Global, root: Node<'_, '_>) -> Result<Board, Board
     }
     check_version(root)?;
     let mut board = Board::new(alloc, LayerSet { bits: 0 })?;
+    // Most parts are items: room for all of them is made once.
+    board.reserve(count_parts(root))?;
     let mut layered = false;
     for part in root.children() {
         read_part(alloc, &mut board, &mut layered, part)?;

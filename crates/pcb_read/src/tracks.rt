@@ -1,33 +1,30 @@
 //! Tracks and vias.
 
-ghost use Rattle.std.specs.Prelude.{◌≡◌, ◌∷◌, [], true, is_some, IfOk, IsTrue};
-ghost use Rattle.board_items.specs.declared.layers.LayerSet.{LayerSet};
-ghost use Rattle.std.specs.List.{list_all};
-ghost use Rattle.board_items.specs.Layers.{is_within};
-ghost use Rattle.board_items.specs.Parts.{hole_parts};
+ghost use Rattle.std.specs.Prelude.{◌≡◌, true, is_some, IfOk};
 ghost use Rattle.board_items.specs.Boards.{name_of, is_admitted};
-ghost use Rattle.sexpr_read.specs.Views.{tree_of, trees_left};
-ghost use Rattle.pcb_read.specs.Nodes.{Gives};
-ghost use Rattle.pcb_read.specs.Tracks.{track_of, drill_in, hole_through, has_word, via_of};
+ghost use Rattle.sexpr_read.specs.Views.{tree_of};
+ghost use Rattle.part_read.specs.Nodes.{Gives};
+ghost use Rattle.pcb_read.specs.Tracks.{track_of, via_of};
 
-use crate::copper::{layer_of, layers_through};
-use crate::elements::{element, first_atom, name_in, pair_of, place, size_in, size_of};
-use crate::nets::net_in;
-use crate::on_board::{point_of, strip_between};
-use board_items::{Board, BoardError, Hole, Item, LayerSet, Nm, Part, Parts, What};
-use geo_seg::{Point, Shape};
+use crate::items::{Origin, ViaForm, track_along, via_of_form};
+use board_items::{Board, BoardError, Item, LayerSet};
+use part_read::{
+    Strip, Wanted, find_elements, has_word, layer_of, layers_through, name_in, net_of, pick, place,
+    size_given, size_of, spot_of,
+};
 use sexpr_read::Node;
-use smallvec::SmallVec;
 use std::alloc::Global;
 
-/// The list of one part.
-fn one_part(alloc: Global, layers: LayerSet, shape: Shape) -> Parts
-    ensures { result ≡ record { layers = layers; shape = shape } ∷ [] }
-{
-    let mut list = SmallVec::new(alloc);
-    list.push_reserved(Part { layers, shape });
-    Parts::of(list)
-}
+// ---- tracks
+
+const SEGMENT: [Wanted; 6] = [
+    Wanted::Head(b"start"),
+    Wanted::Head(b"end"),
+    Wanted::Head(b"width"),
+    Wanted::Head(b"layer"),
+    Wanted::Head(b"net"),
+    Wanted::Name,
+];
 
 /// The track of `(segment (start X Y) (end X Y) (width W) (layer NAME) (net N) (tstamp NAME))`.
 #[tactic(auto, unfolding(crate::specs::Tracks::track_of))]
@@ -41,76 +38,36 @@ pub(crate) fn track_of(
     ensures unit { IfOk result (λ item. item.unit ≡ unit) }
     ensures admitted { is_some (name_of board.now 0) ≡ true → IfOk result (λ item. is_admitted board.now item ≡ true) }
 {
-    let (x, y) = pair_of(node, b"start")?;
-    let (end_x, end_y) = pair_of(node, b"end")?;
-    let width = size_of(node, b"width")?;
-    let layer = layer_of(board.copper(), node)?;
-    let net = net_in(board, node)?;
-    let Some(shape) = strip_between(point_of(x, y), point_of(end_x, end_y), width) else {
-        return Err(BoardError::OutOfBoard { at: place(node) });
-    };
-    Ok(Item {
-        name: name_in(alloc, node)?,
+    let mut found = [None; 6];
+    find_elements(node, &SEGMENT, &mut found);
+    let a = spot_of(node, pick(&found, 0))?;
+    let b = spot_of(node, pick(&found, 1))?;
+    let width = size_of(node, pick(&found, 2))?;
+    let layer = layer_of(board.copper(), node, pick(&found, 3))?;
+    let net = net_of(board, pick(&found, 4))?;
+    let strip = Strip { a, b, width };
+    let origin = Origin {
+        name: name_in(alloc, pick(&found, 5))?,
         unit,
         net,
-        x,
-        y,
-        copper: one_part(alloc, LayerSet::of(layer), shape),
-        hole: None,
-        local: None,
-        what: What::Track { width },
-    })
+        layers: LayerSet::of(layer),
+    };
+    match track_along(alloc, strip, origin) {
+        Some(track) => Ok(track),
+        None => Err(BoardError::OutOfBoard { at: place(node) }),
+    }
 }
 
 // ---- vias
 
-/// The drill of `(drill D)`, if there is one.
-#[tactic(auto, unfolding(crate::specs::Tracks::drill_in))]
-fn drill_in(node: Node<'_, '_>) -> Result<Option<Nm>, BoardError>
-    ensures { result ≡ drill_in (tree_of node.entry) }
-{
-    match element(node, b"drill") {
-        None => Ok(None),
-        Some(list) => Ok(Some(size_in(first_atom(list)?)?)),
-    }
-}
-
-/// A round hole through these layers, where the via has a drill.
-fn hole_through(
-    node: Node<'_, '_>,
-    at: Option<Point>,
-    layers: LayerSet,
-    drill: Option<Nm>,
-) -> Result<Option<Hole>, BoardError>
-    ensures hole { result ≡ hole_through (tree_of node.entry) at layers drill }
-    ensures within { (copper : LayerSet) → IsTrue (is_within layers copper) → IfOk result (λ hole. list_all (λ part. is_within part.layers copper) (hole_parts hole) ≡ true) }
-{
-    let Some(drill) = drill else {
-        return Ok(None);
-    };
-    match strip_between(at, at, drill) {
-        None => Err(BoardError::OutOfBoard { at: place(node) }),
-        Some(shape) => Ok(Some(Hole {
-            shape,
-            layers,
-            plated: true,
-            least: drill,
-        })),
-    }
-}
-
-/// Whether the word stands in the list.
-#[tactic(auto, unfolding(crate::specs::Tracks::has_word))]
-fn has_word(node: Node<'_, '_>, word: &[u8]) -> bool
-    ensures { result ≡ has_word word.now (tree_of node.entry) }
-{
-    for part in node.children() {
-        if part.is(word) {
-            return true;
-        }
-    }
-    false
-}
+const VIA: [Wanted; 6] = [
+    Wanted::Head(b"at"),
+    Wanted::Head(b"size"),
+    Wanted::Head(b"drill"),
+    Wanted::Head(b"layers"),
+    Wanted::Head(b"net"),
+    Wanted::Name,
+];
 
 /// The via of `(via blind micro (at X Y) (size S) (drill D) (layers NAME NAME) (net N) (tstamp NAME))`.
 #[tactic(auto, unfolding(crate::specs::Tracks::via_of))]
@@ -124,30 +81,28 @@ pub(crate) fn via_of(
     ensures unit { IfOk result (λ item. item.unit ≡ unit) }
     ensures admitted { is_some (name_of board.now 0) ≡ true → IfOk result (λ item. is_admitted board.now item ≡ true) }
 {
-    let (x, y) = pair_of(node, b"at")?;
-    let size = size_of(node, b"size")?;
-    let drill = drill_in(node)?;
-    let layers = layers_through(board.copper(), node)?;
-    let net = net_in(board, node)?;
-    let at = point_of(x, y);
-    let Some(shape) = strip_between(at, at, size) else {
-        return Err(BoardError::OutOfBoard { at: place(node) });
+    let mut found = [None; 6];
+    find_elements(node, &VIA, &mut found);
+    let at = spot_of(node, pick(&found, 0))?;
+    let size = size_of(node, pick(&found, 1))?;
+    let drill = size_given(pick(&found, 2))?;
+    let layers = layers_through(board.copper(), node, pick(&found, 3))?;
+    let net = net_of(board, pick(&found, 4))?;
+    let form = ViaForm {
+        at,
+        size,
+        drill,
+        micro: has_word(node, b"micro"),
+        blind: has_word(node, b"blind"),
     };
-    let hole = hole_through(node, at, layers, drill)?;
-    Ok(Item {
-        name: name_in(alloc, node)?,
+    let origin = Origin {
+        name: name_in(alloc, pick(&found, 5))?,
         unit,
         net,
-        x,
-        y,
-        copper: one_part(alloc, layers, shape),
-        hole,
-        local: None,
-        what: What::Via {
-            size,
-            drill: drill.unwrap_or(0),
-            micro: has_word(node, b"micro"),
-            blind: has_word(node, b"blind"),
-        },
-    })
+        layers,
+    };
+    match via_of_form(alloc, &form, origin) {
+        Some(via) => Ok(via),
+        None => Err(BoardError::OutOfBoard { at: place(node) }),
+    }
 }

@@ -1,0 +1,279 @@
+-- The items of graphics and of notes may stand on the board.
+use Rattle.std.proofs.Common.{◌≡◌, ◌∙◌, refl, ap, sym, subst, ℕ, ◌≤◌, ◌<◌, ℤ, pos, arith, List, [], ◌∷◌, ◌++◌, length, map, All, Bool, true, false, ◌&&◌, cond, leb, not, is_some, IsTrue, Option, None, Some, Result, Ok, Err, codes}
+use Rattle.std.specs.List.{list_all}
+use Rattle.std.proofs.lemmas.Bool.{leb-true}
+use Rattle.std.proofs.lemmas.List.Elements.{All-nil, All-cons}
+use Rattle.sexpr_read.specs.Tree.{Tree, parts}
+use Rattle.geo_seg.specs.declared.points.Point.{Point}
+use Rattle.geo_seg.specs.declared.shapes.Core.{Core}
+use Rattle.board_items.specs.declared.errors.BoardError.{BoardError}
+use Rattle.board_items.specs.declared.layers.LayerSet.{LayerSet}
+use Rattle.board_items.specs.declared.parts.Part.{Part}
+use Rattle.board_items.specs.declared.item.About.{About}
+use Rattle.board_items.specs.declared.item.What.TheVariants.{Graphic, Edge, Note}
+use Rattle.board_items.specs.declared.item.Item.{Item}
+use Rattle.board_items.specs.Layers.{has_layer, is_within, single_layer}
+use Rattle.board_items.specs.Boards.{PlainBoard, name_of, is_admitted}
+use Rattle.board_items.proofs.LayerLemmas.{single_within}
+use Rattle.part_read.specs.declared.numbers.Spot.{Spot}
+use Rattle.part_read.specs.declared.stances.Stance.{Stance}
+use Rattle.part_read.specs.declared.radii.Radius.{Radius}
+use Rattle.part_read.specs.declared.figures.Figure.{Figure}
+use Rattle.part_read.specs.declared.figures.Figure.TheVariants.{Line, Rect, Circle, Outline}
+use Rattle.part_read.specs.declared.figures.Drawing.{Drawing}
+use Rattle.part_read.specs.declared.drawings.Kind.{Kind}
+use Rattle.part_read.specs.declared.drawings.Kind.TheVariants.{Line as LineKind, Rect as RectKind, Circle as CircleKind, Outline as OutlineKind}
+use Rattle.part_read.specs.declared.graphics.Ground.{Ground}
+use Rattle.part_read.specs.declared.graphics.Ground.TheVariants.{Copper, Outlines, Front, Back, Elsewhere}
+use Rattle.part_read.specs.Elements.{◌>>=◌, needed, check, place, element, atom_of, in_needed, name_among, name_in}
+use Rattle.board_items.specs.declared.errors.BoardError.TheVariants.{Missing, OutOfBoard, Ring}
+use Rattle.part_read.specs.OnBoard.{tested, is_length, fits_board, point_at}
+use Rattle.part_read.specs.NetsOf.{declared_in, net_among, net_of}
+use Rattle.part_read.specs.Numbers.{number_in, spot_of}
+use Rattle.part_read.specs.Stances.{stood, point_stood, with_point, points_stood}
+use Rattle.part_read.specs.Figures.{cores_between, cores_around, cores_of, around, radius_of, radius_with, parts_around, drawn, drawn_edge, first_of, first_spot, is_ring, is_circle}
+use Rattle.part_read.specs.Drawings.{spots_among, enough, corners_in, corners_of, width_of, fill_of, line_drawing, rect_drawing, circle_drawing, outline_drawing, drawing_of}
+use Rattle.part_read.specs.Grounds.{IsOn}
+use Rattle.part_read.specs.PlainItems.{plain_item}
+use Rattle.part_read.specs.Ready.{IsReady}
+use Rattle.part_read.specs.Graphics.{copper_graphic, edge_graphic, note_of, graphic_by, text_by}
+use Rattle.part_read.proofs.Layering.{none_within}
+use Rattle.part_read.proofs.Reach.{both_ok}
+
+-- ---- what an answer was made of
+
+needed_ok : {A : Type 0} (e : BoardError) (o : Option A) (x : A) → needed e o ≡ Ok x → o ≡ Some x
+needed_ok e None x h = absurd cc
+needed_ok e (Some y) x h = let s : y ≡ x = cc in ap (λ (z : _). Some z) s
+
+same_ok : {A : Type 0} {x y : A} → (let r : Result A BoardError = Ok x in r) ≡ Ok y → x ≡ y
+same_ok h = cc
+
+same_some : {A : Type 0} {x y : A} → Some x ≡ Some y → x ≡ y
+same_some h = cc
+
+-- ---- outlines have a first spot
+
+abbrev pub IsStarted : Figure → Type 0
+IsStarted (Outline spots) = 1 ≤ length spots
+IsStarted figure = Unit {0}
+
+started_by : (e : BoardError) (spots corners : List Spot) (b : Bool) → leb 3 (length spots) ≡ b → (check e b >>= λ _. Ok spots) ≡ Ok corners → 1 ≤ length corners
+started_by e spots corners true k h =
+    let same : spots ≡ corners = same_ok h in
+    let some = leb-true 3 (length spots) k in
+    subst (λ (ss : List Spot). 1 ≤ length ss) same (omega (arith, some))
+started_by e spots corners false k h = absurd cc
+
+corners_started : (tree : Tree) (corners : List Spot) → corners_of tree ≡ Ok corners → 1 ≤ length corners
+unfolding corners_in
+corners_started tree corners h =
+    let a = both_ok (needed _ (element (codes "pts") tree)) corners_in corners h in
+    let b = both_ok (spots_among false (parts a.0)) (enough a.0) corners a.1.1 in
+    started_by (Missing (place a.0)) b.0 corners (leb 3 (length b.0)) refl b.1.1
+
+moved_start : {d e : Drawing} → d ≡ e → IsStarted d.figure → IsStarted e.figure
+moved_start {d} {e} h k = subst (λ (x : Drawing). IsStarted x.figure) h k
+
+line_started : (tree : Tree) (d : Drawing) → line_drawing tree ≡ Ok d → IsStarted d.figure
+unfolding line_drawing
+line_started tree d h =
+    let a = both_ok (spot_of (codes "start") tree) _ d h in
+    let b = both_ok (spot_of (codes "end") tree) _ d a.1.1 in
+    let c = both_ok (width_of tree) _ d b.1.1 in
+    moved_start (same_ok c.1.1) tt
+
+rect_started : (tree : Tree) (d : Drawing) → rect_drawing tree ≡ Ok d → IsStarted d.figure
+unfolding rect_drawing
+rect_started tree d h =
+    let a = both_ok (spot_of (codes "start") tree) _ d h in
+    let b = both_ok (spot_of (codes "end") tree) _ d a.1.1 in
+    let c = both_ok (width_of tree) _ d b.1.1 in
+    let f = both_ok (fill_of false tree) _ d c.1.1 in
+    moved_start (same_ok f.1.1) tt
+
+circle_started : (tree : Tree) (d : Drawing) → circle_drawing tree ≡ Ok d → IsStarted d.figure
+unfolding circle_drawing
+circle_started tree d h =
+    let a = both_ok (spot_of (codes "center") tree) _ d h in
+    let b = both_ok (spot_of (codes "end") tree) _ d a.1.1 in
+    let c = both_ok (width_of tree) _ d b.1.1 in
+    let f = both_ok (fill_of false tree) _ d c.1.1 in
+    moved_start (same_ok f.1.1) tt
+
+outline_started : (tree : Tree) (d : Drawing) → outline_drawing tree ≡ Ok d → IsStarted d.figure
+unfolding outline_drawing
+outline_started tree d h =
+    let a = both_ok (corners_of tree) _ d h in
+    let b = both_ok (width_of tree) _ d a.1.1 in
+    let f = both_ok (fill_of true tree) _ d b.1.1 in
+    moved_start (same_ok f.1.1) (corners_started tree a.0 a.1.0)
+
+drawing_started : (kind : Kind) (tree : Tree) (d : Drawing) → drawing_of kind tree ≡ Ok d → IsStarted d.figure
+drawing_started LineKind tree d h = line_started tree d h
+drawing_started RectKind tree d h = rect_started tree d h
+drawing_started CircleKind tree d h = circle_started tree d h
+drawing_started OutlineKind tree d h = outline_started tree d h
+
+-- ---- where it is said to be, it lies on the board
+
+tested_holds : {A : Type 0} (test : Bool) (make : test ≡ true → A) (x : A) → tested test make ≡ Some x → test ≡ true
+tested_holds true make x h = refl
+tested_holds false make x h = absurd cc
+
+with_first : (p : Option Point) (ps : Option (List Point)) (all : List Point) → with_point p ps ≡ Some all → (q : Point) × (p ≡ Some q)
+with_first None ps all h = absurd cc
+with_first (Some p) None all h = absurd cc
+with_first (Some p) (Some ps) all h = (p, refl)
+
+point_near : (stance : Stance) (s : Spot) (p : Point) → point_stood stance s ≡ Some p → fits_board (stood stance s) ≡ true
+point_near stance s p h = tested_holds (fits_board (stood stance s)) (point_at (stood stance s)) p h
+
+between_first : (f : Point → Point → List Core) (p q : Option Point) (cores : List Core) → cores_between f p q ≡ Some cores → (a : Point) × (p ≡ Some a)
+between_first f None q cores h = absurd cc
+between_first f (Some p) None cores h = absurd cc
+between_first f (Some p) (Some q) cores h = (p, refl)
+
+around_first : (filled : Bool) (ps : Option (List Point)) (cores : List Core) → cores_around filled ps ≡ Some cores → (all : List Point) × (ps ≡ Some all)
+around_first filled None cores h = absurd cc
+around_first filled (Some ps) cores h = (ps, refl)
+
+spots_near : (stance : Stance) (spots : List Spot) (ps : List Point) → 1 ≤ length spots → points_stood stance spots ≡ Some ps → fits_board (stood stance (first_of spots)) ≡ true
+spots_near stance [] ps n h = absurd (omega (arith, n))
+spots_near stance (s ∷ ss) ps n h = let found = with_first _ _ ps h in point_near stance s found.0 found.1
+
+figure_near : (stance : Stance) (filled : Bool) (figure : Figure) (cores : List Core) → IsStarted figure → cores_of stance filled figure ≡ Some cores → fits_board (stood stance (first_spot figure)) ≡ true
+figure_near stance filled (Line a b) cores s h = let found = between_first _ _ _ cores h in point_near stance a found.0 found.1
+figure_near stance filled (Rect a b) cores s h = let found = between_first _ _ _ cores h in point_near stance a found.0 found.1
+figure_near stance filled (Circle c r) cores s h = let found = between_first _ _ _ cores h in point_near stance c found.0 found.1
+figure_near stance filled (Outline spots) cores s h = let found = around_first filled _ cores h in spots_near stance spots found.0 s found.1
+
+-- ---- parts
+
+record IsMade (layers : LayerSet) (r : Option Radius) (co : Option (List Core)) (ps : List Part) : Type 0 where
+  radius : Radius
+  cores : List Core
+  of_cores : co ≡ Some cores
+  made : ps ≡ map (λ core. record { layers = layers; shape = around radius core }) cores
+
+made_by : (layers : LayerSet) (r : Option Radius) (co : Option (List Core)) (ps : List Part) → parts_around layers r co ≡ Some ps → IsMade layers r co ps
+made_by layers None co ps h = absurd cc
+made_by layers (Some r) None ps h = absurd cc
+made_by layers (Some r) (Some cores) ps h = record { radius = r; cores = cores; of_cores = refl; made = sym (same_some h) }
+
+both : (a b : Bool) → a ≡ true → b ≡ true → a && b ≡ true
+both true true h k = refl
+both true false h k = cc
+both false b h k = cc
+
+all_within : (layers copper : LayerSet) (r : Radius) (cores : List Core) → is_within layers copper ≡ true
+    → list_all (λ part. is_within part.layers copper) (map (λ core. let p : Part = record { layers = layers; shape = around r core } in p) cores) ≡ true
+all_within layers copper r [] h = refl
+all_within layers copper r (c ∷ cs) h = both _ _ h (all_within layers copper r cs h)
+
+drawn_within : (layers copper : LayerSet) (stance : Stance) (d : Drawing) (ps : List Part) → drawn layers stance d ≡ Some ps → is_within layers copper ≡ true
+    → list_all (λ part. is_within part.layers copper) ps ≡ true
+drawn_within layers copper stance d ps h k =
+    let m = made_by layers _ _ ps h in
+    subst (λ (qs : List Part). list_all (λ part. is_within part.layers copper) qs ≡ true) (sym m.made) (all_within layers copper m.radius m.cores k)
+
+drawn_near : (layers : LayerSet) (stance : Stance) (d : Drawing) (ps : List Part) → IsStarted d.figure → drawn layers stance d ≡ Some ps → fits_board (stood stance (first_spot d.figure)) ≡ true
+drawn_near layers stance d ps s h = let m = made_by layers _ _ ps h in figure_near stance d.filled d.figure m.cores s m.of_cores
+
+-- ---- nets
+
+declared_by : (b : Bool) (n m : ℕ) (e : BoardError) (board : PlainBoard) → is_some (name_of board n) ≡ b → cond {A = Result ℕ BoardError} b (Ok n) (Err e) ≡ Ok m → is_some (name_of board m) ≡ true
+declared_by true n m e board k h = let same : n ≡ m = same_ok h in subst (λ (x : ℕ). is_some (name_of board x) ≡ true) same k
+declared_by false n m e board k h = absurd cc
+
+net_in_list : (board : PlainBoard) (list : Tree) (n : ℕ) → declared_in board list ≡ Ok n → is_some (name_of board n) ≡ true
+unfolding declared_in
+net_in_list board list n k =
+    let a = both_ok (atom_of 1 list) _ n k in
+    let b = both_ok (number_in a.0) _ n a.1.1 in
+    declared_by (is_some (name_of board b.0)) b.0 n _ board refl b.1.1
+
+net_by : (board : PlainBoard) (n : ℕ) (found : Option Tree) → is_some (name_of board 0) ≡ true → net_among board found ≡ Ok n → is_some (name_of board n) ≡ true
+net_by board n None z k = let same : 0 ≡ n = same_ok k in subst (λ (x : ℕ). is_some (name_of board x) ≡ true) same z
+net_by board n (Some list) z k = net_in_list board list n k
+
+pub net_declared : (board : PlainBoard) (tree : Tree) (n : ℕ) → is_some (name_of board 0) ≡ true → net_of board tree ≡ Ok n → is_some (name_of board n) ≡ true
+net_declared board tree n z h = net_by board n (element (codes "net") tree) z h
+
+-- ---- items
+
+ready_by : (board : PlainBoard) (unit : ℕ) (item made : Item) → made ≡ item → is_admitted board made ≡ true → made.unit ≡ unit → IsReady board unit item
+ready_by board unit item made e h k =
+    record { admitted = subst (λ (i : Item). is_admitted board i ≡ true) e h; of_unit = subst (λ (i : Item). i.unit ≡ unit) e k }
+
+admitted_by : (board : PlainBoard) (at : Spot) (net : ℕ) (layers : Bool) → fits_board at ≡ true → is_some (name_of board net) ≡ true → layers ≡ true → (fits_board at && is_some (name_of board net)) && layers ≡ true
+admitted_by board at net layers h k m = both _ _ (both _ _ h k) m
+
+no_more : (copper : LayerSet) (ps : List Part) → list_all (λ part. is_within part.layers copper) ps ≡ true → list_all (λ part. is_within part.layers copper) (ps ++ []) ≡ true
+no_more copper [] h = refl
+no_more copper (p ∷ ps) h = by (is_within p.layers copper) (list_all (λ part. is_within part.layers copper) ps) h (no_more copper ps)
+  where
+    by : (a b : Bool) {c : Bool} → a && b ≡ true → (b ≡ true → c ≡ true) → a && c ≡ true
+    by true b h k = k h
+    by false b h k = absurd cc
+
+copper_ready : (board : PlainBoard) (unit : ℕ) (stance : Stance) (kind : Kind) (layer : ℕ) (tree : Tree) (item : Item) → is_some (name_of board 0) ≡ true → IsTrue (has_layer board.copper layer)
+    → copper_graphic board unit stance kind layer tree ≡ Ok item → IsReady board unit item
+unfolding copper_graphic
+copper_ready board unit stance kind layer tree item z on h =
+    let a = both_ok (drawing_of kind tree) _ item h in
+    let b = both_ok (net_of board tree) _ item a.1.1 in
+    let c = both_ok (check (Ring (place tree)) (not (is_ring a.0))) _ item b.1.1 in
+    let d = both_ok (needed (OutOfBoard (place tree)) (drawn (single_layer layer) stance a.0)) _ item c.1.1 in
+    let drew = needed_ok (OutOfBoard (place tree)) (drawn (single_layer layer) stance a.0) d.0 d.1.0 in
+    let near = drawn_near (single_layer layer) stance a.0 d.0 (drawing_started kind tree a.0 a.1.0) drew in
+    let within = drawn_within (single_layer layer) board.copper stance a.0 d.0 drew ((single_within layer board.copper).1 on) in
+    ready_by board unit item (plain_item (name_in tree) unit b.0 (stood stance (first_spot a.0.figure)) d.0 Graphic refl) (same_ok d.1.1)
+    (admitted_by board (stood stance (first_spot a.0.figure)) b.0 _ near (net_declared board tree b.0 z b.1.0) (no_more board.copper d.0 within)) refl
+
+edge_drawn : (stance : Stance) (d : Drawing) (ps : List Part) (b : Bool) → is_length d.width ≡ b
+    → cond {A = Option (List Part)} b (drawn (record { bits = 0 }) stance (record { figure = d.figure; width = pos 0; filled = false })) None ≡ Some ps
+    → drawn (record { bits = 0 }) stance (record { figure = d.figure; width = pos 0; filled = false }) ≡ Some ps
+edge_drawn stance d ps true k h = h
+edge_drawn stance d ps false k h = absurd cc
+
+edge_ready : (board : PlainBoard) (unit : ℕ) (stance : Stance) (kind : Kind) (tree : Tree) (item : Item) → is_some (name_of board 0) ≡ true → edge_graphic unit stance kind tree ≡ Ok item → IsReady board unit item
+unfolding edge_graphic
+edge_ready board unit stance kind tree item z h =
+    let a = both_ok (drawing_of kind tree) _ item h in
+    let b = both_ok (check (Ring (place tree)) (not (is_circle a.0.figure))) _ item a.1.1 in
+    let c = both_ok (needed (OutOfBoard (place tree)) (drawn_edge stance a.0)) _ item b.1.1 in
+    let drew = edge_drawn stance a.0 c.0 (is_length a.0.width) refl (needed_ok (OutOfBoard (place tree)) (drawn_edge stance a.0) c.0 c.1.0) in
+    let lines : Drawing = record { figure = a.0.figure; width = pos 0; filled = false } in
+    let near = drawn_near (record { bits = 0 }) stance lines c.0 (drawing_started kind tree a.0 a.1.0) drew in
+    let within = drawn_within (record { bits = 0 }) board.copper stance lines c.0 drew (none_within board.copper) in
+    ready_by board unit item (plain_item (name_in tree) unit 0 (stood stance (first_spot a.0.figure)) [] (Edge c.0) refl) (same_ok c.1.1) (admitted_by board (stood stance (first_spot a.0.figure)) 0 _ near z within) refl
+
+pub note_ready : (board : PlainBoard) (unit : ℕ) (name : List ℕ) (about : About) (layer : List ℕ) → is_some (name_of board 0) ≡ true → IsReady board unit (note_of name unit about layer)
+note_ready board unit name about layer z = record { admitted = admitted_by board (record { x = pos 0; y = pos 0 }) 0 true refl z refl; of_unit = refl }
+
+no_items : (board : PlainBoard) (unit : ℕ) (items : List Item) → [] ≡ items → All (IsReady board unit) items
+no_items board unit items e = subst (λ (is : List Item). All (IsReady board unit) is) e (All-nil (IsReady board unit))
+
+this_item : (board : PlainBoard) (unit : ℕ) (item : Item) (items : List Item) → item ∷ [] ≡ items → IsReady board unit item → All (IsReady board unit) items
+this_item board unit item items e h = subst (λ (is : List Item). All (IsReady board unit) is) e (All-cons (IsReady board unit) item [] h (All-nil (IsReady board unit)))
+
+pub graphic_ready : (board : PlainBoard) (unit : ℕ) (stance : Stance) (kind : Kind) (tree : Tree) (lies : Ground) (items : List Item) → is_some (name_of board 0) ≡ true → IsOn board.copper lies
+    → graphic_by board unit stance kind tree lies ≡ Ok items → All (IsReady board unit) items
+graphic_ready board unit stance kind tree (Copper layer) items z on h =
+    let a = both_ok (copper_graphic board unit stance kind layer tree) _ items h in
+    this_item board unit a.0 items (same_ok a.1.1) (copper_ready board unit stance kind layer tree a.0 z on.1 a.1.0)
+graphic_ready board unit stance kind tree Outlines items z on h =
+    let a = both_ok (edge_graphic unit stance kind tree) _ items h in
+    this_item board unit a.0 items (same_ok a.1.1) (edge_ready board unit stance kind tree a.0 z a.1.0)
+graphic_ready board unit stance kind tree Front items z on h = no_items board unit items (same_ok h)
+graphic_ready board unit stance kind tree Back items z on h = no_items board unit items (same_ok h)
+graphic_ready board unit stance kind tree Elsewhere items z on h = no_items board unit items (same_ok h)
+
+pub text_ready : (board : PlainBoard) (unit : ℕ) (about : About) (tree : Tree) (lies : Ground) (items : List Item) → is_some (name_of board 0) ≡ true
+    → text_by unit about tree lies ≡ Ok items → All (IsReady board unit) items
+text_ready board unit about tree (Copper layer) items z h = this_item board unit (note_of (name_in tree) unit about (name_among (element (codes "layer") tree))) items (same_ok h) (note_ready board unit _ about _ z)
+text_ready board unit about tree Outlines items z h = no_items board unit items (same_ok h)
+text_ready board unit about tree Front items z h = no_items board unit items (same_ok h)
+text_ready board unit about tree Back items z h = no_items board unit items (same_ok h)
+text_ready board unit about tree Elsewhere items z h = no_items board unit items (same_ok h)

@@ -1,0 +1,12 @@
+pub mod Walks
+pub mod Shapes
+pub mod LayerNames
+pub mod Layering
+pub mod Listing
+pub mod Roots
+pub mod Reach
+pub mod Gathering
+pub mod Standing
+pub mod Boxing
+pub mod Plain
+pub mod Graphical

@@ -1,0 +1,10 @@
+use Rattle.std.proofs.Common.{◌≡◌}
+use Rattle.std.specs.List.{list_any}
+use Rattle.sexpr_read.specs.Tree.{parts}
+use Rattle.sexpr_read.specs.Views.{tree_of, trees_left}
+use Rattle.part_read.specs.Elements.{is_text}
+use Rattle.part_read.proofs.atoms.has_word.Given as goal
+
+-- the word stands among those that are left exactly where it stands in the list
+abbrev pub invariant-loop-part : goal.invariant-loop-part
+invariant-loop-part l = list_any (λ t. is_text t l.word) (trees_left l.part-iterator) ≡ list_any (λ t. is_text t l.word) (parts (tree_of l.list))

@@ -1,0 +1,15 @@
+use Rattle.std.proofs.Common.{◌≡◌, ◌∙◌, ◌<◌, length, map, option_map, ap, arith}
+use Rattle.sexpr_read.specs.Views.{tree_of}
+use Rattle.part_read.proofs.Walks.{note_here, keep_here}
+use Rattle.part_read.proofs.elements.note_part.Goals as goal
+use Rattle.part_read.proofs.elements.note_part.Goals.{then-is_new, else-is_new}
+
+pub loop-k-preserved : goal.loop-k-preserved
+loop-k-preserved c =
+    let inside : c.loop-k.k < length c.loop-k.found = omega arith in
+    elim c.if-is_new.branch [
+      | then-is_new w ↦ ap (map (option_map tree_of)) w.found-is ∙ note_here c.args.part (tree_of c.args.first) c.loop-k.k c.args.wanted.now c.args.found.now c.loop-k.found
+          c.index-found-k.result _ c.is_new.result c.loop-k-test.true c.requires inside c.index-found-k.is c.loop-k.invariant c.is_new.ensures w.if-is_new.true
+      | else-is_new w ↦ ap (map (option_map tree_of)) w.found-is ∙ keep_here c.args.part (tree_of c.args.first) c.loop-k.k c.args.wanted.now c.args.found.now c.loop-k.found
+          c.index-found-k.result _ c.is_new.result c.loop-k-test.true c.requires inside c.index-found-k.is c.loop-k.invariant c.is_new.ensures w.if-is_new.false
+    ]

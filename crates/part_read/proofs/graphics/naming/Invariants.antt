@@ -1,0 +1,10 @@
+use Rattle.std.proofs.Common.{◌≡◌}
+use Rattle.std.specs.Prelude.{find}
+use Rattle.sexpr_read.specs.Tree.{parts}
+use Rattle.sexpr_read.specs.Views.{tree_of, trees_left}
+use Rattle.part_read.specs.Elements.{is_naming}
+use Rattle.part_read.proofs.graphics.naming.Given as goal
+
+-- the first among those that are left is the first of all
+abbrev pub invariant-loop-part : goal.invariant-loop-part
+invariant-loop-part l = find is_naming (trees_left l.part-iterator) ≡ find is_naming (parts (tree_of l.node))

@@ -1,0 +1,19 @@
+use Rattle.std.proofs.Common.{◌≡◌, ◌∙◌, sym, ap, List, ◌∷◌, [], Ok, Result, arith, rules, ◌<◌, ◌^◌, true, false, IsTrue}
+use Rattle.sexpr_read.specs.Tree.{Tree, parts, is_list}
+use Rattle.sexpr_read.specs.Views.{tree_of, trees_left}
+use Rattle.board_items.specs.declared.errors.BoardError.{BoardError}
+use Rattle.board_items.specs.declared.layers.LayerSet.{LayerSet}
+use Rattle.board_items.specs.Layers.{has_layer, is_within, single_layer, union_of}
+use Rattle.part_read.specs.LayersOf.{layer_if}
+use Rattle.part_read.proofs.Layering.{any_single, any_none, none_within}
+use Rattle.part_read.proofs.layers.layer_if.Goals as goal
+
+pub returns-then-has : goal.returns-then-has
+returns-then-has c =
+    let has : has_layer c.args.copper c.args.layer ≡ true = cc in
+    record { set = rw (c.of.ensures.value, has) (sym (any_single c.args.layer c.requires)); on = (c.of.ensures.within c.args.copper).1 has }
+
+pub returns-else-has : goal.returns-else-has
+returns-else-has c =
+    let lacks : has_layer c.args.copper c.args.layer ≡ false = cc in
+    record { set = rw lacks (sym any_none); on = none_within c.args.copper }

@@ -1,0 +1,28 @@
+use Rattle.std.proofs.Common.{◌≡◌, ◌∙◌, sym, ap, List, ◌∷◌, [], Ok, Result, arith, rules, ◌<◌, ◌^◌, true, false, IsTrue}
+use Rattle.sexpr_read.specs.Tree.{Tree, parts, is_list}
+use Rattle.sexpr_read.specs.Views.{tree_of, trees_left}
+use Rattle.board_items.specs.declared.errors.BoardError.{BoardError}
+use Rattle.board_items.specs.declared.layers.LayerSet.{LayerSet}
+use Rattle.board_items.specs.Layers.{has_layer, is_within, single_layer, union_of}
+use Rattle.part_read.specs.LayersOf.{listed}
+use Rattle.part_read.proofs.Layering.{gives_none, gives_single}
+use Rattle.part_read.proofs.Listing.{listed_passed, listed_none, listed_some}
+use Rattle.part_read.proofs.layers.listed.Goals as goal
+
+pub returns-then-not-is_list : goal.returns-then-not-is_list
+returns-then-not-is_list c =
+    let part = tree_of c.args.part in
+    let passed : is_list part ≡ false = cc in
+    gives_none (listed part) (listed_passed part passed)
+
+pub returns-in-None : goal.returns-in-None
+returns-in-None c =
+    let part = tree_of c.args.part in
+    let list : is_list part ≡ true = cc in
+    gives_none (listed part) (listed_none part (tree_of c.in_ok-name.name) list c.in_ok-name.ensures c.in-None.ensures.number)
+
+pub returns-in-Some : goal.returns-in-Some
+returns-in-Some c =
+    let part = tree_of c.args.part in
+    let list : is_list part ≡ true = cc in
+    rw c.of.ensures.value (gives_single c.in-Some.layer (listed part) c.in-Some.ensures.below (listed_some part (tree_of c.in_ok-name.name) c.in-Some.layer list c.in_ok-name.ensures c.in-Some.ensures.number))

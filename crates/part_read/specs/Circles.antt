@@ -1,0 +1,19 @@
+-- The radius of a circle in whole nanometres.
+use Rattle.std.specs.Prelude.{ℕ, zero, suc, ◌+◌, ◌*◌, nat_le, ℤ, pos, ◌-ℤ◌, unsigned_abs, if◌then◌else◌}
+use Rattle.part_read.specs.declared.numbers.Spot.{Spot}
+
+-- the greatest whole number whose square is not above m
+unfoldable pub root : ℕ → ℕ
+root zero = 0
+root (suc m) = let r = root m in if nat_le (suc r * suc r) (suc m) then suc r else r
+
+abbrev pub squared : ℤ → ℕ
+squared z = unsigned_abs z * unsigned_abs z
+
+-- the square of the distance of two spots
+abbrev pub square_between : Spot → Spot → ℕ
+square_between a b = squared (b.x -ℤ a.x) + squared (b.y -ℤ a.y)
+
+-- the radius of the circle around a centre through an end
+unfoldable pub radius_between : Spot → Spot → ℤ
+radius_between center end = pos (root (square_between center end))

@@ -1,0 +1,110 @@
+-- What graphics draw, read from their lists: (HEAD (start X Y) (end X Y) (stroke (width W)) (fill F) ..) and its kin. The elements
+-- are looked at in the order in which they stand here.
+use Rattle.std.specs.Prelude.{ℕ, ◌≤◌, nat_le, length, ℤ, pos, Bool, true, false, ◌&&◌, ◌||◌, not, List, [], ◌∷◌, codes, Option, None, Some, Result, Ok, Err, if◌then◌else◌}
+use Rattle.sexpr_read.specs.Tree.{Tree, parts}
+use Rattle.board_items.specs.declared.errors.BoardError.{BoardError}
+use Rattle.board_items.specs.declared.errors.BoardError.TheVariants.{Missing, Arc}
+use Rattle.part_read.specs.declared.numbers.Spot.{Spot}
+use Rattle.part_read.specs.declared.figures.Figure.TheVariants.{Line, Rect, Circle, Outline}
+use Rattle.part_read.specs.declared.figures.Drawing.{Drawing}
+use Rattle.part_read.specs.declared.drawings.Kind.{Kind}
+use Rattle.part_read.specs.declared.drawings.Kind.TheVariants.{Line as LineKind, Rect as RectKind, Circle as CircleKind, Outline as OutlineKind}
+use Rattle.part_read.specs.Elements.{◌>>=◌, check, place, is_text, has_head, element, atom_of, in_needed}
+use Rattle.part_read.specs.Numbers.{spot_at, spot_of, size_at}
+use Rattle.part_read.specs.Circles.{radius_between}
+
+-- ---- corners
+
+-- the spots of each (xy X Y), in order; an (arc ..) is refused, or passed over where curves may stand
+abbrev pub spots_among : Bool → List Tree → Result (List Spot) BoardError
+spots_among curved [] = Ok []
+spots_among curved (t ∷ ts) =
+    if has_head (codes "xy") t then (do
+      spot ← spot_at t
+      spots ← spots_among curved ts
+      Ok (spot ∷ spots))
+    else if has_head (codes "arc") t && not curved then Err (Arc (place t))
+    else spots_among curved ts
+
+-- three spots or more
+abbrev pub enough : Tree → List Spot → Result (List Spot) BoardError
+enough list spots = check (Missing (place list)) (nat_le 3 (length spots)) >>= λ _. Ok spots
+
+-- the corners of (pts (xy X Y) ..)
+unfoldable pub corners_in : Tree → Result (List Spot) BoardError
+corners_in list = spots_among false (parts list) >>= enough list
+
+-- those of the element, which must be there
+abbrev pub corners_of : Tree → Result (List Spot) BoardError
+corners_of tree = in_needed corners_in tree (element (codes "pts") tree)
+
+-- ---- width and fill
+
+abbrev pub stroke_width : Option Tree → Option Tree
+stroke_width None = None
+stroke_width (Some stroke) = element (codes "width") stroke
+
+abbrev pub first_there : Option Tree → Option Tree → Option Tree
+first_there None second = second
+first_there (Some tree) second = Some tree
+
+abbrev pub width_among : Option Tree → Result ℤ BoardError
+width_among None = Ok (pos 0)
+width_among (Some list) = size_at list
+
+-- the width in (stroke (width W) ..), else that in (width W), else 0
+unfoldable pub width_of : Tree → Result ℤ BoardError
+width_of tree = width_among (first_there (stroke_width (element (codes "stroke") tree)) (element (codes "width") tree))
+
+-- what the word says, if it is one of the four
+abbrev pub filled_by : Bool → Tree → Bool
+filled_by otherwise atom =
+    if is_text atom (codes "solid") || is_text atom (codes "yes") then true
+    else if is_text atom (codes "none") || is_text atom (codes "no") then false
+    else otherwise
+
+abbrev pub fill_among : Bool → Option Tree → Result Bool BoardError
+fill_among otherwise None = Ok otherwise
+fill_among otherwise (Some list) = atom_of 1 list >>= λ atom. Ok (filled_by otherwise atom)
+
+-- whether (fill WORD) says that it is filled
+unfoldable pub fill_of : Bool → Tree → Result Bool BoardError
+fill_of otherwise tree = fill_among otherwise (element (codes "fill") tree)
+
+-- ---- drawings; where `fill` is missing, an outline is filled and the others are not
+
+unfoldable pub line_drawing : Tree → Result Drawing BoardError
+line_drawing tree = do
+  start ← spot_of (codes "start") tree
+  end ← spot_of (codes "end") tree
+  width ← width_of tree
+  Ok (record { figure = Line start end; width = width; filled = true })
+
+unfoldable pub rect_drawing : Tree → Result Drawing BoardError
+rect_drawing tree = do
+  start ← spot_of (codes "start") tree
+  end ← spot_of (codes "end") tree
+  width ← width_of tree
+  filled ← fill_of false tree
+  Ok (record { figure = Rect start end; width = width; filled = filled })
+
+unfoldable pub circle_drawing : Tree → Result Drawing BoardError
+circle_drawing tree = do
+  center ← spot_of (codes "center") tree
+  end ← spot_of (codes "end") tree
+  width ← width_of tree
+  filled ← fill_of false tree
+  Ok (record { figure = Circle center (radius_between center end); width = width; filled = filled })
+
+unfoldable pub outline_drawing : Tree → Result Drawing BoardError
+outline_drawing tree = do
+  corners ← corners_of tree
+  width ← width_of tree
+  filled ← fill_of true tree
+  Ok (record { figure = Outline corners; width = width; filled = filled })
+
+abbrev pub drawing_of : Kind → Tree → Result Drawing BoardError
+drawing_of LineKind tree = line_drawing tree
+drawing_of RectKind tree = rect_drawing tree
+drawing_of CircleKind tree = circle_drawing tree
+drawing_of OutlineKind tree = outline_drawing tree

@@ -1,0 +1,147 @@
+-- Figures: what graphics draw, as plain numbers, and the parts of copper, the lines of an edge or the courtyards that they give
+-- where they lie on a board. Shapes count half nanometres, so half of a width is the width itself.
+use Rattle.std.specs.Prelude.{◌≡◌, ℕ, ◌≤◌, ℤ, pos, ◌+ℤ◌, ◌*ℤ◌, ◌≤ℤ◌, Bool, true, false, ◌||◌, List, [], ◌∷◌, map, Option, None, Some, ⊤, refl, if◌then◌else◌}
+use Rattle.std.specs.Ordering.{int_eq}
+use Rattle.int_algebra.proofs.Tested.{le_by_test}
+use Rattle.geo_seg.specs.declared.points.Point.{Point}
+use Rattle.geo_seg.specs.declared.points.Seg.{Seg}
+use Rattle.geo_seg.specs.declared.shapes.Core.{Core}
+use Rattle.geo_seg.specs.declared.shapes.Core.TheVariants.{Line as LineCore, Area}
+use Rattle.geo_seg.specs.declared.shapes.Shape.{Shape}
+use Rattle.drc_io.specs.Lengths.{IsLength}
+use Rattle.board_items.specs.declared.layers.LayerSet.{LayerSet}
+use Rattle.board_items.specs.declared.parts.Part.{Part}
+use Rattle.part_read.specs.declared.numbers.Spot.{Spot}
+use Rattle.part_read.specs.declared.stances.Stance.{Stance}
+use Rattle.part_read.specs.declared.figures.Figure.{Figure}
+use Rattle.part_read.specs.declared.figures.Figure.TheVariants.{Line, Rect, Circle, Outline}
+use Rattle.part_read.specs.declared.figures.Drawing.{Drawing}
+use Rattle.part_read.specs.declared.radii.Radius.{Radius}
+use Rattle.part_read.specs.OnBoard.{tested, is_length, length_in_range}
+use Rattle.part_read.specs.Stances.{IsWithin, point_stood, points_stood}
+
+-- ---- cores of points
+
+-- the lines from each of the corners to the next, and from the last one back to the first
+abbrev pub sides_from : Point → Point → List Point → List Seg
+sides_from first p [] = record { a = p; b = first } ∷ []
+sides_from first p (q ∷ qs) = record { a = p; b = q } ∷ sides_from first q qs
+
+abbrev pub sides : List Point → List Seg
+sides [] = []
+sides (p ∷ ps) = sides_from p p ps
+
+-- the corners of a box, of which two that lie across are given
+abbrev pub box_corners : Point → Point → List Point
+box_corners p q =
+    p ∷ record { x = q.x; y = p.y; x_in_range = q.x_in_range; y_in_range = p.y_in_range } ∷ q
+    ∷ record { x = p.x; y = q.y; x_in_range = p.x_in_range; y_in_range = q.y_in_range } ∷ []
+
+-- a box; where it has no extent in one direction, it is a line
+abbrev pub box_core : Point → Point → Core
+box_core p q = if int_eq p.x q.x || int_eq p.y q.y then LineCore (record { a = p; b = q }) else Area (box_corners p q)
+
+abbrev pub line_cores : List Seg → List Core
+line_cores lines = map (λ line. LineCore line) lines
+
+-- ---- the cores of a figure, if it lies on the board: what is not filled is one line for each side
+
+abbrev pub cores_between : (Point → Point → List Core) → Option Point → Option Point → Option (List Core)
+cores_between cores None q = None
+cores_between cores (Some p) None = None
+cores_between cores (Some p) (Some q) = Some (cores p q)
+
+abbrev pub line_between : Point → Point → List Core
+line_between p q = LineCore (record { a = p; b = q }) ∷ []
+
+abbrev pub box_between : Bool → Point → Point → List Core
+box_between filled p q = if filled then box_core p q ∷ [] else line_cores (sides (box_corners p q))
+
+abbrev pub cores_around : Bool → Option (List Point) → Option (List Core)
+cores_around filled None = None
+cores_around filled (Some ps) = Some (if filled then Area ps ∷ [] else line_cores (sides ps))
+
+abbrev pub cores_of : Stance → Bool → Figure → Option (List Core)
+cores_of stance filled (Line a b) = cores_between line_between (point_stood stance a) (point_stood stance b)
+cores_of stance filled (Rect a b) = cores_between (box_between filled) (point_stood stance a) (point_stood stance b)
+cores_of stance filled (Circle c r) = cores_between line_between (point_stood stance c) (point_stood stance c)
+cores_of stance filled (Outline spots) = cores_around filled (points_stood stance spots)
+
+-- ---- with half of a width around them
+
+-- a length is a radius
+abbrev pub radius_at : (w : ℤ) → is_length w ≡ true → Radius
+radius_at w fits = let range : IsLength w = length_in_range w fits in record { value = w; from = range.from; to = range.to }
+
+abbrev pub radius_of : ℤ → Option Radius
+radius_of w = tested (is_length w) (radius_at w)
+
+pub zero_from : pos 0 ≤ℤ pos 0
+zero_from = le_by_test (pos 0) (pos 0) refl
+
+pub zero_to : pos 0 ≤ℤ pos 500000000
+zero_to = le_by_test (pos 0) (pos 500000000) refl
+
+abbrev pub no_radius : Radius
+no_radius = record { value = pos 0; from = zero_from; to = zero_to }
+
+abbrev pub around : Radius → Core → Shape
+around r core = record { core = core; radius = r.value; radius_from = r.from; radius_to = r.to }
+
+abbrev pub parts_around : LayerSet → Option Radius → Option (List Core) → Option (List Part)
+parts_around layers None cores = None
+parts_around layers (Some r) None = None
+parts_around layers (Some r) (Some cores) = Some (map (λ core. record { layers = layers; shape = around r core }) cores)
+
+-- the radius in half nanometres: half of the width, and that of a circle's disc beside it
+abbrev pub radius_with : ℤ → Figure → ℤ
+radius_with w (Circle c r) = (pos 2 *ℤ r) +ℤ w
+radius_with w figure = w
+
+-- the parts that a drawing gives, unless it leaves the board or its width, or the diameter of its disc, is above 500 mm
+abbrev pub drawn : LayerSet → Stance → Drawing → Option (List Part)
+drawn layers stance d = parts_around layers (radius_of (radius_with d.width d.figure)) (cores_of stance d.filled d.figure)
+
+-- on Edge.Cuts the lines alone count, though the width must be one
+abbrev pub drawn_edge : Stance → Drawing → Option (List Part)
+drawn_edge stance d =
+    if is_length d.width then drawn (record { bits = 0 }) stance (record { figure = d.figure; width = pos 0; filled = false }) else None
+
+-- ---- where it is said to be
+
+abbrev pub first_of : List Spot → Spot
+first_of [] = record { x = pos 0; y = pos 0 }
+first_of (s ∷ ss) = s
+
+abbrev pub first_spot : Figure → Spot
+first_spot (Line a b) = a
+first_spot (Rect a b) = a
+first_spot (Circle c r) = c
+first_spot (Outline spots) = first_of spots
+
+-- ---- circles that are no discs
+
+-- an open circle: not filled, and with a width; one without is filled
+abbrev pub is_ring : Drawing → Bool
+is_ring d = ring_by d.figure
+  where
+    ring_by : Figure → Bool
+    ring_by (Circle c r) = if d.filled || int_eq d.width (pos 0) then false else true
+    ring_by figure = false
+
+abbrev pub is_circle : Figure → Bool
+is_circle (Circle c r) = true
+is_circle figure = false
+
+-- ---- what was read lies within reach of all sums
+
+abbrev pub HasReach : Figure → Type 0
+HasReach (Line a b) = IsWithin 1000000000000 a × IsWithin 1000000000000 b
+HasReach (Rect a b) = IsWithin 1000000000000 a × IsWithin 1000000000000 b
+HasReach (Circle c r) = IsWithin 1000000000000 c × ((pos 0 ≤ℤ r) × (r ≤ℤ pos 3000000000000))
+HasReach (Outline spots) = ⊤
+
+pub record IsDrawable (d : Drawing) : Type 0 where
+  pub figure : HasReach d.figure
+  pub from : pos 0 ≤ℤ d.width
+  pub to : d.width ≤ℤ pos 1000000000000

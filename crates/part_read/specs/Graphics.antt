@@ -1,0 +1,91 @@
+-- Graphics and texts of boards and of footprints: the items that their lists give. A graphic lies on a copper layer of the board,
+-- on Edge.Cuts, or elsewhere, where it is passed over; so it is where it has no layer.
+use Rattle.std.specs.Prelude.{ℕ, ℤ, pos, Bool, true, false, not, List, [], ◌∷◌, codes, Option, None, Some, Result, Ok, Err, refl, if◌then◌else◌}
+use Rattle.sexpr_read.specs.Tree.{Tree}
+use Rattle.board_items.specs.declared.errors.BoardError.{BoardError}
+use Rattle.board_items.specs.declared.errors.BoardError.TheVariants.{OutOfBoard, Arc, Ring}
+use Rattle.board_items.specs.declared.layers.LayerSet.{LayerSet}
+use Rattle.board_items.specs.declared.parts.Part.{Part}
+use Rattle.board_items.specs.declared.item.About.{About}
+use Rattle.board_items.specs.declared.item.What.{What}
+use Rattle.board_items.specs.declared.item.What.TheVariants.{Graphic, Edge, Note}
+use Rattle.board_items.specs.declared.item.Item.{Item}
+use Rattle.board_items.specs.Layers.{single_layer}
+use Rattle.board_items.specs.Boards.{PlainBoard}
+use Rattle.part_read.specs.declared.numbers.Spot.{Spot}
+use Rattle.part_read.specs.declared.stances.Stance.{Stance}
+use Rattle.part_read.specs.declared.drawings.Kind.{Kind}
+use Rattle.part_read.specs.declared.graphics.Ground.{Ground}
+use Rattle.part_read.specs.declared.graphics.Ground.TheVariants.{Copper, Outlines, Front, Back, Elsewhere}
+use Rattle.part_read.specs.Elements.{◌>>=◌, needed, check, place, is_text, element, atom_of, name_among, name_in}
+use Rattle.part_read.specs.PlainItems.{plain_item}
+use Rattle.part_read.specs.LayersOf.{drawn_on}
+use Rattle.part_read.specs.NetsOf.{net_of}
+use Rattle.part_read.specs.Stances.{stood}
+use Rattle.part_read.specs.Figures.{drawn, drawn_edge, first_spot, is_ring, is_circle}
+use Rattle.part_read.specs.Drawings.{drawing_of}
+
+-- ---- where a graphic lies
+
+abbrev pub ground_by : Tree → Option ℕ → Ground
+ground_by atom (Some layer) = Copper layer
+ground_by atom None =
+    if is_text atom (codes "Edge.Cuts") then Outlines
+    else if is_text atom (codes "F.CrtYd") then Front
+    else if is_text atom (codes "B.CrtYd") then Back
+    else Elsewhere
+
+abbrev pub ground_among : LayerSet → Option Tree → Result Ground BoardError
+ground_among copper None = Ok Elsewhere
+ground_among copper (Some list) = do
+  atom ← atom_of 1 list
+  layer ← drawn_on copper atom
+  Ok (ground_by atom layer)
+
+-- the ground that (layer NAME) names; a copper layer that the board has not is refused
+unfoldable pub ground_of : LayerSet → Tree → Result Ground BoardError
+ground_of copper tree = ground_among copper (element (codes "layer") tree)
+
+-- ---- items
+
+-- a graphic on a copper layer: its net is read last of its elements; an open circle is refused
+unfoldable pub copper_graphic : PlainBoard → ℕ → Stance → Kind → ℕ → Tree → Result Item BoardError
+copper_graphic board unit stance kind layer tree = do
+  drawing ← drawing_of kind tree
+  net ← net_of board tree
+  solid ← check (Ring (place tree)) (not (is_ring drawing))
+  copper ← needed (OutOfBoard (place tree)) (drawn (single_layer layer) stance drawing)
+  Ok (plain_item (name_in tree) unit net (stood stance (first_spot drawing.figure)) copper Graphic refl)
+
+-- a graphic on Edge.Cuts, of which the lines alone count; a circle is refused
+unfoldable pub edge_graphic : ℕ → Stance → Kind → Tree → Result Item BoardError
+edge_graphic unit stance kind tree = do
+  drawing ← drawing_of kind tree
+  round ← check (Ring (place tree)) (not (is_circle drawing.figure))
+  lines ← needed (OutOfBoard (place tree)) (drawn_edge stance drawing)
+  Ok (plain_item (name_in tree) unit 0 (stood stance (first_spot drawing.figure)) [] (Edge lines) refl)
+
+-- a note of something that is not checked, on the layer of this name
+abbrev pub note_of : List ℕ → ℕ → About → List ℕ → Item
+note_of name unit about layer = plain_item name unit 0 (record { x = pos 0; y = pos 0 }) [] (Note about layer) refl
+
+-- ---- by where they lie
+
+abbrev pub one_item : Result Item BoardError → Result (List Item) BoardError
+one_item answer = answer >>= λ item. Ok (item ∷ [])
+
+abbrev pub graphic_by : PlainBoard → ℕ → Stance → Kind → Tree → Ground → Result (List Item) BoardError
+graphic_by board unit stance kind tree (Copper layer) = one_item (copper_graphic board unit stance kind layer tree)
+graphic_by board unit stance kind tree Outlines = one_item (edge_graphic unit stance kind tree)
+graphic_by board unit stance kind tree lies = Ok []
+
+-- arcs and curves are refused where graphics count
+abbrev pub curve_by : Tree → Ground → Result (List Item) BoardError
+curve_by tree (Copper layer) = Err (Arc (place tree))
+curve_by tree Outlines = Err (Arc (place tree))
+curve_by tree lies = Ok []
+
+-- texts and dimensions on copper are not checked, and noted
+abbrev pub text_by : ℕ → About → Tree → Ground → Result (List Item) BoardError
+text_by unit about tree (Copper layer) = Ok (note_of (name_in tree) unit about (name_among (element (codes "layer") tree)) ∷ [])
+text_by unit about tree lies = Ok []

@@ -1,0 +1,11 @@
+-- What is known of the ground of a graphic.
+use Rattle.std.specs.Prelude.{ℕ, ◌<◌, IsTrue, ⊤}
+use Rattle.board_items.specs.declared.layers.LayerSet.{LayerSet}
+use Rattle.board_items.specs.Layers.{has_layer}
+use Rattle.part_read.specs.declared.graphics.Ground.{Ground}
+use Rattle.part_read.specs.declared.graphics.Ground.TheVariants.{Copper, Outlines, Front, Back, Elsewhere}
+
+-- the board has the copper layer on which it lies
+abbrev pub IsOn : LayerSet → Ground → Type 0
+IsOn copper (Copper layer) = (layer < 32) × IsTrue (has_layer copper layer)
+IsOn copper lies = ⊤

@@ -1,0 +1,56 @@
+-- Points and shapes, from numbers in nanometres. Those that lie off the board are plain numbers too, and are tested last; a point
+-- and a shape are made where the test holds. They count half nanometres, so a coordinate is doubled, and half of a width is the
+-- width itself.
+use Rattle.std.specs.Prelude.{◌≡◌, ℤ, pos, neg_ℤ, ◌*ℤ◌, ◌≤◌, unsigned_abs, Bool, true, false, ◌&&◌, List, Option, None, Some, refl}
+use Rattle.std.specs.Int.Signed.{le_z}
+use Rattle.geo_seg.specs.declared.points.Point.{Point}
+use Rattle.geo_seg.specs.declared.shapes.Core.{Core}
+use Rattle.geo_seg.specs.declared.shapes.Core.TheVariants.{Line}
+use Rattle.geo_seg.specs.declared.shapes.Shape.{Shape}
+use Rattle.drc_io.specs.Lengths.{IsLength}
+use Rattle.int_algebra.proofs.Tested.{front, back, le_by_test, doubled_by_tests}
+use Rattle.board_items.specs.Boards.{is_near}
+use Rattle.part_read.specs.declared.numbers.Spot.{Spot}
+use Rattle.part_read.specs.declared.on_board.Strip.{Strip}
+
+-- what is made where the test holds
+abbrev pub tested : {A : Type 0} (test : Bool) → (test ≡ true → A) → Option A
+tested true make = Some (make refl)
+tested false make = None
+
+-- 0 to 500 mm
+abbrev pub is_length : ℤ → Bool
+is_length n = le_z (pos 0) n && le_z n (pos 500000000)
+
+pub length_in_range : (n : ℤ) → is_length n ≡ true → IsLength n
+length_in_range n h = record { from = le_by_test (pos 0) n (front _ _ h); to = le_by_test n (pos 500000000) (back _ _ h) }
+
+pub doubled_in_range : (z : ℤ) → is_near z ≡ true → unsigned_abs (pos 2 *ℤ z) ≤ 1000000000
+doubled_in_range z h = doubled_by_tests z (front _ _ h) (back _ _ h)
+
+-- the spot lies on a board: at most 500 mm from 0 in x and in y
+abbrev pub fits_board : Spot → Bool
+fits_board spot = is_near spot.x && is_near spot.y
+
+-- the point at a spot that does
+abbrev pub point_at : (spot : Spot) → fits_board spot ≡ true → Point
+point_at spot fits = record {
+  x = pos 2 *ℤ spot.x;
+  y = pos 2 *ℤ spot.y;
+  x_in_range = doubled_in_range spot.x (front _ _ fits);
+  y_in_range = doubled_in_range spot.y (back _ _ fits);
+}
+
+-- both ends of the strip lie on a board, and its width is a length
+abbrev pub is_strip : Strip → Bool
+is_strip strip = (fits_board strip.a && fits_board strip.b) && is_length strip.width
+
+-- the line from the one end to the other
+abbrev pub line_between : (a b : Spot) → fits_board a && fits_board b ≡ true → Core
+line_between a b fit = Line (record { a = point_at a (front _ _ fit); b = point_at b (back _ _ fit) })
+
+-- the shape of a strip that fits: all that lies within half its width of that line
+abbrev pub strip_shape : (strip : Strip) → is_strip strip ≡ true → Shape
+strip_shape strip fits =
+    let wide : IsLength strip.width = length_in_range strip.width (back _ _ fits) in
+    record { core = line_between strip.a strip.b (front _ _ fits); radius = strip.width; radius_from = wide.from; radius_to = wide.to }

@@ -1,0 +1,42 @@
+-- Items without a hole, a clearance of their own, or lengths.
+use Rattle.std.specs.Prelude.{◌≡◌, ℕ, ℤ, Bool, true, false, List, Option, None, Some}
+use Rattle.std.proofs.Common.{ap, sym, ◌∙◌}
+use Rattle.drc_io.specs.Lengths.{IsLength, IsLengthIfSome}
+use Rattle.board_items.specs.declared.parts.Part.{Part}
+use Rattle.board_items.specs.declared.item.What.{What}
+use Rattle.board_items.specs.declared.item.What.TheVariants.{Track, Via}
+use Rattle.board_items.specs.declared.item.Item.{Item}
+use Rattle.board_items.specs.Measures.{HasLengths}
+use Rattle.part_read.specs.declared.numbers.Spot.{Spot}
+
+-- the kinds that have lengths
+abbrev pub is_measured : What → Bool
+is_measured (Track width) = true
+is_measured (Via size drill micro blind) = true
+is_measured what = false
+
+pub unmeasured : (what : What) → is_measured what ≡ false → HasLengths what
+unmeasured what h = record {
+  width = λ w e. let k : is_measured what ≡ true = ap is_measured e in absurd cc;
+  size = λ s d m b e. let k : is_measured what ≡ true = ap is_measured e in absurd cc;
+  drill = λ s d m b e. let k : is_measured what ≡ true = ap is_measured e in absurd cc;
+}
+
+pub none_in_range : IsLengthIfSome None
+none_in_range = λ n e. absurd cc
+
+-- by its name, its unit, its net, its position, its copper, and what it is
+abbrev pub plain_item : List ℕ → ℕ → ℕ → Spot → List Part → (what : What) → is_measured what ≡ false → Item
+plain_item name unit net at copper what h = record {
+  name = name;
+  unit = unit;
+  net = net;
+  x = at.x;
+  y = at.y;
+  copper = copper;
+  hole = None;
+  local = None;
+  what = what;
+  local_in_range = none_in_range;
+  what_in_range = unmeasured what h;
+}

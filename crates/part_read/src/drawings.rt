@@ -1,0 +1,249 @@
+//! What graphics draw, read from their lists.
+
+ghost use Rattle.std.specs.Prelude.{◌≡◌, ◌≤◌, ◌≤ℤ◌, pos, codes, option_map, ◌++◌, ◌∷◌, [], IfOk, OnOk, All};
+ghost use Rattle.sexpr_read.specs.Views.{tree_of, trees_left};
+ghost use Rattle.part_read.specs.Elements.{element, in_needed};
+ghost use Rattle.part_read.specs.Numbers.{spot_at, size_at, length_in};
+ghost use Rattle.part_read.specs.Nodes.{Gives};
+ghost use Rattle.part_read.specs.Lists.{GivesItems, before};
+ghost use Rattle.sexpr_read.specs.Tree.{parts};
+ghost use Rattle.part_read.specs.Stances.{IsWithin};
+ghost use Rattle.part_read.specs.Figures.{IsDrawable};
+ghost use Rattle.part_read.specs.Drawings.{spots_among, corners_in, corners_of, stroke_width, width_among, width_of, filled_by, fill_among, fill_of, line_drawing, rect_drawing, circle_drawing, outline_drawing, drawing_of};
+
+use crate::atoms::{first_atom, has_head, missing, place};
+use crate::circles::radius_between;
+use crate::corners::Corners;
+use crate::figures::{Drawing, Figure};
+use crate::numbers::{Spot, size_at, spot_at};
+use board_items::{BoardError, Nm};
+use sexpr_read::Node;
+use std::alloc::{AllocError, Global};
+
+/// What a graphic is, by its head.
+#[derive(Clone, Copy, Debug, PartialEq, Eq, Drop)]
+pub enum Kind {
+    Line,
+    Rect,
+    Circle,
+    Outline,
+}
+
+/// The first list in the list that has this head.
+#[tactic(auto, unfolding(crate::specs::Elements::element))]
+pub fn element<'d, 't>(node: Node<'d, 't>, head: &[u8]) -> Option<Node<'d, 't>>
+    ensures { option_map tree_of result ≡ element head.now (tree_of node.entry) }
+{
+    for part in node.children() {
+        if has_head(part, head) {
+            return Some(part);
+        }
+    }
+    None
+}
+
+/// The spot of `(HEAD X Y)`. Each number is at most 10^12 nanometres from 0.
+pub fn spot_in(list: Node<'_, '_>) -> Result<Spot, BoardError>
+    ensures spot { result ≡ spot_at (tree_of list.entry) }
+    ensures within { IfOk result (IsWithin 1000000000000) }
+{
+    let spot = spot_at(list)?;
+    Ok(spot)
+}
+
+/// That of an element which must be there.
+pub fn spot_needed(node: Node<'_, '_>, head: &[u8]) -> Result<Spot, BoardError>
+    ensures spot { result ≡ in_needed spot_at (tree_of node.entry) (element head.now (tree_of node.entry)) }
+    ensures within { IfOk result (IsWithin 1000000000000) }
+{
+    match element(node, head) {
+        None => Err(missing(node)),
+        Some(list) => spot_in(list),
+    }
+}
+
+fn gather(spots: &mut Vec<Spot>, spot: Spot) -> Result<(), AllocError>
+    ensures { OnOk result (spots.new.items ≡ spots.old.items ++ spot ∷ []) }
+{
+    spots.push(spot)?;
+    Ok(())
+}
+
+/// The spots of each `(xy X Y)`. An arc is refused, or passed over where curves may stand.
+fn spots_in(alloc: Global, list: Node<'_, '_>, curved: bool) -> Result<Vec<Spot>, BoardError>
+    ensures spots { GivesItems result (spots_among curved (parts (tree_of list.entry))) }
+    ensures within { IfOk result (λ spots. All (IsWithin 1000000000000) spots.items) }
+{
+    let mut spots = Vec::new(alloc);
+    for part in list.children() {
+        if has_head(part, b"xy") {
+            gather(&mut spots, spot_in(part)?)?;
+        } else if has_head(part, b"arc") && !curved {
+            return Err(BoardError::Arc { at: place(part) });
+        }
+    }
+    Ok(spots)
+}
+
+/// The corners of `(pts (xy X Y) ..)`.
+#[tactic(auto, unfolding(crate::specs::Drawings::corners_in))]
+pub fn corners_in(alloc: Global, list: Node<'_, '_>) -> Result<Corners, BoardError>
+    ensures { Gives result (corners_in (tree_of list.entry)) }
+{
+    let spots = spots_in(alloc, list, false)?;
+    if spots.len() < 3 {
+        return Err(missing(list));
+    }
+    Ok(Corners::of(spots))
+}
+
+/// Those of the element, which must be there.
+pub fn corners_of(alloc: Global, node: Node<'_, '_>) -> Result<Corners, BoardError>
+    ensures { Gives result (corners_of (tree_of node.entry)) }
+{
+    match element(node, b"pts") {
+        None => Err(missing(node)),
+        Some(list) => corners_in(alloc, list),
+    }
+}
+
+// ---- width and fill
+
+/// The list of the width in that of a stroke.
+fn stroke_width<'d, 't>(stroke: Option<Node<'d, 't>>) -> Option<Node<'d, 't>>
+    ensures { option_map tree_of result ≡ stroke_width (option_map tree_of stroke.entry) }
+{
+    match stroke {
+        None => None,
+        Some(list) => element(list, b"width"),
+    }
+}
+
+/// A size that is 0 where its list is missing.
+fn width_among(found: Option<Node<'_, '_>>) -> Result<Nm, BoardError>
+    ensures width { result ≡ width_among (option_map tree_of found.entry) }
+    ensures from { IfOk result (λ width. pos 0 ≤ℤ width) }
+    ensures to { IfOk result (λ width. width ≤ℤ pos 1000000000000) }
+{
+    match found {
+        None => Ok(0),
+        Some(list) => {
+            let width = size_at(list)?;
+            Ok(width)
+        }
+    }
+}
+
+/// The width in `(stroke (width W) ..)`, else that in `(width W)`, else 0.
+#[tactic(auto, unfolding(crate::specs::Drawings::width_of))]
+pub fn width_of(node: Node<'_, '_>) -> Result<Nm, BoardError>
+    ensures width { result ≡ width_of (tree_of node.entry) }
+    ensures from { IfOk result (λ width. pos 0 ≤ℤ width) }
+    ensures to { IfOk result (λ width. width ≤ℤ pos 1000000000000) }
+{
+    match stroke_width(element(node, b"stroke")) {
+        Some(list) => width_among(Some(list)),
+        None => width_among(element(node, b"width")),
+    }
+}
+
+/// What the word of a fill says, or `otherwise`.
+fn filled_by(otherwise: bool, atom: Node<'_, '_>) -> bool
+    ensures { result ≡ filled_by otherwise (tree_of atom.entry) }
+{
+    if atom.is(b"solid") || atom.is(b"yes") {
+        return true;
+    }
+    if atom.is(b"none") || atom.is(b"no") {
+        return false;
+    }
+    otherwise
+}
+
+/// Whether `(fill WORD)` says that it is filled.
+#[tactic(auto, unfolding(crate::specs::Drawings::fill_of))]
+pub fn fill_of(otherwise: bool, node: Node<'_, '_>) -> Result<bool, BoardError>
+    ensures { result ≡ fill_of otherwise (tree_of node.entry) }
+{
+    match element(node, b"fill") {
+        None => Ok(otherwise),
+        Some(list) => Ok(filled_by(otherwise, first_atom(list)?)),
+    }
+}
+
+// ---- drawings
+
+#[tactic(auto, unfolding(crate::specs::Drawings::line_drawing))]
+fn line_drawing(node: Node<'_, '_>) -> Result<Drawing, BoardError>
+    ensures drawing { Gives result (line_drawing (tree_of node.entry)) }
+    ensures drawable { IfOk result IsDrawable }
+{
+    let start = spot_needed(node, b"start")?;
+    let end = spot_needed(node, b"end")?;
+    let width = width_of(node)?;
+    Ok(Drawing {
+        figure: Figure::Line(start, end),
+        width,
+        filled: true,
+    })
+}
+
+#[tactic(auto, unfolding(crate::specs::Drawings::rect_drawing))]
+fn rect_drawing(node: Node<'_, '_>) -> Result<Drawing, BoardError>
+    ensures drawing { Gives result (rect_drawing (tree_of node.entry)) }
+    ensures drawable { IfOk result IsDrawable }
+{
+    let start = spot_needed(node, b"start")?;
+    let end = spot_needed(node, b"end")?;
+    let width = width_of(node)?;
+    let filled = fill_of(false, node)?;
+    Ok(Drawing {
+        figure: Figure::Rect(start, end),
+        width,
+        filled,
+    })
+}
+
+#[tactic(auto, unfolding(crate::specs::Drawings::circle_drawing))]
+fn circle_drawing(node: Node<'_, '_>) -> Result<Drawing, BoardError>
+    ensures drawing { Gives result (circle_drawing (tree_of node.entry)) }
+    ensures drawable { IfOk result IsDrawable }
+{
+    let center = spot_needed(node, b"center")?;
+    let end = spot_needed(node, b"end")?;
+    let width = width_of(node)?;
+    let filled = fill_of(false, node)?;
+    Ok(Drawing {
+        figure: Figure::Circle(center, radius_between(center, end)),
+        width,
+        filled,
+    })
+}
+
+#[tactic(auto, unfolding(crate::specs::Drawings::outline_drawing))]
+fn outline_drawing(alloc: Global, node: Node<'_, '_>) -> Result<Drawing, BoardError>
+    ensures drawing { Gives result (outline_drawing (tree_of node.entry)) }
+    ensures drawable { IfOk result IsDrawable }
+{
+    let corners = corners_of(alloc, node)?;
+    let width = width_of(node)?;
+    let filled = fill_of(true, node)?;
+    Ok(Drawing {
+        figure: Figure::Outline(corners),
+        width,
+        filled,
+    })
+}
+
+/// What a graphic of this kind draws.
+pub fn drawing_of(alloc: Global, kind: Kind, node: Node<'_, '_>) -> Result<Drawing, BoardError>
+    ensures drawing { Gives result (drawing_of kind (tree_of node.entry)) }
+    ensures drawable { IfOk result IsDrawable }
+{
+    match kind {
+        Kind::Line => line_drawing(node),
+        Kind::Rect => rect_drawing(node),
+        Kind::Circle => circle_drawing(node),
+        Kind::Outline => outline_drawing(alloc, node),
+    }
+}

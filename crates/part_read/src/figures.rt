@@ -1,0 +1,280 @@
+//! What graphics draw, and the parts that they give where they lie on a board.
+
+ghost use Rattle.std.specs.Prelude.{◌≡◌, ◌<◌, ◌≤◌, ◌≤ℤ◌, pos, ◌∷◌, ◌++◌, [], true, OnOk, Some, length, option_map, IfOk};
+ghost use Rattle.part_read.specs.OnBoard.{is_length};
+ghost use Rattle.part_read.specs.Stances.{IsWithin, stood};
+ghost use Rattle.part_read.specs.declared.figures.Figure.{Figure};
+ghost use Rattle.part_read.specs.declared.figures.Drawing.{Drawing};
+ghost use Rattle.part_read.specs.Figures.{sides, sides_from, box_corners, box_core, line_cores, cores_between, line_between, box_between, cores_around, cores_of, around, parts_around, radius_with, drawn, drawn_edge, first_spot, is_ring, is_circle, HasReach, IsDrawable};
+
+use crate::corners::Corners;
+use crate::numbers::Spot;
+use crate::on_board::is_length;
+use crate::radii::Radius;
+use crate::rounding::{around, radius_of};
+use crate::stances::{Stance, point_stood, points_stood};
+use board_items::{LayerSet, Nm, Part, Parts};
+use geo_seg::{Core, Point, Poly, Seg, Shape};
+use smallvec::SmallVec;
+use std::alloc::{AllocError, Global};
+
+/// What a graphic draws, in nanometres, relative to what it stands on.
+#[derive(Drop)]
+pub enum Figure {
+    Line(Spot, Spot),
+    /// A rectangle, by two corners that lie across.
+    Rect(Spot, Spot),
+    /// A circle, by its centre and its radius.
+    Circle(Spot, Nm),
+    Outline(Corners),
+}
+
+/// A figure, the width with which it is drawn, and whether it is filled.
+#[derive(Drop)]
+pub struct Drawing {
+    pub figure: Figure,
+    pub width: Nm,
+    pub filled: bool,
+}
+
+// ---- cores
+
+fn one_core(alloc: Global, core: Core) -> Result<Vec<Core>, AllocError>
+    ensures { IfOk result (λ cores. cores.items ≡ core ∷ []) }
+{
+    let mut cores = Vec::with_capacity(alloc, 1)?;
+    cores.push(core)?;
+    Ok(cores)
+}
+
+// The lines between the corners, of which there is one at least.
+fn side_cores(alloc: Global, corners: &[Point]) -> Result<Vec<Core>, AllocError>
+    requires { 1 ≤ length corners.now }
+    ensures { IfOk result (λ cores. cores.items ≡ line_cores (sides corners.now)) }
+{
+    let mut cores = Vec::with_capacity(alloc, corners.len())?;
+    let first = corners[0];
+    let mut last = first;
+    for corner in &corners[1..] {
+        cores.push(Core::Line(Seg {
+            a: last,
+            b: *corner,
+        }))?;
+        last = *corner;
+    }
+    cores.push(Core::Line(Seg { a: last, b: first }))?;
+    Ok(cores)
+}
+
+/// The corners of a box, of which two that lie across are given.
+pub fn box_corners(p: Point, q: Point) -> [Point; 4]
+    ensures { result ≡ box_corners p q }
+{
+    [p, Point { x: q.x, y: p.y }, q, Point { x: p.x, y: q.y }]
+}
+
+/// A box, or a line where it has no extent in one direction.
+pub fn box_core(alloc: Global, p: Point, q: Point) -> Result<Core, AllocError>
+    ensures { IfOk result (λ core. core ≡ box_core p q) }
+{
+    if p.x == q.x || p.y == q.y {
+        return Ok(Core::Line(Seg { a: p, b: q }));
+    }
+    let mut corners = Vec::with_capacity(alloc, 4)?;
+    corners.extend_from_slice(&box_corners(p, q))?;
+    Ok(Core::Area(Poly::of(corners)))
+}
+
+fn line_between(
+    alloc: Global,
+    p: Option<Point>,
+    q: Option<Point>,
+) -> Result<Option<Vec<Core>>, AllocError>
+    ensures { IfOk result (λ cores. option_map (λ found. found.items) cores ≡ cores_between line_between p q) }
+{
+    let Some(a) = p else {
+        return Ok(None);
+    };
+    let Some(b) = q else {
+        return Ok(None);
+    };
+    Ok(Some(one_core(alloc, Core::Line(Seg { a, b }))?))
+}
+
+fn box_between(
+    alloc: Global,
+    filled: bool,
+    p: Option<Point>,
+    q: Option<Point>,
+) -> Result<Option<Vec<Core>>, AllocError>
+    ensures { IfOk result (λ cores. option_map (λ found. found.items) cores ≡ cores_between (box_between filled) p q) }
+{
+    let Some(a) = p else {
+        return Ok(None);
+    };
+    let Some(b) = q else {
+        return Ok(None);
+    };
+    if filled {
+        return Ok(Some(one_core(alloc, box_core(alloc, a, b)?)?));
+    }
+    let corners = box_corners(a, b);
+    Ok(Some(side_cores(alloc, &corners)?))
+}
+
+fn cores_around(alloc: Global, filled: bool, points: Vec<Point>) -> Result<Vec<Core>, AllocError>
+    requires { 3 ≤ length points.items }
+    ensures { IfOk result (λ cores. Some cores.items ≡ cores_around filled (Some points.items)) }
+{
+    if filled {
+        return one_core(alloc, Core::Area(Poly::indexed(alloc, points)?));
+    }
+    side_cores(alloc, &points)
+}
+
+/// The cores of a figure that stands so, unless it leaves the board. What is not filled is one line for each side.
+fn cores_of(
+    alloc: Global,
+    stance: Stance,
+    filled: bool,
+    figure: &Figure,
+) -> Result<Option<Vec<Core>>, AllocError>
+    requires quarter { stance.quarter < 4 }
+    requires at { IsWithin 3000000000000 stance.at }
+    requires reach { HasReach figure.now }
+    ensures { IfOk result (λ cores. option_map (λ found. found.items) cores ≡ cores_of stance filled figure.now) }
+{
+    match figure {
+        Figure::Line(start, end) => line_between(
+            alloc,
+            point_stood(stance, *start),
+            point_stood(stance, *end),
+        ),
+        Figure::Rect(start, end) => box_between(
+            alloc,
+            filled,
+            point_stood(stance, *start),
+            point_stood(stance, *end),
+        ),
+        Figure::Circle(center, _) => {
+            let point = point_stood(stance, *center);
+            line_between(alloc, point, point)
+        }
+        Figure::Outline(corners) => {
+            let Some(points) = points_stood(alloc, stance, corners.as_slice())? else {
+                return Ok(None);
+            };
+            Ok(Some(cores_around(alloc, filled, points)?))
+        }
+    }
+}
+
+// ---- parts
+
+fn push_part(list: &mut SmallVec<Part, 2>, layers: LayerSet, shape: Shape) -> Result<(), AllocError>
+    ensures { OnOk result (list.new.items ≡ list.old.items ++ record { layers = layers; shape = shape } ∷ []) }
+{
+    list.push(Part { layers, shape })?;
+    Ok(())
+}
+
+// The cores with the radius around them, on these layers.
+fn parts_around(
+    alloc: Global,
+    layers: LayerSet,
+    radius: Radius,
+    cores: Vec<Core>,
+) -> Result<Parts, AllocError>
+    ensures { IfOk result (λ parts. Some parts ≡ parts_around layers (Some radius) (Some cores.items)) }
+{
+    let mut list = SmallVec::new(alloc);
+    for core in cores {
+        push_part(&mut list, layers, around(radius, core))?;
+    }
+    Ok(Parts::of(list))
+}
+
+// The radius in half nanometres.
+fn radius_with(drawing: &Drawing) -> Nm
+    requires { IsDrawable drawing.now }
+    ensures { result ≡ radius_with drawing.now.width drawing.now.figure }
+{
+    match drawing.figure {
+        Figure::Circle(_, radius) => 2 * radius + drawing.width,
+        _ => drawing.width,
+    }
+}
+
+/// The parts that a drawing gives on these layers, unless it leaves the board or its width, or the diameter of its disc,
+/// is above 500 mm.
+pub fn draw(
+    alloc: Global,
+    layers: LayerSet,
+    stance: Stance,
+    drawing: &Drawing,
+) -> Result<Option<Parts>, AllocError>
+    requires quarter { stance.quarter < 4 }
+    requires at { IsWithin 3000000000000 stance.at }
+    requires drawable { IsDrawable drawing.now }
+    ensures { IfOk result (λ parts. parts ≡ drawn layers stance drawing.now) }
+{
+    let Some(radius) = radius_of(radius_with(drawing)) else {
+        return Ok(None);
+    };
+    let Some(cores) = cores_of(alloc, stance, drawing.filled, &drawing.figure)? else {
+        return Ok(None);
+    };
+    Ok(Some(parts_around(alloc, layers, radius, cores)?))
+}
+
+/// The spot by which a report names a figure.
+pub fn first_spot(figure: &Figure) -> Spot
+    requires { HasReach figure.now }
+    ensures spot { result ≡ first_spot figure.now }
+    ensures within { IsWithin 1000000000000 result }
+{
+    match figure {
+        Figure::Line(start, _) | Figure::Rect(start, _) => *start,
+        Figure::Circle(center, _) => *center,
+        Figure::Outline(corners) => corners.as_slice()[0],
+    }
+}
+
+/// Whether it is an open circle: not filled, and with a width.
+pub fn is_ring(drawing: &Drawing) -> bool
+    ensures { result ≡ is_ring drawing.now }
+{
+    match drawing.figure {
+        Figure::Circle(..) => !drawing.filled && drawing.width != 0,
+        _ => false,
+    }
+}
+
+/// Whether it is a circle.
+pub fn is_circle(figure: &Figure) -> bool
+    ensures { result ≡ is_circle figure.now }
+{
+    matches!(figure, Figure::Circle(..))
+}
+
+/// The lines that a drawing gives on Edge.Cuts, unless it leaves the board or its width is above 500 mm.
+pub fn draw_edge(
+    alloc: Global,
+    stance: Stance,
+    drawing: Drawing,
+) -> Result<Option<Parts>, AllocError>
+    requires quarter { stance.quarter < 4 }
+    requires at { IsWithin 3000000000000 stance.at }
+    requires drawable { IsDrawable drawing }
+    ensures { IfOk result (λ parts. parts ≡ drawn_edge stance drawing) }
+{
+    if !is_length(drawing.width) {
+        return Ok(None);
+    }
+    let lines = Drawing {
+        figure: drawing.figure,
+        width: 0,
+        filled: false,
+    };
+    draw(alloc, LayerSet { bits: 0 }, stance, &lines)
+}

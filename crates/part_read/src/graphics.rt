@@ -1,0 +1,344 @@
+//! Graphics and texts of boards and of footprints.
+
+ghost use Rattle.std.specs.Prelude.{◌≡◌, ◌<◌, ◌∷◌, [], ℕ, true, false, Some, is_some, IfOk, IfSome, IsTrue, OnOk, All, codes, option_map};
+ghost use Rattle.std.specs.List.{list_all};
+ghost use Rattle.board_items.specs.Boards.{name_of, is_admitted};
+ghost use Rattle.board_items.specs.Layers.{has_layer};
+ghost use Rattle.board_items.specs.declared.item.Item.{Item};
+ghost use Rattle.sexpr_read.specs.Views.{tree_of};
+ghost use Rattle.part_read.specs.Nodes.{Gives};
+ghost use Rattle.part_read.specs.Elements.{element, name_among, name_in, naming, is_naming};
+ghost use Rattle.part_read.specs.Lists.{GivesItems};
+ghost use Rattle.part_read.specs.Stances.{IsWithin};
+ghost use Rattle.part_read.specs.Grounds.{IsOn};
+ghost use Rattle.part_read.specs.Ready.{IsReady};
+ghost use Rattle.part_read.specs.PlainItems.{is_measured, plain_item};
+ghost use Rattle.part_read.specs.Graphics.{ground_by, ground_of, copper_graphic, edge_graphic, note_of, graphic_by, curve_by, text_by};
+
+use crate::atoms::{first_atom, has_head, place};
+use crate::drawings::{Kind, drawing_of, element};
+use crate::figures::{draw, draw_edge, first_spot, is_circle, is_ring};
+use crate::layers::drawn_on;
+use crate::names::name_in;
+use crate::nets::net_of;
+use crate::numbers::Spot;
+use crate::stances::{Stance, stand};
+use board_items::{About, Board, BoardError, Boxed, Item, LayerSet, Part, Parts, What};
+use drc_io::Name;
+use geo_seg::Shape;
+use sexpr_read::Node;
+use smallvec::SmallVec;
+use std::alloc::{AllocError, Global};
+
+/// Where a graphic lies.
+#[derive(Clone, Copy, Debug, PartialEq, Eq, Drop)]
+pub enum Ground {
+    /// On the copper layer with this number, which the board has.
+    Copper(u32),
+    /// On Edge.Cuts.
+    Outlines,
+    /// On F.CrtYd.
+    Front,
+    /// On B.CrtYd.
+    Back,
+    Elsewhere,
+}
+
+fn ground_by(atom: Node<'_, '_>, layer: Option<u32>) -> Ground
+    ensures { result ≡ ground_by (tree_of atom.entry) layer }
+{
+    if let Some(layer) = layer {
+        return Ground::Copper(layer);
+    }
+    if atom.is(b"Edge.Cuts") {
+        return Ground::Outlines;
+    }
+    if atom.is(b"F.CrtYd") {
+        return Ground::Front;
+    }
+    if atom.is(b"B.CrtYd") {
+        return Ground::Back;
+    }
+    Ground::Elsewhere
+}
+
+/// The ground that `(layer NAME)` names. A copper layer that the board has not is refused.
+#[tactic(auto, unfolding(crate::specs::Graphics::ground_of))]
+pub fn ground_of(copper: LayerSet, node: Node<'_, '_>) -> Result<Ground, BoardError>
+    ensures lies { result ≡ ground_of copper (tree_of node.entry) }
+    ensures on { IfOk result (IsOn copper) }
+{
+    let Some(list) = element(node, b"layer") else {
+        return Ok(Ground::Elsewhere);
+    };
+    let atom = first_atom(list)?;
+    let layer = drawn_on(copper, atom)?;
+    Ok(ground_by(atom, layer))
+}
+
+// ---- items
+
+/// An item without a hole and without a clearance of its own.
+pub fn plain_item(name: Name, unit: u32, net: u32, at: Spot, copper: Parts, what: What) -> Item
+    requires { is_measured what ≡ false }
+    ensures { (h : is_measured what ≡ false) → result ≡ plain_item name unit net at copper what h }
+{
+    Item {
+        name,
+        unit,
+        net,
+        x: at.x,
+        y: at.y,
+        copper,
+        hole: None,
+        local: None,
+        what,
+    }
+}
+
+/// No parts.
+pub fn no_parts(alloc: Global) -> Parts
+    ensures { result ≡ [] }
+{
+    Parts::of(SmallVec::new(alloc))
+}
+
+/// The graphic on a copper layer, which the board has.
+#[tactic(auto, unfolding(crate::specs::Graphics::copper_graphic))]
+fn copper_graphic(
+    alloc: Global,
+    board: &Board,
+    unit: u32,
+    stance: Stance,
+    kind: Kind,
+    layer: u32,
+    node: Node<'_, '_>,
+) -> Result<Item, BoardError>
+    requires quarter { stance.quarter < 4 }
+    requires at { IsWithin 3000000000000 stance.at }
+    requires below { layer < 32 }
+    ensures read { Gives result (copper_graphic board.now unit stance kind layer (tree_of node.entry)) }
+{
+    let drawing = drawing_of(alloc, kind, node)?;
+    let net = net_of(board, element(node, b"net"))?;
+    if is_ring(&drawing) {
+        return Err(BoardError::Ring { at: place(node) });
+    }
+    let Some(copper) = draw(alloc, LayerSet::of(layer), stance, &drawing)? else {
+        return Err(BoardError::OutOfBoard { at: place(node) });
+    };
+    let at = stand(stance, first_spot(&drawing.figure));
+    Ok(plain_item(
+        name_of_list(alloc, node)?,
+        unit,
+        net,
+        at,
+        copper,
+        What::Graphic,
+    ))
+}
+
+/// The graphic on Edge.Cuts.
+#[tactic(auto, unfolding(crate::specs::Graphics::edge_graphic))]
+fn edge_graphic(
+    alloc: Global,
+    unit: u32,
+    stance: Stance,
+    kind: Kind,
+    node: Node<'_, '_>,
+) -> Result<Item, BoardError>
+    requires quarter { stance.quarter < 4 }
+    requires at { IsWithin 3000000000000 stance.at }
+    ensures read { Gives result (edge_graphic unit stance kind (tree_of node.entry)) }
+{
+    let drawing = drawing_of(alloc, kind, node)?;
+    if is_circle(&drawing.figure) {
+        return Err(BoardError::Ring { at: place(node) });
+    }
+    let at = stand(stance, first_spot(&drawing.figure));
+    let Some(lines) = draw_edge(alloc, stance, drawing)? else {
+        return Err(BoardError::OutOfBoard { at: place(node) });
+    };
+    let name = name_of_list(alloc, node)?;
+    Ok(plain_item(
+        name,
+        unit,
+        0,
+        at,
+        no_parts(alloc),
+        What::Edge {
+            lines: Boxed::new(alloc, lines)?,
+        },
+    ))
+}
+
+/// The note of a text or a dimension on copper.
+pub fn note_of(
+    alloc: Global,
+    unit: u32,
+    about: About,
+    node: Node<'_, '_>,
+) -> Result<Item, AllocError>
+    ensures { IfOk result (λ item. item ≡ note_of (name_in (tree_of node.entry)) unit about (name_among (element (codes "layer") (tree_of node.entry)))) }
+{
+    let name = name_of_list(alloc, node)?;
+    let layer = name_in(alloc, element(node, b"layer"))?;
+    let at = Spot { x: 0, y: 0 };
+    Ok(plain_item(
+        name,
+        unit,
+        0,
+        at,
+        no_parts(alloc),
+        What::Note {
+            about,
+            layer: Boxed::new(alloc, layer)?,
+        },
+    ))
+}
+
+/// The list that gives an item its name.
+#[tactic(auto, unfolding(crate::specs::Elements::naming))]
+fn naming<'d, 't>(node: Node<'d, 't>) -> Option<Node<'d, 't>>
+    ensures { option_map tree_of result ≡ naming (tree_of node.entry) }
+{
+    for part in node.children() {
+        if is_naming(part) {
+            return Some(part);
+        }
+    }
+    None
+}
+
+#[tactic(auto, unfolding(crate::specs::Elements::is_naming))]
+fn is_naming(node: Node<'_, '_>) -> bool
+    ensures { result ≡ is_naming (tree_of node.entry) }
+{
+    has_head(node, b"tstamp") || has_head(node, b"uuid")
+}
+
+/// The list of one part.
+pub fn one_part(alloc: Global, layers: LayerSet, shape: Shape) -> Parts
+    ensures { result ≡ record { layers = layers; shape = shape } ∷ [] }
+{
+    let mut list = SmallVec::new(alloc);
+    list.push_reserved(Part { layers, shape });
+    Parts::of(list)
+}
+
+/// The name that a list gives its item, or the empty one.
+pub fn name_of_list(alloc: Global, node: Node<'_, '_>) -> Result<Name, AllocError>
+    ensures { IfOk result (λ name. name ≡ name_in (tree_of node.entry)) }
+{
+    name_in(alloc, naming(node))
+}
+
+// ---- by where they lie
+
+fn one_item(alloc: Global, item: Item) -> Result<Vec<Item>, AllocError>
+    ensures { IfOk result (λ items. items.items ≡ item ∷ []) }
+{
+    let mut items = Vec::with_capacity(alloc, 1)?;
+    items.push(item)?;
+    Ok(items)
+}
+
+/// The items that a graphic gives by where it lies: one on copper or on Edge.Cuts, and none elsewhere.
+fn graphic_by(
+    alloc: Global,
+    board: &Board,
+    unit: u32,
+    stance: Stance,
+    kind: Kind,
+    node: Node<'_, '_>,
+    lies: Ground,
+) -> Result<Vec<Item>, BoardError>
+    requires quarter { stance.quarter < 4 }
+    requires at { IsWithin 3000000000000 stance.at }
+    requires on { IsOn board.now.copper lies }
+    ensures { GivesItems result (graphic_by board.now unit stance kind (tree_of node.entry) lies) }
+{
+    match lies {
+        Ground::Copper(layer) => {
+            let item = copper_graphic(alloc, board, unit, stance, kind, layer, node)?;
+            Ok(one_item(alloc, item)?)
+        }
+        Ground::Outlines => {
+            let item = edge_graphic(alloc, unit, stance, kind, node)?;
+            Ok(one_item(alloc, item)?)
+        }
+        Ground::Front | Ground::Back | Ground::Elsewhere => Ok(Vec::new(alloc)),
+    }
+}
+
+/// An arc or a curve is refused on copper and on Edge.Cuts.
+pub fn curve_by(alloc: Global, node: Node<'_, '_>, lies: Ground) -> Result<Vec<Item>, BoardError>
+    ensures { GivesItems result (curve_by (tree_of node.entry) lies) }
+{
+    match lies {
+        Ground::Copper(_) | Ground::Outlines => Err(BoardError::Arc { at: place(node) }),
+        Ground::Front | Ground::Back | Ground::Elsewhere => Ok(Vec::new(alloc)),
+    }
+}
+
+/// A text or a dimension on copper is noted.
+fn text_by(
+    alloc: Global,
+    unit: u32,
+    about: About,
+    node: Node<'_, '_>,
+    lies: Ground,
+) -> Result<Vec<Item>, BoardError>
+    ensures { GivesItems result (text_by unit about (tree_of node.entry) lies) }
+{
+    match lies {
+        Ground::Copper(_) => {
+            let note = note_of(alloc, unit, about, node)?;
+            Ok(one_item(alloc, note)?)
+        }
+        Ground::Outlines | Ground::Front | Ground::Back | Ground::Elsewhere => {
+            Ok(Vec::new(alloc))
+        }
+    }
+}
+
+/// The items that a graphic gives by where it lies: one on copper or on Edge.Cuts, and none elsewhere. The board takes them,
+/// as far as it has room.
+pub fn read_graphic(
+    alloc: Global,
+    board: &Board,
+    unit: u32,
+    stance: Stance,
+    kind: Kind,
+    node: Node<'_, '_>,
+    lies: Ground,
+) -> Result<Vec<Item>, BoardError>
+    requires quarter { stance.quarter < 4 }
+    requires at { IsWithin 3000000000000 stance.at }
+    requires on { IsOn board.now.copper lies }
+    ensures items { GivesItems result (graphic_by board.now unit stance kind (tree_of node.entry) lies) }
+    ensures ready { IfOk result (λ items. All (IsReady board.now unit) items.items) }
+{
+    // Net 0 is there on each board.
+    let _ = board.left();
+    let items = graphic_by(alloc, board, unit, stance, kind, node, lies)?;
+    Ok(items)
+}
+
+/// The note of a text or a dimension on copper. The board takes it, as far as it has room.
+pub fn read_text(
+    alloc: Global,
+    board: &Board,
+    unit: u32,
+    about: About,
+    node: Node<'_, '_>,
+    lies: Ground,
+) -> Result<Vec<Item>, BoardError>
+    ensures items { GivesItems result (text_by unit about (tree_of node.entry) lies) }
+    ensures ready { IfOk result (λ items. All (IsReady board.now unit) items.items) }
+{
+    // Net 0 is there on each board.
+    let _ = board.left();
+    let items = text_by(alloc, unit, about, node, lies)?;
+    Ok(items)
+}

@@ -1,0 +1,45 @@
+//! What all readers of boards share: the elements of a list, atoms, numbers, names, layers, nets, points on a
+//! board, and graphics.
+#![tactic(auto)]
+
+mod atoms;
+mod circles;
+mod corners;
+mod drawings;
+mod elements;
+mod figures;
+mod graphics;
+mod layers;
+mod names;
+mod nets;
+mod numbers;
+mod on_board;
+mod radii;
+mod rounding;
+mod stances;
+
+pub use atoms::{bad_number, first_atom, has_head, has_word, missing, place, second_atom};
+pub use circles::radius_between;
+pub use corners::Corners;
+pub use drawings::{Kind, corners_of, drawing_of, element, fill_of, spot_in, width_of};
+pub use elements::{Wanted, find_elements, pick};
+pub use figures::{
+    Drawing, Figure, box_core, box_corners, draw, draw_edge, first_spot, is_circle, is_ring,
+};
+pub use graphics::{
+    Ground, curve_by, ground_of, name_of_list, no_parts, note_of, one_part, plain_item,
+    read_graphic, read_text,
+};
+pub use layers::{
+    copper_in, drawn_on, layer_at, layer_in, layer_number, layer_of, layers_listed, layers_named,
+    layers_through, named,
+};
+pub use names::{name_from, name_in};
+pub use nets::{declared_in, net_of};
+pub use numbers::{
+    Spot, length_in, number_in, size_at, size_given, size_in, size_of, spot_at, spot_of,
+};
+pub use on_board::{Strip, fits_board, is_length, point_at, strip_shape};
+pub use radii::Radius;
+pub use rounding::{around, no_radius, radius_of};
+pub use stances::{Stance, point_stood, points_stood, stand};

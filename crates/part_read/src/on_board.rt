@@ -1,0 +1,83 @@
+//! Points and shapes, from numbers in nanometres.
+
+ghost use Rattle.std.specs.Prelude.{◌≡◌, true, ◌*ℤ◌, pos};
+ghost use Rattle.board_items.specs.Boards.{is_near};
+ghost use Rattle.part_read.specs.OnBoard.{tested, is_length, fits_board, point_at, is_strip, strip_shape};
+
+use crate::numbers::Spot;
+use board_items::Nm;
+use geo_seg::{Core, Point, Seg, Shape};
+
+/// The greatest coordinate and the greatest length: 500 mm.
+const GREATEST: Nm = 500_000_000;
+
+/// A line, with all that lies within half its width, in nanometres. It may lie off the board.
+#[derive(Clone, Copy, Debug, PartialEq, Eq, Drop)]
+pub struct Strip {
+    pub a: Spot,
+    pub b: Spot,
+    pub width: Nm,
+}
+
+/// Whether it is 0 to 500 mm.
+pub fn is_length(n: Nm) -> bool
+    ensures { result ≡ is_length n }
+{
+    0 <= n && n <= GREATEST
+}
+
+/// Whether the spot is at most 500 mm from 0 in x and in y.
+pub fn fits_board(spot: Spot) -> bool
+    ensures { result ≡ fits_board spot }
+{
+    is_near(spot.x) && is_near(spot.y)
+}
+
+fn is_near(n: Nm) -> bool
+    ensures { result ≡ is_near n }
+{
+    -GREATEST <= n && n <= GREATEST
+}
+
+/// The point at a spot, unless it lies off the board.
+pub fn point_at(spot: Spot) -> Option<Point>
+    ensures { result ≡ tested (fits_board spot) (point_at spot) }
+{
+    if fits_board(spot) {
+        return Some(doubled(spot));
+    }
+    None
+}
+
+fn doubled(spot: Spot) -> Point
+    requires { fits_board spot ≡ true }
+    ensures x { result.x ≡ pos 2 *ℤ spot.x }
+    ensures y { result.y ≡ pos 2 *ℤ spot.y }
+{
+    Point {
+        x: 2 * spot.x,
+        y: 2 * spot.y,
+    }
+}
+
+fn is_strip(strip: Strip) -> bool
+    ensures { result ≡ is_strip strip }
+{
+    (fits_board(strip.a) && fits_board(strip.b)) && is_length(strip.width)
+}
+
+/// The shape of a strip, unless one of its ends lies off the board or its width is no length.
+pub fn strip_shape(strip: Strip) -> Option<Shape>
+    ensures { result ≡ tested (is_strip strip) (strip_shape strip) }
+{
+    if !is_strip(strip) {
+        return None;
+    }
+    Some(Shape {
+        core: Core::Line(Seg {
+            a: doubled(strip.a),
+            b: doubled(strip.b),
+        }),
+        radius: strip.width,
+    })
+}

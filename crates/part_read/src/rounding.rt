@@ -1,0 +1,37 @@
+//! Shapes around cores.
+
+ghost use Rattle.std.specs.Prelude.{◌≡◌};
+ghost use Rattle.part_read.specs.OnBoard.{is_length};
+ghost use Rattle.part_read.specs.Figures.{radius_of, no_radius, around};
+
+use crate::on_board::is_length;
+use crate::radii::Radius;
+use board_items::Nm;
+use geo_seg::{Core, Shape};
+
+/// The radius, unless it is above 500 mm in diameter, or negative.
+pub fn radius_of(width: Nm) -> Option<Radius>
+    ensures { result ≡ radius_of width }
+{
+    if !is_length(width) {
+        return None;
+    }
+    Some(Radius { value: width })
+}
+
+/// All that lies within the radius of the core.
+pub fn around(radius: Radius, core: Core) -> Shape
+    ensures { result ≡ around radius core }
+{
+    Shape {
+        core,
+        radius: radius.value,
+    }
+}
+
+/// No radius.
+pub fn no_radius() -> Radius
+    ensures { result ≡ no_radius }
+{
+    Radius { value: 0 }
+}

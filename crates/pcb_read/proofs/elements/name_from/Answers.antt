@@ -1,4 +1,0 @@
-use Rattle.pcb_read.proofs.elements.name_from.Goals as goal
-
-pub of-requires : goal.of-requires
-of-requires c = rw (c.in_ok-value.ensures.ok, c.new-bytes.ensures.items) c.value.ensures.utf8

@@ -1,0 +1,116 @@
+//! Tracks and vias as items.
+
+ghost use Rattle.std.specs.Prelude.{◌≡◌, ◌∷◌, [], ℤ, true, is_some, IfSome, IsTrue};
+ghost use Rattle.board_items.specs.Layers.{is_within};
+ghost use Rattle.board_items.specs.Boards.{PlainBoard, name_of, is_admitted};
+ghost use Rattle.part_read.specs.OnBoard.{tested};
+ghost use Rattle.pcb_read.specs.Tracks.{track_along, is_hole, hole_through, via_at};
+
+use board_items::{Hole, Item, LayerSet, Nm, Part, Parts, What};
+use drc_io::Name;
+use geo_seg::Shape;
+use part_read::{Spot, Strip, strip_shape};
+use smallvec::SmallVec;
+use std::alloc::Global;
+
+/// What an item has besides its place: its name, its unit, its net, and the layers of its copper.
+#[derive(Drop)]
+pub(crate) struct Origin {
+    pub(crate) name: Name,
+    pub(crate) unit: u32,
+    pub(crate) net: u32,
+    pub(crate) layers: LayerSet,
+}
+
+/// The list of one part.
+fn one_part(alloc: Global, layers: LayerSet, shape: Shape) -> Parts
+    ensures { result ≡ record { layers = layers; shape = shape } ∷ [] }
+{
+    let mut list = SmallVec::new(alloc);
+    list.push_reserved(Part { layers, shape });
+    Parts::of(list)
+}
+
+/// The track along a strip, unless the strip does not lie on a board.
+pub(crate) fn track_along(alloc: Global, strip: Strip, origin: Origin) -> Option<Item>
+    ensures item { result ≡ track_along strip origin }
+    ensures unit { IfSome result (λ item. item.unit ≡ origin.unit) }
+    ensures admitted { (board : PlainBoard) → is_some (name_of board origin.net) ≡ true → IsTrue (is_within origin.layers board.copper) → IfSome result (λ item. is_admitted board item ≡ true) }
+{
+    let shape = strip_shape(strip)?;
+    Some(Item {
+        name: origin.name,
+        unit: origin.unit,
+        net: origin.net,
+        x: strip.a.x,
+        y: strip.a.y,
+        copper: one_part(alloc, origin.layers, shape),
+        hole: None,
+        local: None,
+        what: What::Track { width: strip.width },
+    })
+}
+
+// ---- vias
+
+/// What a via is by its numbers and words, in nanometres. It may lie off the board.
+#[derive(Clone, Copy)]
+pub(crate) struct ViaForm {
+    pub(crate) at: Spot,
+    pub(crate) size: Nm,
+    pub(crate) drill: Option<Nm>,
+    pub(crate) micro: bool,
+    pub(crate) blind: bool,
+}
+
+/// A round hole through these layers, where the via has a drill; None where the hole does not lie on a board.
+fn hole_through(form: &ViaForm, layers: LayerSet) -> Option<Option<Hole>>
+    ensures { result ≡ tested (is_hole form.now) (hole_through form.now layers) }
+{
+    let Some(drill) = form.drill else {
+        return Some(None);
+    };
+    let strip = Strip {
+        a: form.at,
+        b: form.at,
+        width: drill,
+    };
+    let shape = strip_shape(strip)?;
+    Some(Some(Hole {
+        shape,
+        layers,
+        plated: true,
+        least: strip.width,
+    }))
+}
+
+/// The via of this form, unless its disc or its hole does not lie on a board.
+pub(crate) fn via_of_form(alloc: Global, form: &ViaForm, origin: Origin) -> Option<Item>
+    ensures item { result ≡ via_at form.now origin }
+    ensures unit { IfSome result (λ item. item.unit ≡ origin.unit) }
+    ensures admitted { (board : PlainBoard) → is_some (name_of board origin.net) ≡ true → IsTrue (is_within origin.layers board.copper) → IfSome result (λ item. is_admitted board item ≡ true) }
+{
+    let strip = Strip {
+        a: form.at,
+        b: form.at,
+        width: form.size,
+    };
+    let shape = strip_shape(strip)?;
+    let hole = hole_through(form, origin.layers)?;
+    Some(Item {
+        name: origin.name,
+        unit: origin.unit,
+        net: origin.net,
+        x: form.at.x,
+        y: form.at.y,
+        copper: one_part(alloc, origin.layers, shape),
+        hole,
+        local: None,
+        what: What::Via {
+            size: form.size,
+            drill: form.drill.unwrap_or(0),
+            micro: form.micro,
+            blind: form.blind,
+        },
+    })
+}
