@@ -1,0 +1,2 @@
+pub mod ZoneOf
+pub mod Taking

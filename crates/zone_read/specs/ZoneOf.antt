@@ -1,0 +1,173 @@
+-- Zones: the items that (zone (net N) (layer NAME) (name TEXT) ..) gives. With `keepout` it is a rule area, by its polygon; else each
+-- filled polygon on copper is a fill. The elements are looked at in this order.
+use Rattle.std.specs.Prelude.{ℕ, suc, nat_lt, nat_eq, ℤ, pos, Bool, true, false, ◌&&◌, List, [], ◌∷◌, codes, Option, None, Some, Result, Ok, Err, refl, if◌then◌else◌}
+use Rattle.sexpr_read.specs.Tree.{Tree, parts, is_list}
+use Rattle.geo_seg.specs.declared.points.Point.{Point}
+use Rattle.geo_seg.specs.declared.shapes.Core.TheVariants.{Area as AreaCore}
+use Rattle.geo_seg.specs.declared.shapes.Shape.{Shape}
+use Rattle.board_items.specs.declared.errors.BoardError.{BoardError}
+use Rattle.board_items.specs.declared.errors.BoardError.TheVariants.{Missing, OutOfBoard, ThickFill, TooMany}
+use Rattle.board_items.specs.declared.layers.LayerSet.{LayerSet}
+use Rattle.board_items.specs.declared.parts.Part.{Part}
+use Rattle.board_items.specs.declared.item.Bans.{Bans}
+use Rattle.board_items.specs.declared.item.What.TheVariants.{Fill, Area}
+use Rattle.board_items.specs.declared.item.Item.{Item}
+use Rattle.board_items.specs.Layers.{single_layer}
+use Rattle.board_items.specs.Boards.{PlainBoard}
+use Rattle.board_items.specs.Refusals.{room_of}
+use Rattle.part_read.specs.declared.numbers.Spot.{Spot}
+use Rattle.part_read.specs.declared.stances.Stance.{Stance}
+use Rattle.part_read.specs.Elements.{◌>>=◌, needed, check, place, text_of, is_text, has_head, element, atom_of, in_needed, name_in}
+use Rattle.part_read.specs.LayersOf.{layer_in, layers_named, each_set, named}
+use Rattle.part_read.specs.LayersWhere.{layers_of_any}
+use Rattle.part_read.specs.NetsOf.{net_of}
+use Rattle.part_read.specs.Stances.{points_stood}
+use Rattle.part_read.specs.Figures.{first_of, no_radius, around}
+use Rattle.part_read.specs.Drawings.{corners_of, corners_in}
+use Rattle.part_read.specs.PlainItems.{plain_item}
+
+-- ---- layers and name
+
+abbrev pub layers_among : LayerSet → Tree → Option Tree → Option Tree → Result LayerSet BoardError
+layers_among copper tree (Some layer) layers = do
+  atom ← atom_of 1 layer
+  sets ← named copper atom
+  Ok (layers_of_any sets)
+layers_among copper tree None (Some layers) = layers_named copper layers
+layers_among copper tree None None = Err (Missing (place tree))
+
+-- the copper layers of (layer NAME), else of (layers NAME ..), of which one must be there
+unfoldable pub zone_layers : LayerSet → Tree → Result LayerSet BoardError
+zone_layers copper tree = layers_among copper tree (element (codes "layer") tree) (element (codes "layers") tree)
+
+abbrev pub title_among : Option Tree → Result (List ℕ) BoardError
+title_among None = Ok []
+title_among (Some list) = atom_of 1 list >>= λ atom. Ok (text_of atom)
+
+-- the text of (name TEXT), or the empty one
+unfoldable pub title_of : Tree → Result (List ℕ) BoardError
+title_of tree = title_among (element (codes "name") tree)
+
+-- ---- areas with their inside
+
+-- nothing is turned or moved
+abbrev pub as_it_is : Stance
+as_it_is = record { quarter = 0; at = record { x = pos 0; y = pos 0 } }
+
+-- an area has no width
+abbrev pub area_with : List Point → Shape
+area_with points = around no_radius (AreaCore points)
+
+abbrev pub area_around : Option (List Point) → Option Shape
+area_around None = None
+area_around (Some points) = Some (area_with points)
+
+-- the polygon of these corners, if it lies on the board
+abbrev pub area_of : List Spot → Option Shape
+area_of corners = area_around (points_stood as_it_is corners)
+
+-- ---- room
+
+-- there is room for an item more after so many of the zone: an id, a place in the list, and a unit number
+abbrev pub has_room_after : ℕ → PlainBoard → ℕ → Bool
+has_room_after items board unit = nat_lt items (room_of board) && nat_lt unit 4294967295
+
+-- ---- rule areas
+
+abbrev pub ban_among : Option Tree → Result Bool BoardError
+ban_among None = Ok false
+ban_among (Some list) = atom_of 1 list >>= λ atom. Ok (is_text atom (codes "not_allowed"))
+
+-- whether (HEAD not_allowed) stands in the list
+abbrev pub ban_of : List ℕ → Tree → Result Bool BoardError
+ban_of head list = ban_among (element head list)
+
+unfoldable pub bans_in : Tree → Result Bans BoardError
+bans_in list = do
+  tracks ← ban_of (codes "tracks") list
+  vias ← ban_of (codes "vias") list
+  pads ← ban_of (codes "pads") list
+  footprints ← ban_of (codes "footprints") list
+  Ok (record { tracks = tracks; vias = vias; pads = pads; footprints = footprints })
+
+-- the corners of (polygon (pts (xy X Y) ..))
+unfoldable pub polygon_of : Tree → Result (List Spot) BoardError
+polygon_of tree = in_needed corners_of tree (element (codes "polygon") tree)
+
+-- the area of these corners, if it lies on the board and there is room for it
+unfoldable pub area_in_room : PlainBoard → ℕ → Tree → List Spot → Result Shape BoardError
+area_in_room board unit tree corners = do
+  shape ← needed (OutOfBoard (place tree)) (area_of corners)
+  room ← check (TooMany (place tree)) (has_room_after 0 board unit)
+  Ok shape
+
+unfoldable pub rule_area : PlainBoard → ℕ → Tree → ℕ → LayerSet → List ℕ → Tree → Result Item BoardError
+rule_area board unit tree net layers title keepout = do
+  bans ← bans_in keepout
+  corners ← polygon_of tree
+  shape ← area_in_room board unit tree corners
+  Ok (plain_item (name_in tree) unit net (first_of corners) [] (Area title bans (record { layers = layers; shape = shape })) refl)
+
+-- ---- fills
+
+-- the zone says that its fills have no outline with a width: (filled_areas_thickness no)
+abbrev pub is_thin_by : Option Tree → Bool
+is_thin_by None = false
+is_thin_by (Some list) = is_no (atom_of 1 list)
+  where
+    is_no : Result Tree BoardError → Bool
+    is_no (Ok atom) = is_text atom (codes "no")
+    is_no (Err e) = false
+
+unfoldable pub is_thin : Tree → Bool
+is_thin tree = is_thin_by (element (codes "filled_areas_thickness") tree)
+
+-- the copper layer of a filled polygon; None for one that is passed over
+unfoldable pub fill_layer : LayerSet → Tree → Result (Option ℕ) BoardError
+fill_layer copper list = do
+  layer ← needed (Missing (place list)) (element (codes "layer") list)
+  atom ← atom_of 1 layer
+  layer_in copper atom
+
+unfoldable pub fill_on : ℕ → ℕ → Tree → ℕ → Tree → Result Item BoardError
+fill_on unit net tree layer list = do
+  corners ← corners_of list
+  shape ← needed (OutOfBoard (place list)) (area_of corners)
+  Ok (plain_item (name_in tree) unit net (first_of corners) (record { layers = single_layer layer; shape = shape } ∷ []) Fill refl)
+
+-- the fill of a polygon on this layer, after so many, if its outline has no width and there is room for it
+unfoldable pub fill_in_room : ℕ → PlainBoard → ℕ → ℕ → Tree → Tree → ℕ → Result Item BoardError
+fill_in_room found board unit net tree list layer = do
+  thin ← check (ThickFill (place tree)) (is_thin tree)
+  fill ← fill_on unit net tree layer list
+  room ← check (TooMany (place list)) (has_room_after found board unit)
+  Ok fill
+
+-- that fill, and those that follow it; or those that follow one that is passed over
+abbrev pub with_fill : ℕ → PlainBoard → ℕ → ℕ → Tree → Tree → Result (List Item) BoardError → Result (List Item) BoardError → Option ℕ → Result (List Item) BoardError
+with_fill found board unit net tree list passed_over more None = passed_over
+with_fill found board unit net tree list passed_over more (Some layer) = do
+  fill ← fill_in_room found board unit net tree list layer
+  fills ← more
+  Ok (fill ∷ fills)
+
+-- the fills among the parts of the zone, after so many
+abbrev pub fills_after : ℕ → PlainBoard → ℕ → ℕ → Tree → List Tree → Result (List Item) BoardError
+fills_after found board unit net tree [] = Ok []
+fills_after found board unit net tree (t ∷ ts) =
+    if has_head (codes "filled_polygon") t
+    then (fill_layer board.copper t >>= with_fill found board unit net tree t (fills_after found board unit net tree ts) (fills_after (suc found) board unit net tree ts))
+    else fills_after found board unit net tree ts
+
+-- ---- zones
+
+abbrev pub zone_by : PlainBoard → ℕ → Tree → ℕ → LayerSet → List ℕ → Option Tree → Result (List Item) BoardError
+zone_by board unit tree net layers title (Some keepout) = rule_area board unit tree net layers title keepout >>= λ item. Ok (item ∷ [])
+zone_by board unit tree net layers title None = fills_after 0 board unit net tree (parts tree)
+
+unfoldable pub zone_of : PlainBoard → ℕ → Tree → Result (List Item) BoardError
+zone_of board unit tree = do
+  net ← net_of board tree
+  layers ← zone_layers board.copper tree
+  title ← title_of tree
+  zone_by board unit tree net layers title (element (codes "keepout") tree)

@@ -1,0 +1,402 @@
+//! Zones.
+
+ghost use Rattle.std.specs.Prelude.{◌≡◌, ◌+◌, ◌<◌, ◌≤◌, ◌∷◌, ◌++◌, [], ℕ, true, false, nat_lt, Some, is_some, length, codes, IfOk, IfSome, OnOk, IsTrue, option_map};
+ghost use Rattle.board_items.specs.Boards.{PlainBoard, IsSound, name_of};
+ghost use Rattle.board_items.specs.Layers.{has_layer, is_within};
+ghost use Rattle.part_read.specs.OnBoard.{fits_board};
+ghost use Rattle.part_read.specs.Ready.{IsReady, AreReady};
+ghost use Rattle.sexpr_read.specs.Tree.{parts};
+ghost use Rattle.sexpr_read.specs.Views.{tree_of, trees_left};
+ghost use Rattle.part_read.specs.Nodes.{Gives};
+ghost use Rattle.part_read.specs.Lists.{GivesItems};
+ghost use Rattle.part_read.specs.Elements.{element, name_in};
+ghost use Rattle.part_read.specs.NetsOf.{net_of};
+ghost use Rattle.part_read.specs.Figures.{first_of};
+ghost use Rattle.zone_read.specs.Taking.{TakesFill};
+ghost use Rattle.zone_read.specs.ZoneOf.{layers_among, zone_layers, title_among, title_of, as_it_is, area_with, area_of, has_room_after, ban_among, ban_of, bans_in, polygon_of, area_in_room, rule_area, is_thin_by, is_thin, fill_layer, fill_on, fill_in_room, fills_after, zone_by, zone_of};
+
+use board_items::{Bans, Board, BoardError, Boxed, Item, LayerSet, Part, What};
+use drc_io::Name;
+use geo_seg::{Core, Poly, Shape};
+use part_read::{
+    Corners, Spot, Stance, around, corners_of, element, first_atom, has_head, layer_in,
+    layers_named, missing, name_from, name_of_list, named, net_of, no_parts, no_radius, one_part,
+    place, plain_item, points_stood,
+};
+use sexpr_read::Node;
+use std::alloc::{AllocError, Global};
+
+// ---- net, layers and name
+
+/// The net of a zone, or 0, which is always there.
+fn declared_net(board: &Board, node: Node<'_, '_>) -> Result<u32, BoardError>
+    ensures net { result ≡ net_of board.now (tree_of node.entry) }
+    ensures declared { IfOk result (λ net. is_some (name_of board.now net) ≡ true) }
+{
+    // What holds of each board holds of this one.
+    let _ = board.left();
+    net_of(board, element(node, b"net"))
+}
+
+fn layers_among(
+    copper: LayerSet,
+    node: Node<'_, '_>,
+    layer: Option<Node<'_, '_>>,
+    layers: Option<Node<'_, '_>>,
+) -> Result<LayerSet, BoardError>
+    ensures layers { result ≡ layers_among copper (tree_of node.entry) (option_map tree_of layer.entry) (option_map tree_of layers.entry) }
+    ensures on { IfOk result (λ layers. IsTrue (is_within layers copper)) }
+{
+    if let Some(list) = layer {
+        let atom = first_atom(list)?;
+        let set = named(copper, atom)?;
+        return Ok(set);
+    }
+    match layers {
+        Some(list) => layers_named(copper, list),
+        None => Err(missing(node)),
+    }
+}
+
+/// The copper layers of `(layer NAME)`, else of `(layers NAME ..)`.
+#[tactic(auto, unfolding(crate::specs::ZoneOf::zone_layers))]
+fn zone_layers(copper: LayerSet, node: Node<'_, '_>) -> Result<LayerSet, BoardError>
+    ensures layers { result ≡ zone_layers copper (tree_of node.entry) }
+    ensures on { IfOk result (λ layers. IsTrue (is_within layers copper)) }
+{
+    layers_among(
+        copper,
+        node,
+        element(node, b"layer"),
+        element(node, b"layers"),
+    )
+}
+
+/// The text of `(name TEXT)`, or the empty one.
+#[tactic(auto, unfolding(crate::specs::ZoneOf::title_of))]
+fn title_of(alloc: Global, node: Node<'_, '_>) -> Result<Name, BoardError>
+    ensures { Gives result (title_of (tree_of node.entry)) }
+{
+    match element(node, b"name") {
+        None => Ok(Name::of(Vec::new(alloc))),
+        Some(list) => {
+            let atom = first_atom(list)?;
+            Ok(name_from(alloc, atom)?)
+        }
+    }
+}
+
+// ---- areas
+
+/// The polygon of these corners, unless it leaves the board.
+fn area_of(alloc: Global, corners: &Corners) -> Result<Option<Shape>, AllocError>
+    ensures shape { IfOk result (λ shape. shape ≡ area_of corners.now) }
+    ensures near { IfOk result (λ shape. IfSome shape (λ _. fits_board (first_of corners.now) ≡ true)) }
+{
+    let stance = Stance {
+        quarter: 0,
+        at: Spot { x: 0, y: 0 },
+    };
+    match points_stood(alloc, stance, corners.as_slice())? {
+        None => Ok(None),
+        Some(points) => {
+            let core = Core::Area(Poly::indexed(alloc, points)?);
+            Ok(Some(around(no_radius(), core)))
+        }
+    }
+}
+
+/// The spot by which a report names an area.
+fn first_of(corners: &Corners) -> Spot
+    ensures { result ≡ first_of corners.now }
+{
+    corners.as_slice()[0]
+}
+
+/// Whether the board has room for an item more after so many.
+fn has_room_after(items: usize, board: &Board, unit: u32) -> bool
+    ensures value { result ≡ has_room_after items board.now unit }
+    ensures sound { IsSound board.now }
+{
+    items < board.left() as usize && unit < u32::MAX
+}
+
+// ---- rule areas
+
+/// Whether `(HEAD not_allowed)` stands in the list.
+fn ban_of(list: Node<'_, '_>, head: &[u8]) -> Result<bool, BoardError>
+    ensures { result ≡ ban_of head.now (tree_of list.entry) }
+{
+    match element(list, head) {
+        None => Ok(false),
+        Some(ban) => {
+            let atom = first_atom(ban)?;
+            Ok(atom.is(b"not_allowed"))
+        }
+    }
+}
+
+#[tactic(auto, unfolding(crate::specs::ZoneOf::bans_in))]
+fn bans_in(list: Node<'_, '_>) -> Result<Bans, BoardError>
+    ensures { result ≡ bans_in (tree_of list.entry) }
+{
+    let tracks = ban_of(list, b"tracks")?;
+    let vias = ban_of(list, b"vias")?;
+    let pads = ban_of(list, b"pads")?;
+    let footprints = ban_of(list, b"footprints")?;
+    Ok(Bans {
+        tracks,
+        vias,
+        pads,
+        footprints,
+    })
+}
+
+/// The corners of `(polygon (pts (xy X Y) ..))`.
+#[tactic(auto, unfolding(crate::specs::ZoneOf::polygon_of))]
+fn polygon_of(alloc: Global, node: Node<'_, '_>) -> Result<Corners, BoardError>
+    ensures { Gives result (polygon_of (tree_of node.entry)) }
+{
+    match element(node, b"polygon") {
+        None => Err(missing(node)),
+        Some(list) => corners_of(alloc, list),
+    }
+}
+
+/// The area of these corners, where it lies on the board and there is room for it.
+#[tactic(auto, unfolding(crate::specs::ZoneOf::area_in_room))]
+fn area_in_room(
+    alloc: Global,
+    board: &Board,
+    unit: u32,
+    node: Node<'_, '_>,
+    corners: &Corners,
+) -> Result<Shape, BoardError>
+    ensures shape { Gives result (area_in_room board.now unit (tree_of node.entry) corners.now) }
+    ensures near { OnOk result (fits_board (first_of corners.now) ≡ true) }
+    ensures room { OnOk result (has_room_after 0 board.now unit ≡ true) }
+{
+    let Some(shape) = area_of(alloc, corners)? else {
+        return Err(BoardError::OutOfBoard { at: place(node) });
+    };
+    if !has_room_after(0, board, unit) {
+        return Err(BoardError::TooMany { at: place(node) });
+    }
+    Ok(shape)
+}
+
+/// The rule area of a zone.
+#[tactic(auto, unfolding(crate::specs::ZoneOf::rule_area))]
+fn rule_area(
+    alloc: Global,
+    board: &Board,
+    unit: u32,
+    node: Node<'_, '_>,
+    net: u32,
+    layers: LayerSet,
+    title: Name,
+    keepout: Node<'_, '_>,
+) -> Result<Item, BoardError>
+    requires net { is_some (name_of board.now net) ≡ true }
+    requires on { IsTrue (is_within layers board.now.copper) }
+    ensures area { Gives result (rule_area board.now unit (tree_of node.entry) net layers title (tree_of keepout.entry)) }
+    ensures ready { IfOk result (IsReady board.now unit) }
+    ensures room { OnOk result (has_room_after 0 board.now unit ≡ true) }
+{
+    let bans = bans_in(keepout)?;
+    let corners = polygon_of(alloc, node)?;
+    let shape = area_in_room(alloc, board, unit, node, &corners)?;
+    let name = name_of_list(alloc, node)?;
+    let what = area_what(alloc, title, bans, Part { layers, shape })?;
+    Ok(plain_item(name, unit, net, first_of(&corners), no_parts(alloc), what))
+}
+
+fn area_what(alloc: Global, title: Name, bans: Bans, shape: Part) -> Result<What, AllocError>
+    ensures { IfOk result (λ what. what ≡ What.Area title bans shape) }
+{
+    Ok(What::Area {
+        title: Boxed::new(alloc, title)?,
+        bans,
+        shape: Boxed::new(alloc, shape)?,
+    })
+}
+
+// ---- fills
+
+/// Whether the zone says that its fills have no outline with a width.
+#[tactic(auto, unfolding(crate::specs::ZoneOf::is_thin))]
+fn is_thin(node: Node<'_, '_>) -> bool
+    ensures { result ≡ is_thin (tree_of node.entry) }
+{
+    match element(node, b"filled_areas_thickness") {
+        None => false,
+        Some(list) => match first_atom(list) {
+            Ok(atom) => atom.is(b"no"),
+            Err(_) => false,
+        },
+    }
+}
+
+/// The copper layer of a filled polygon; None for one that is passed over.
+#[tactic(auto, unfolding(crate::specs::ZoneOf::fill_layer))]
+fn fill_layer(copper: LayerSet, list: Node<'_, '_>) -> Result<Option<u32>, BoardError>
+    ensures layer { result ≡ fill_layer copper (tree_of list.entry) }
+    ensures below { IfOk result (λ found. IfSome found (λ layer. layer < 32)) }
+    ensures on { IfOk result (λ found. IfSome found (λ layer. IsTrue (has_layer copper layer))) }
+{
+    match element(list, b"layer") {
+        None => Err(missing(list)),
+        Some(layer) => {
+            let atom = first_atom(layer)?;
+            layer_in(copper, atom)
+        }
+    }
+}
+
+/// The fill of a filled polygon on this layer.
+#[tactic(auto, unfolding(crate::specs::ZoneOf::fill_on))]
+fn fill_on(
+    alloc: Global,
+    unit: u32,
+    net: u32,
+    node: Node<'_, '_>,
+    layer: u32,
+    list: Node<'_, '_>,
+) -> Result<Item, BoardError>
+    requires { layer < 32 }
+    ensures fill { Gives result (fill_on unit net (tree_of node.entry) layer (tree_of list.entry)) }
+    ensures ready { (board : PlainBoard) → is_some (name_of board net) ≡ true → IsTrue (has_layer board.copper layer) → IfOk result (IsReady board unit) }
+{
+    let corners = corners_of(alloc, list)?;
+    let Some(shape) = area_of(alloc, &corners)? else {
+        return Err(BoardError::OutOfBoard { at: place(list) });
+    };
+    let copper = one_part(alloc, LayerSet::of(layer), shape);
+    let name = name_of_list(alloc, node)?;
+    Ok(plain_item(name, unit, net, first_of(&corners), copper, What::Fill))
+}
+
+/// The fill of a polygon on this layer, after so many, where its outline has no width and there is room for it.
+#[tactic(auto, unfolding(crate::specs::ZoneOf::fill_in_room))]
+fn fill_in_room(
+    alloc: Global,
+    found: usize,
+    board: &Board,
+    unit: u32,
+    net: u32,
+    node: Node<'_, '_>,
+    list: Node<'_, '_>,
+    layer: u32,
+) -> Result<Item, BoardError>
+    requires below { layer < 32 }
+    requires on { IsTrue (has_layer board.now.copper layer) }
+    requires net { is_some (name_of board.now net) ≡ true }
+    ensures fill { Gives result (fill_in_room found board.now unit net (tree_of node.entry) (tree_of list.entry) layer) }
+    ensures ready { IfOk result (IsReady board.now unit) }
+    ensures room { OnOk result (has_room_after found board.now unit ≡ true) }
+{
+    if !is_thin(node) {
+        return Err(BoardError::ThickFill { at: place(node) });
+    }
+    let fill = fill_on(alloc, unit, net, node, layer, list)?;
+    if !has_room_after(found, board, unit) {
+        return Err(BoardError::TooMany { at: place(list) });
+    }
+    Ok(fill)
+}
+
+fn push_item(items: &mut Vec<Item>, item: Item) -> Result<(), AllocError>
+    ensures { OnOk result (items.new.items ≡ items.old.items ++ item ∷ []) }
+{
+    items.push(item)?;
+    Ok(())
+}
+
+/// Takes the fill of a part, if it is a filled polygon on copper.
+fn take_fill(
+    alloc: Global,
+    board: &Board,
+    unit: u32,
+    net: u32,
+    node: Node<'_, '_>,
+    part: Node<'_, '_>,
+    fills: &mut Vec<Item>,
+) -> Result<(), BoardError>
+    requires net { is_some (name_of board.now net) ≡ true }
+    requires ready { AreReady board.now unit fills.old.items }
+    ensures taken { TakesFill result board.now unit net (tree_of node.entry) (tree_of part.entry) fills.old.items fills.new.items }
+    ensures ready { OnOk result (AreReady board.now unit fills.new.items) }
+{
+    if !has_head(part, b"filled_polygon") {
+        return Ok(());
+    }
+    let Some(layer) = fill_layer(board.copper(), part)? else {
+        return Ok(());
+    };
+    let fill = fill_in_room(
+        alloc,
+        fills.as_slice().len(),
+        board,
+        unit,
+        net,
+        node,
+        part,
+        layer,
+    )?;
+    push_item(fills, fill)?;
+    Ok(())
+}
+
+/// The fills of a zone.
+#[tactic(auto, using(crate::proofs::Admitting::none_ready))]
+fn fills_of(
+    alloc: Global,
+    board: &Board,
+    unit: u32,
+    net: u32,
+    node: Node<'_, '_>,
+) -> Result<Vec<Item>, BoardError>
+    requires { is_some (name_of board.now net) ≡ true }
+    ensures fills { GivesItems result (fills_after 0 board.now unit net (tree_of node.entry) (parts (tree_of node.entry))) }
+    ensures ready { IfOk result (λ items. AreReady board.now unit items.items) }
+{
+    let mut fills = Vec::new(alloc);
+    for part in node.children() {
+        take_fill(alloc, board, unit, net, node, part, &mut fills)?;
+    }
+    Ok(fills)
+}
+
+fn one_item(alloc: Global, item: Item) -> Result<Vec<Item>, AllocError>
+    ensures { IfOk result (λ items. items.items ≡ item ∷ []) }
+{
+    let mut items = Vec::with_capacity(alloc, 1)?;
+    items.push(item)?;
+    Ok(items)
+}
+
+/// The items of a zone: its rule area where it has `keepout`, else one fill for each filled polygon on copper.
+///
+/// Its refusals are those of [`BoardError`], exactly where the items of a zone (`specs/ZoneOf`) have them, with their
+/// places; want of memory alone is free. A fill keeps the boxes of its runs of corners.
+#[tactic(auto, using(crate::proofs::Admitting::one_ready), unfolding(crate::specs::ZoneOf::zone_of))]
+pub fn read_zone(
+    alloc: Global,
+    node: Node<'_, '_>,
+    board: &Board,
+    unit: u32,
+) -> Result<Vec<Item>, BoardError>
+    ensures items { GivesItems result (zone_of board.now unit (tree_of node.entry)) }
+    ensures ready { IfOk result (λ items. AreReady board.now unit items.items) }
+{
+    let net = declared_net(board, node)?;
+    let layers = zone_layers(board.copper(), node)?;
+    let title = title_of(alloc, node)?;
+    match element(node, b"keepout") {
+        None => fills_of(alloc, board, unit, net, node),
+        Some(keepout) => {
+            let area = rule_area(alloc, board, unit, node, net, layers, title, keepout)?;
+            Ok(one_item(alloc, area)?)
+        }
+    }
+}
