@@ -1,0 +1,4 @@
+pub mod Matching
+pub mod Named
+pub mod Searching
+pub mod Whole

@@ -1,0 +1,158 @@
+-- The classes of a project, as KiCad 7 writes it (KiCad developer documentation, project files):
+--   {"net_settings": {"classes": [{"name": TEXT, "clearance": NUMBER}, ..],
+--                     "netclass_patterns": [{"netclass": TEXT, "pattern": TEXT}, ..]},
+--    "board": {"design_settings": {"rules": {"min_clearance": NUMBER, ..}}}}
+-- Each member may be missing, and others are passed over. They are looked at in this order, and what is wrong first is the
+-- refusal. A project that is no object has none of them.
+use Rattle.std.specs.Prelude.{ℕ, ℤ, List, [], ◌∷◌, ◌++◌, map, find, codes, bytes_eq, Bool, Option, None, Some, is_some, unwrap_or, Result, Ok, if◌then◌else◌}
+use Rattle.json_exact.specs.Json.{Json}
+use Rattle.net_class.specs.declared.error.ProjectError.{ProjectError}
+use Rattle.net_class.specs.Classes.{PlainClass, PlainPattern, PlainMins, PlainClasses, plain_default, plain_mins}
+use Rattle.net_class.specs.Members.{◌>>=◌, object_in, list_in, entries, entry_of, text_in, length_in, length_or_none_in}
+
+-- a class as it is written
+pub record Written : Type 0 where
+  pub name : List ℕ
+  pub clearance : Option ℤ
+
+abbrev pub is_named : List ℕ → Written → Bool
+is_named name w = bytes_eq w.name name
+
+-- A class is kept where it has a name that none before it has.
+unfoldable pub with_written : List Written → Option (List ℕ) → Option ℤ → List Written
+with_written before None clearance = before
+with_written before (Some name) clearance =
+    if is_some (find (is_named name) before) then before else before ++ record { name = name; clearance = clearance } ∷ []
+
+-- one entry of the list of classes
+unfoldable pub with_class : List Written → Json → Result (List Written) ProjectError
+with_class before v = do
+  object ← entry_of v
+  name ← text_in (codes "name") object
+  clearance ← length_in (codes "clearance") object
+  Ok (with_written before name clearance)
+
+abbrev pub with_classes : List Written → List Json → Result (List Written) ProjectError
+with_classes before [] = Ok before
+with_classes before (v ∷ vs) = with_class before v >>= λ more. with_classes more vs
+
+abbrev pub clearance_of : Option Written → Option ℤ
+clearance_of None = None
+clearance_of (Some w) = w.clearance
+
+-- that of the class Default, if it says one
+unfoldable pub default_clearance : List Written → ℤ
+default_clearance written = unwrap_or (clearance_of (find (is_named plain_default.name) written)) plain_default.clearance
+
+abbrev pub class_from : ℤ → Written → PlainClass
+class_from default w = record { name = w.name; clearance = unwrap_or w.clearance default }
+
+-- ---- patterns
+
+-- A pattern is kept where it has both its texts.
+abbrev pub with_texts : List PlainPattern → Option (List ℕ) → Option (List ℕ) → List PlainPattern
+with_texts before None pattern = before
+with_texts before (Some class) None = before
+with_texts before (Some class) (Some pattern) = before ++ record { class = class; pattern = pattern } ∷ []
+
+-- one entry of the list of patterns
+unfoldable pub with_pattern : List PlainPattern → Json → Result (List PlainPattern) ProjectError
+with_pattern before v = do
+  object ← entry_of v
+  class ← text_in (codes "netclass") object
+  pattern ← text_in (codes "pattern") object
+  Ok (with_texts before class pattern)
+
+abbrev pub with_patterns : List PlainPattern → List Json → Result (List PlainPattern) ProjectError
+with_patterns before [] = Ok before
+with_patterns before (v ∷ vs) = with_pattern before v >>= λ more. with_patterns more vs
+
+-- ---- least sizes
+
+abbrev pub or_plain : Result (Option ℤ) ProjectError → ℤ → Result ℤ ProjectError
+or_plain answer plain = answer >>= λ n. Ok (unwrap_or n plain)
+
+-- from copper to copper, to the edge, from a hole to copper, from hole to hole
+pub record Distances : Type 0 where
+  pub clearance : ℤ
+  pub edge : ℤ
+  pub hole : ℤ
+  pub holes : ℤ
+
+-- a negative distance from the edge counts as not there
+unfoldable pub distances_in : Option Json → Result Distances ProjectError
+distances_in rules = do
+  clearance ← or_plain (length_in (codes "min_clearance") rules) plain_mins.min_clearance
+  edge ← or_plain (length_or_none_in (codes "min_copper_edge_clearance") rules) plain_mins.min_copper_edge_clearance
+  hole ← or_plain (length_in (codes "min_hole_clearance") rules) plain_mins.min_hole_clearance
+  holes ← or_plain (length_in (codes "min_hole_to_hole") rules) plain_mins.min_hole_to_hole
+  Ok (record { clearance = clearance; edge = edge; hole = hole; holes = holes })
+
+pub record Sizes : Type 0 where
+  pub drill : ℤ
+  pub track : ℤ
+  pub ring : ℤ
+  pub via : ℤ
+
+unfoldable pub sizes_in : Option Json → Result Sizes ProjectError
+sizes_in rules = do
+  drill ← or_plain (length_in (codes "min_through_hole_diameter") rules) plain_mins.min_through_hole_diameter
+  track ← or_plain (length_in (codes "min_track_width") rules) plain_mins.min_track_width
+  ring ← or_plain (length_in (codes "min_via_annular_width") rules) plain_mins.min_via_annular_width
+  via ← or_plain (length_in (codes "min_via_diameter") rules) plain_mins.min_via_diameter
+  Ok (record { drill = drill; track = track; ring = ring; via = via })
+
+unfoldable pub mins_in : Option Json → Result PlainMins ProjectError
+mins_in rules = do
+  distances ← distances_in rules
+  sizes ← sizes_in rules
+  Ok (record {
+    min_clearance = distances.clearance;
+    min_copper_edge_clearance = distances.edge;
+    min_hole_clearance = distances.hole;
+    min_hole_to_hole = distances.holes;
+    min_through_hole_diameter = sizes.drill;
+    min_track_width = sizes.track;
+    min_via_annular_width = sizes.ring;
+    min_via_diameter = sizes.via;
+  })
+
+-- ---- the whole
+
+unfoldable pub written_in : Option Json → Result (List Written) ProjectError
+written_in settings = do
+  list ← list_in (codes "classes") settings
+  with_classes [] (entries list)
+
+unfoldable pub patterns_in : Option Json → Result (List PlainPattern) ProjectError
+patterns_in settings = do
+  list ← list_in (codes "netclass_patterns") settings
+  with_patterns [] (entries list)
+
+unfoldable pub rules_in : Option Json → Result PlainMins ProjectError
+rules_in root = do
+  board ← object_in (codes "board") root
+  settings ← object_in (codes "design_settings") board
+  rules ← object_in (codes "rules") settings
+  mins_in rules
+
+unfoldable pub classes_from : List Written → List PlainPattern → PlainMins → PlainClasses
+classes_from written patterns mins = record {
+  default = record { name = plain_default.name; clearance = default_clearance written };
+  named = map (class_from (default_clearance written)) written;
+  patterns = patterns;
+  mins = mins;
+}
+
+-- behind the classes that are written: the patterns, and the least sizes
+abbrev pub with_rest : List Written → Option Json → Json → Result PlainClasses ProjectError
+with_rest written settings root = do
+  patterns ← patterns_in settings
+  mins ← rules_in (Some root)
+  Ok (classes_from written patterns mins)
+
+unfoldable pub classes_of : Json → Result PlainClasses ProjectError
+classes_of root = do
+  settings ← object_in (codes "net_settings") (Some root)
+  written ← written_in settings
+  with_rest written settings root

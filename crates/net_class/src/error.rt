@@ -1,0 +1,100 @@
+//! Why a project is refused.
+
+use json_exact::JsonError;
+use std::alloc::{AllocError, AllocFailed};
+use std::error::Error;
+use std::fmt;
+
+/// Why the text of a project is refused. `at` is a place in the text, counted in bytes. It is written `NAME (CODE)`, as
+/// `Shape (2)` or `Json.Bad (1.1)`.
+#[derive(Clone, Copy, Debug, Drop, PartialEq, Eq)]
+pub enum ProjectError {
+    /// The text is no JSON.
+    Json(JsonError),
+    /// The value at `at`, of a member that is read, is neither of the kind that is wanted nor null.
+    Shape { at: u32 },
+    /// The number at `at` is none of millimetres, or not from 0 to 500 mm.
+    BadNumber { at: u32 },
+    /// Memory ran out.
+    OutOfMemory,
+}
+
+impl ProjectError {
+    ghost use Rattle.std.specs.Prelude.{◌≡◌};
+    ghost use Rattle.net_class.specs.Reasons.{name_of, code_of, place_of};
+
+    pub fn name(&self) -> &'static str
+        ensures { result.now ≡ name_of self.now }
+    {
+        match self {
+            ProjectError::Json(JsonError::Bad { .. }) => "Json.Bad",
+            ProjectError::Json(JsonError::TooDeep { .. }) => "Json.TooDeep",
+            ProjectError::Json(JsonError::OutOfMemory) => "Json.OutOfMemory",
+            ProjectError::Shape { .. } => "Shape",
+            ProjectError::BadNumber { .. } => "BadNumber",
+            ProjectError::OutOfMemory => "OutOfMemory",
+        }
+    }
+
+    /// Its number. Want of memory has none, which is written 0.
+    pub fn code(&self) -> &'static str
+        ensures { result.now ≡ code_of self.now }
+    {
+        match self {
+            ProjectError::Json(JsonError::Bad { .. }) => "1.1",
+            ProjectError::Json(JsonError::TooDeep { .. }) => "1.2",
+            ProjectError::Json(JsonError::OutOfMemory) => "1.0",
+            ProjectError::Shape { .. } => "2",
+            ProjectError::BadNumber { .. } => "3",
+            ProjectError::OutOfMemory => "0",
+        }
+    }
+
+    /// Its byte of the text. Want of memory has no place.
+    pub fn place(&self) -> Option<u32>
+        ensures { result ≡ place_of self.now }
+    {
+        match self {
+            ProjectError::Json(error) => error.place(),
+            ProjectError::Shape { at } | ProjectError::BadNumber { at } => Some(*at),
+            ProjectError::OutOfMemory => None,
+        }
+    }
+}
+
+impl From<AllocError> for ProjectError {
+    ghost use Rattle.std.specs.Prelude.{◌≡◌};
+    ghost use Rattle.net_class.specs.declared.error.ProjectError.TheVariants.{OutOfMemory};
+
+    ghost from_gives = { λ _ e. e ≡ OutOfMemory };
+
+    fn from(_: AllocError) -> ProjectError {
+        ProjectError::OutOfMemory
+    }
+}
+
+impl<T: Drop> From<AllocFailed<T>> for ProjectError {
+    ghost use Rattle.std.specs.Prelude.{◌≡◌};
+    ghost use Rattle.net_class.specs.declared.error.ProjectError.TheVariants.{OutOfMemory};
+
+    ghost from_gives = { λ _ e. e ≡ OutOfMemory };
+
+    fn from(_: AllocFailed<T>) -> ProjectError {
+        ProjectError::OutOfMemory
+    }
+}
+
+impl fmt::Display for ProjectError {
+    ghost use Rattle.std.specs.Prelude.{Some};
+    ghost use Rattle.net_class.specs.Reasons.{reason_of};
+
+    ghost output = { λ e. Some (reason_of e) };
+
+    fn fmt<W: fmt::Write>(&self, f: &mut fmt::Formatter<W>) -> fmt::Result {
+        let name = self.name();
+        let code = self.code();
+        write!(f, "{name} ({code})")
+    }
+}
+
+impl Error for ProjectError {}

@@ -1,0 +1,64 @@
+//! Net classes and the least sizes of a board, read from the text of a project.
+//!
+//! The project is that of KiCad 7, a JSON text (KiCad developer documentation). Lengths are millimetres in the text and
+//! whole nanometres here, to the nearest. What a project says is defined in `specs/ClassesOf`.
+#![tactic(auto)]
+
+ghost use Rattle.std.specs.Prelude.{◌≡◌, ◌≤◌, ◌⊎◌, length, MatchResult, Result, Ok, Err};
+ghost use Rattle.net_class.specs.declared.error.ProjectError.{ProjectError};
+ghost use Rattle.net_class.specs.Classes.{PlainClasses};
+ghost use Rattle.net_class.specs.ProjectText.{Says, refusal_of};
+
+mod classes;
+mod drafts;
+mod error;
+mod lengths;
+mod members;
+mod mins;
+mod patterns;
+mod reading;
+
+pub use classes::Classes;
+use classes::classes_of;
+pub use error::ProjectError;
+use json_exact::{JsonError, parse};
+pub use lengths::{Class, Mins, Nm};
+pub use patterns::wild;
+use std::alloc::Global;
+
+/// The classes of the text of a project, of at most 33,554,432 bytes, or the first reason why there are none, with its
+/// place. The reasons are those of [`ProjectError`], exactly where `specs/ProjectText` has them; want of memory alone is
+/// free.
+pub fn read_project(alloc: Global, text: &[u8]) -> Result<Classes, ProjectError>
+    requires { length text.now ≤ 33_554_432 }
+    ensures says { MatchResult result (λ classes. Says text.now (Ok classes)) (λ e. (e ≡ ProjectError.OutOfMemory) ⊎ Says text.now (Err e)) }
+    ensures only { (answer : Result PlainClasses ProjectError) → Says text.now answer → MatchResult result (λ classes. answer ≡ Ok classes) (λ e. (e ≡ ProjectError.OutOfMemory) ⊎ (answer ≡ Err e)) }
+{
+    match parse(alloc, text) {
+        Ok(json) => classes_of(alloc, json.root()),
+        Err(error) => Err(refused(error)),
+    }
+}
+
+/// The refusal of a text that is no JSON.
+fn refused(error: JsonError) -> ProjectError
+    ensures { result ≡ refusal_of error }
+{
+    match error {
+        JsonError::OutOfMemory => ProjectError::OutOfMemory,
+        _ => ProjectError::Json(error),
+    }
+}
+
+// Each type may go to another thread and be shared by threads.
+fn crosses<T: Send + Sync>() {}
+
+fn all_cross() {
+    crosses::<Class>();
+    crosses::<Classes>();
+    crosses::<Mins>();
+    crosses::<ProjectError>();
+}
+
+#[cfg(test)]
+mod tests;
