@@ -108,6 +108,14 @@ pub flat_rest : {X : Type 0} (f : X → List ℕ) (xs : List X) (i : ℕ) (d : X
 flat_rest f xs i d h =
     ap (flat_map f) (sym (take-append-drop (i + 1) xs)) ∙ (flat_map-append f (take (i + 1) xs) (drop (i + 1) xs) ∙ ap (λ y. y ++ flat_map f (drop (i + 1) xs)) (flat_more f xs i d h))
 
+-- the same for an element by its place
+pub flat_more_at : {X : Type 0} (f : X → List ℕ) (xs : List X) (i : ℕ) (x : X) → i < length xs → x ≡ get_or xs i x → flat_map f (take (i + 1) xs) ≡ flat_map f (take i xs) ++ f x
+flat_more_at f xs i x h e = flat_more f xs i x h ∙ ap (λ y. flat_map f (take i xs) ++ f y) (sym e)
+
+pub flat_rest_at : {X : Type 0} (f : X → List ℕ) (xs : List X) (i : ℕ) (x : X) → i < length xs → x ≡ get_or xs i x
+    → flat_map f xs ≡ (flat_map f (take i xs) ++ f x) ++ flat_map f (drop (i + 1) xs)
+flat_rest_at f xs i x h e = flat_rest f xs i x h ∙ ap (λ y. (flat_map f (take i xs) ++ f y) ++ flat_map f (drop (i + 1) xs)) (sym e)
+
 -- lines that broke off, where the whole text has more behind them
 pub Writes-cut : {S T E D : Type 0} (a b : Option (List ℕ)) (m n : ℕ) (text rest whole : List ℕ) (e : D) (r : Result T E) (d : E) → r ≡ Err d → whole ≡ text ++ rest
     → Writes {T = S} {E = D} a b m n text (Err e) → Writes a b m n whole r

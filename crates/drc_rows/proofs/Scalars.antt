@@ -1,15 +1,23 @@
 -- Lengths that can be written, and items whose places can be.
-use Rattle.std.proofs.Common.{◌≡◌, ◌≤◌, ℤ, pos, negsuc, neg_ℤ, Bool, true, false, ◌&&◌, is_some, refl, w64, arith}
+use Rattle.std.proofs.Common.{◌≡◌, ◌≤◌, ◌≤ℤ◌, ℤ, pos, negsuc, neg_ℤ, Bool, true, false, ◌&&◌, is_some, refl, arith}
 use Rattle.std.proofs.lemmas.Int.{ints}
 use Rattle.std.specs.Int.Signed.{le_z}
-use Rattle.std.specs.Prelude.{FitsSigned, unsigned_abs}
+use Rattle.std.specs.Prelude.{unsigned_abs}
+use Rattle.int_algebra.proofs.Scalars.{passed}
+use Rattle.drc_io.specs.Lengths.{IsLength}
 use Rattle.board_items.specs.declared.item.Item.{Item}
 use Rattle.board_items.specs.Boards.{PlainBoard, is_near, is_on_board, is_admitted, name_of, has_layers_of}
 
--- a length that can be written stands for itself
-pub fits_far : (z : ℤ) → unsigned_abs z ≤ 1000000000000 → FitsSigned w64 z
-fits_far (pos n) h = record { sfits = omega (arith, ints) }
-fits_far (negsuc n) h = record { sfits = omega (arith, ints) }
+-- a length, as it is passed to a call
+pub length_far : {v w : ℤ} → v ≡ w → IsLength w → unsigned_abs (passed v) ≤ 1000000000000
+length_far {v} {w} e l = let from = l.from in let to = l.to in far v (omega (arith, ints, e)) (omega (arith, ints, e))
+  where
+    far : (z : ℤ) → pos 0 ≤ℤ z → z ≤ℤ pos 500000000 → unsigned_abs (passed z) ≤ 1000000000000
+    far (pos n) h k = omega (arith, ints)
+    far (negsuc n) h k = absurd (omega (arith, ints))
+
+pub length_as : {v w : ℤ} → v ≡ w → IsLength w → passed v ≡ w
+length_as {v} {w} e l = let from = l.from in let to = l.to in omega (arith, ints, e)
 
 near : (z : ℤ) → is_near z ≡ true → unsigned_abs z ≤ 1000000000000
 near z h = by (le_z (neg_ℤ (pos 500000000)) z) (le_z z (pos 500000000)) refl refl h

@@ -1,5 +1,5 @@
 -- The texts of the report. Every line ends with a line feed.
-use Rattle.std.specs.Prelude.{◌<◌, ◌≤◌, ℕ, List, [], ◌++◌, length, codes, decimal, unsigned_abs, Option, None, Some, IsSome, unwrap_or, slice_get}
+use Rattle.std.specs.Prelude.{ℕ, List, [], ◌++◌, length, codes, decimal, Option, None, Some, unwrap_or, slice_get}
 use Rattle.std.specs.List.{flat_map}
 use Rattle.exact_dec.specs.Written.{mm_text}
 use Rattle.board_items.specs.declared.item.What.{What}
@@ -70,11 +70,3 @@ number_line before number after = before ++ decimal number ++ after ++ codes "\n
 unfoldable pub report : PlainBoard → List Row → List ℕ
 report board rows =
     number_line (codes "report ") 0 [] ++ flat_map (row_line board) rows ++ number_line (codes "rows ") (length rows) []
-
--- a row that can be written: its items are in the board, its layer is one of copper, and its lengths are at most a kilometre
-pub record IsPrintable (board : PlainBoard) (row : Row) : Type 0 where
-  pub first : IsSome (item_at board.items row.first)
-  pub second : IsSome (item_at board.items row.second)
-  pub layer : row.layer < 32
-  pub value : unsigned_abs row.value ≤ 1000000000000
-  pub gap : unsigned_abs row.gap ≤ 1000000000000

@@ -1,6 +1,6 @@
 //! How an item stands in a line: by its kind, a name, and its place.
 
-ghost use Rattle.std.specs.Prelude.{◌≡◌, ◌++◌, ℕ, List, IsSome, true};
+ghost use Rattle.std.specs.Prelude.{◌≡◌, ◌++◌, ℕ, List, IsSome, codes, true};
 ghost use Rattle.board_items.specs.Boards.{item_at, is_on_board};
 ghost use Rattle.drc_rows.specs.Line.{Puts};
 ghost use Rattle.drc_rows.specs.Report.{named, title_of, item_text, text_of};
@@ -20,6 +20,19 @@ fn push_named<W: Sink>(line: &mut Line, out: &mut W, word: &[u8], name: &Name) -
     line.push(out, b"\"")
 }
 
+/// Puts what a pad is called into the line.
+fn push_pad<W: Sink>(
+    line: &mut Line,
+    out: &mut W,
+    number: &Name,
+    reference: &Name,
+) -> Result<(), Failed>
+    ensures { Puts (W.written out.old) (W.written out.new) (W.faults out.old) (W.faults out.new) line.old (named (codes "pad") number.now ++ named (codes " of") reference.now) line.new result }
+{
+    push_named(line, out, b"pad", number)?;
+    push_named(line, out, b" of", reference)
+}
+
 /// Puts into the line what the item is called.
 fn push_title<W: Sink>(line: &mut Line, out: &mut W, item: &Item) -> Result<(), Failed>
     ensures { Puts (W.written out.old) (W.written out.new) (W.faults out.old) (W.faults out.new) line.old (title_of item.now.name item.now.what) line.new result }
@@ -27,15 +40,12 @@ fn push_title<W: Sink>(line: &mut Line, out: &mut W, item: &Item) -> Result<(), 
     match &item.what {
         What::Track { .. } => push_named(line, out, b"track", &item.name),
         What::Via { .. } => push_named(line, out, b"via", &item.name),
-        What::Pad { number, reference } => {
-            push_named(line, out, b"pad", number)?;
-            push_named(line, out, b" of", reference)
-        }
+        What::Pad { number, reference } => push_pad(line, out, number.get(), reference.get()),
         What::Graphic => push_named(line, out, b"graphic", &item.name),
         What::Fill => push_named(line, out, b"zone", &item.name),
         What::Edge { .. } => push_named(line, out, b"edge", &item.name),
-        What::Area { title, .. } => push_named(line, out, b"area", title),
-        What::Body { reference, .. } => push_named(line, out, b"footprint", reference),
+        What::Area { title, .. } => push_named(line, out, b"area", title.get()),
+        What::Body { reference, .. } => push_named(line, out, b"footprint", reference.get()),
         What::Note { .. } => push_named(line, out, b"note", &item.name),
     }
 }

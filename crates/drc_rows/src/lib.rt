@@ -6,7 +6,5 @@ mod line;
 mod millimetres;
 mod pieces;
 mod report;
-#[cfg(test)]
-mod tests;
 
-pub use report::{write_line, write_rows};
+pub use report::{write_line, write_pieces, write_rows};

@@ -1,11 +1,11 @@
 //! The lines of rows, and lines with a number.
 
-ghost use Rattle.std.specs.Prelude.{◌≡◌, ◌≤◌, ◌<◌, ◌++◌, ℕ, List, [], ◌∷◌, unsigned_abs, All, IsSome};
+ghost use Rattle.std.specs.Prelude.{◌≡◌, ◌++◌, ℕ, List, [], All};
 ghost use Rattle.std.specs.List.{flat_map};
 ghost use Rattle.drc_io.specs.Sinks.{Writes};
-ghost use Rattle.board_items.specs.Boards.{item_at};
+ghost use Rattle.row_check.specs.Rows.{HasItems};
 ghost use Rattle.drc_rows.specs.Line.{Puts};
-ghost use Rattle.drc_rows.specs.Report.{kind_word, head_text, pair_text, measures, row_line, number_line, IsPrintable};
+ghost use Rattle.drc_rows.specs.Report.{kind_word, head_text, pair_text, measures, row_line, number_line};
 
 use crate::items::push_item_of;
 use crate::line::Line;
@@ -18,11 +18,10 @@ use row_check::{Kind, Row};
 
 /// Puts the kind and the layer of a row into the line.
 fn push_head<W: Sink>(line: &mut Line, out: &mut W, row: &Row) -> Result<(), Failed>
-    requires { row.now.layer < 32 }
     ensures { Puts (W.written out.old) (W.written out.new) (W.faults out.old) (W.faults out.new) line.old (head_text row.now) line.new result }
 {
-    let kind = kind_word(row.kind);
-    let layer = layer_name(row.layer);
+    let kind = kind_word(row.kind());
+    let layer = layer_name(row.layer());
     push_all(line, out, &[b"error ", kind, b" ", layer, b": "])
 }
 
@@ -37,15 +36,13 @@ fn kind_word(kind: Kind) -> &'static [u8]
 
 /// Puts what was asked for and what there is into the line.
 fn push_measures<W: Sink>(line: &mut Line, out: &mut W, row: &Row) -> Result<(), Failed>
-    requires value { unsigned_abs row.now.value ≤ 1000000000000 }
-    requires gap { unsigned_abs row.now.gap ≤ 1000000000000 }
     ensures { Puts (W.written out.old) (W.written out.new) (W.faults out.old) (W.faults out.new) line.old (measures row.now.kind row.now) line.new result }
 {
-    match row.kind {
+    match row.kind() {
         Kind::Short => line.push(out, b"\n"),
         Kind::Clearance => {
-            let needs = Millimetres::of(row.value);
-            let has = Millimetres::of(row.gap);
+            let needs = Millimetres::of(row.value());
+            let has = Millimetres::of(row.gap());
             push_all(
                 line,
                 out,
@@ -63,18 +60,17 @@ fn push_measures<W: Sink>(line: &mut Line, out: &mut W, row: &Row) -> Result<(),
 
 /// Puts the two items of a row into the line.
 fn push_pair<W: Sink>(line: &mut Line, out: &mut W, board: &Board, row: &Row) -> Result<(), Failed>
-    requires first { IsSome (item_at board.now.items row.now.first) }
-    requires second { IsSome (item_at board.now.items row.now.second) }
+    requires { HasItems board.now row.now }
     ensures { Puts (W.written out.old) (W.written out.new) (W.faults out.old) (W.faults out.new) line.old (pair_text board.now row.now) line.new result }
 {
-    push_item_of(line, out, board, row.first)?;
+    push_item_of(line, out, board, row.first())?;
     line.push(out, b" | ")?;
-    push_item_of(line, out, board, row.second)
+    push_item_of(line, out, board, row.second())
 }
 
 /// Puts the line of a row together.
 fn push_row<W: Sink>(line: &mut Line, out: &mut W, board: &Board, row: &Row) -> Result<(), Failed>
-    requires { IsPrintable board.now row.now }
+    requires { HasItems board.now row.now }
     ensures { Puts (W.written out.old) (W.written out.new) (W.faults out.old) (W.faults out.new) line.old (row_line board.now row.now) line.new result }
 {
     push_head(line, out, row)?;
@@ -84,7 +80,7 @@ fn push_row<W: Sink>(line: &mut Line, out: &mut W, board: &Board, row: &Row) -> 
 
 /// Writes the line of a row.
 fn write_row<W: Sink>(out: &mut W, board: &Board, row: &Row) -> Result<(), Failed>
-    requires { IsPrintable board.now row.now }
+    requires { HasItems board.now row.now }
     ensures { Writes (W.written out.old) (W.written out.new) (W.faults out.old) (W.faults out.new) (row_line board.now row.now) result }
 {
     let mut line = Line::new();
@@ -92,17 +88,26 @@ fn write_row<W: Sink>(out: &mut W, board: &Board, row: &Row) -> Result<(), Faile
     line.end(out)
 }
 
-/// Writes the lines of rows, in their order. Their items are in the board, their layers are below 32, and their lengths at
-/// most 10^12 nanometres. `Failed` comes only where the sink's count of faults rose, and then a front part of the lines
-/// was written.
+/// Writes the lines of rows, in their order. Their items are in the board. `Failed` comes only where the sink's count of
+/// faults rose, and then a front part of the lines was written.
 pub fn write_rows<W: Sink>(board: &Board, rows: &[Row], out: &mut W) -> Result<(), Failed>
-    requires { All (IsPrintable board.now) rows.now }
+    requires { All (HasItems board.now) rows.now }
     ensures { Writes (W.written out.old) (W.written out.new) (W.faults out.old) (W.faults out.new) (flat_map (row_line board.now) rows.now) result }
 {
     for row in rows {
         write_row(out, board, row)?;
     }
     Ok(())
+}
+
+/// Writes pieces one behind another, as one text. `Failed` comes only where the sink's count of faults rose, and then a
+/// front part of them was written.
+pub fn write_pieces<W: Sink>(pieces: &[&[u8]], out: &mut W) -> Result<(), Failed>
+    ensures { Writes (W.written out.old) (W.written out.new) (W.faults out.old) (W.faults out.new) (flat_map (λ p. p.now) pieces.now) result }
+{
+    let mut line = Line::new();
+    push_all(&mut line, out, pieces)?;
+    line.end(out)
 }
 
 /// Writes a line of a text, a number and a text. `Failed` comes only where the sink's count of faults rose, and then a
@@ -116,11 +121,8 @@ pub fn write_line<W: Sink>(
     ensures { Writes (W.written out.old) (W.written out.new) (W.faults out.old) (W.faults out.new) (number_line before.now number after.now) result }
 {
     let mut digits = Buffer::new();
-    let mut line = Line::new();
-    push_all(
-        &mut line,
-        out,
+    write_pieces(
         &[before, digits.format(number).as_bytes(), after, b"\n"],
-    )?;
-    line.end(out)
+        out,
+    )
 }

@@ -1,5 +1,5 @@
 -- The first of the copper layers, found by going through all in stack order.
-use Rattle.std.proofs.Common.{◌≡◌, ℕ, ◌+◌, ◌<◌, ◌⊎◌, Bool, true, List, inl, inr, sym, subst, ◌∙◌, arith}
+use Rattle.std.proofs.Common.{◌≡◌, ℕ, ◌+◌, ◌<◌, ◌⊎◌, Bool, true, false, IsTrue, List, inl, inr, sym, subst, ◌∙◌, arith}
 use Rattle.board_items.specs.declared.layers.LayerSet.{LayerSet}
 use Rattle.board_items.specs.declared.parts.Part.{Part}
 use Rattle.board_items.specs.Layers.{has_layer}
@@ -23,3 +23,6 @@ next_layer P copper layer before here earlier h is = by_place (split earlier h)
     by_place : (earlier < layer) ⊎ (layer ≡ earlier) → P earlier
     by_place (inl k) = before earlier k is
     by_place (inr e) = subst P e (here (subst (IsAmong copper) (sym e) is))
+
+pub not_false : (b : Bool) → b ≡ false → IsTrue b → ⊥
+not_false b e t = cc

@@ -1,10 +1,6 @@
-pub mod Scalars
-pub mod SharedLayers
-pub mod Chosen
-pub mod ClearLists
-pub mod Gaps
 pub mod FirstLayers
 pub mod Pairs
 pub mod RisingIds
 pub mod RowLists
 pub mod Stages
+pub mod OneList

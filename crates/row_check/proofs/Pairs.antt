@@ -5,16 +5,16 @@ use Rattle.std.proofs.lemmas.Bool.{cases_order}
 use Rattle.geo_seg.specs.declared.shapes.Shape.{Shape}
 use Rattle.geo_seg.specs.Cores.{IsPointOf}
 use Rattle.geo_poly.proofs.Distances.{apart_not_within}
-use Rattle.geo_shape.specs.Distances.{Apart, Meet, IsGap}
+use Rattle.geo_seg.specs.Distances.{Apart, Meet, IsGap}
 use Rattle.board_items.specs.declared.layers.LayerSet.{LayerSet}
 use Rattle.board_items.specs.declared.parts.Part.{Part}
 use Rattle.board_items.specs.declared.item.Item.{Item}
 use Rattle.row_check.specs.declared.rows.Row.{Row}
 use Rattle.row_check.specs.declared.rows.Kind.{Kind}
 use Rattle.row_check.specs.declared.rows.Kind.TheVariants.{Short, Clearance}
-use Rattle.row_check.specs.Copper.{on_layer, SomeMeet, AreApart, MeetOn, KeepOn}
-use Rattle.row_check.specs.Violations.{clearance, IsAmong, IsFirstLayer, DoShort, IsShort, IsViolation}
-use Rattle.row_check.proofs.Gaps.{int_cases}
+use Rattle.board_items.specs.Copper.{on_layer, SomeMeet, AreApart, MeetOn, KeepOn}
+use Rattle.row_check.specs.Violations.{IsAmong, IsFirstLayer, DoShort, IsShort, IsViolation}
+use Rattle.item_copper.proofs.Gaps.{int_cases}
 
 -- what keeps a distance above 0 does not meet
 shapes_apart : (s t : Shape) (v : ℤ) → pos 0 <ℤ v → Apart s t (pos 2 *ℤ v) → Meet s t → ⊥
@@ -32,10 +32,12 @@ apart_no_meet parts others v more far m =
     let other = met.1 in
     shapes_apart part.shape other.shape v more (subst (λ (q : Part). Apart part.shape q.shape (pos 2 *ℤ v)) met.3 (apart met.0 other met.2)) met.4
 
--- two that keep the clearance on each layer break nothing
-pub kept : (copper : LayerSet) (a b : Item) (row : Row) → ((layer : ℕ) → AreApart (on_layer layer a.copper) (on_layer layer b.copper) clearance) → IsViolation copper a b row → ⊥
-kept copper a b row far (inl s) = apart_no_meet (on_layer row.layer a.copper) (on_layer row.layer b.copper) clearance (omega (arith, ints)) (far row.layer) s.where_first.holds
-kept copper a b row far (inr n) = n.where_first.holds (inr (far row.layer))
+-- two that keep the clearance v on each layer, or 1 nm where v is 0, break nothing
+pub kept : (copper : LayerSet) (v kept : ℤ) (a b : Item) (row : Row) → pos 1 ≤ℤ kept → (v ≡ pos 0) ⊎ (kept ≡ v)
+    → ((layer : ℕ) → AreApart (on_layer layer a.copper) (on_layer layer b.copper) kept) → IsViolation copper v a b row → ⊥
+kept copper v d a b row some same far (inl s) = apart_no_meet (on_layer row.layer a.copper) (on_layer row.layer b.copper) d (omega (arith, ints)) (far row.layer) s.where_first.holds
+kept copper v d a b row some (inl none) far (inr n) = n.where_first.holds (inl none)
+kept copper v d a b row some (inr e) far (inr n) = n.where_first.holds (inr (subst (AreApart (on_layer row.layer a.copper) (on_layer row.layer b.copper)) e (far row.layer)))
 
 -- there is one first layer
 first_once : (copper : LayerSet) (P : ℕ → Type 0) (l m : ℕ) → IsFirstLayer copper P l → IsFirstLayer copper P m → l ≡ m
@@ -57,21 +59,25 @@ built row first second kind layer value gap d e f g h i =
     ∙ (ap (λ x. record row { first = first; second = second; kind = kind; layer = layer; value = x }) h
     ∙ ap (λ x. record { first = first; second = second; kind = kind; layer = layer; value = value; gap = x }) i)))))
 
-pub short_only : (copper : LayerSet) (a b : Item) (row : Row) (first second layer : ℕ) → DoShort copper a b → IsFirstLayer copper (λ l. MeetOn l a b) layer
-    → row.first ≡ first → row.second ≡ second → IsViolation copper a b row
+pub short_only : (copper : LayerSet) (v : ℤ) (a b : Item) (row : Row) (first second layer : ℕ) → DoShort copper a b → IsFirstLayer copper (λ l. MeetOn l a b) layer
+    → row.first ≡ first → row.second ≡ second → IsViolation copper v a b row
     → Some (record { first = first; second = second; kind = Short; layer = layer; value = pos 0; gap = pos 0 }) ≡ Some row
-short_only copper a b row first second layer d f e g (inr n) = absurd (n.no_short d)
-short_only copper a b row first second layer d f e g (inl s) =
+short_only copper v a b row first second layer d f e g (inr n) = absurd (n.no_short d)
+short_only copper v a b row first second layer d f e g (inl s) =
     ap Some (built row first second Short layer (pos 0) (pos 0) e g s.kind (first_once copper (λ l. MeetOn l a b) row.layer layer s.where_first f) s.value s.gap)
+
+pub short_found : (copper : LayerSet) (v : ℤ) (a b : Item) (first second layer : ℕ) → DoShort copper a b → IsFirstLayer copper (λ l. MeetOn l a b) layer
+    → IsViolation copper v a b (record { first = first; second = second; kind = Short; layer = layer; value = pos 0; gap = pos 0 })
+short_found copper v a b first second layer d f = inl (record { kind = refl; nets = d.nets; where_first = f; value = refl; gap = refl })
 
 -- a short row says a short
 short_row : (copper : LayerSet) (a b : Item) (row : Row) → IsShort copper a b row → DoShort copper a b
 short_row copper a b row s = record { nets = s.nets; layer = row.layer; among = s.where_first.among; meet = s.where_first.holds }
 
 -- two that keep the clearance on the board's layers, and do not short, break nothing
-pub clear_only : (copper : LayerSet) (a b : Item) (row : Row) → ¬ (DoShort copper a b) → ((layer : ℕ) → IsAmong copper layer → KeepOn layer a b clearance) → IsViolation copper a b row → ⊥
-clear_only copper a b row none keep (inl s) = none (short_row copper a b row s)
-clear_only copper a b row none keep (inr n) = n.where_first.holds (keep row.layer n.where_first.among)
+pub clear_only : (copper : LayerSet) (v : ℤ) (a b : Item) (row : Row) → ¬ (DoShort copper a b) → ((layer : ℕ) → IsAmong copper layer → KeepOn layer a b v) → IsViolation copper v a b row → ⊥
+clear_only copper v a b row none keep (inl s) = none (short_row copper a b row s)
+clear_only copper v a b row none keep (inr n) = n.where_first.holds (keep row.layer n.where_first.among)
 
 gap_least : (Keeps : ℤ → Type 0) (v g h : ℤ) → IsGap Keeps v g → IsGap Keeps v h → g ≤ℤ h
 gap_least Keeps v g h p q = by_kept p.kept
@@ -91,24 +97,37 @@ gap_once Keeps v g h p q =
     omega (arith, ints)
 
 -- a clearance row
-pub near_found : (copper : LayerSet) (a b : Item) (first second layer : ℕ) (value gap : ℤ) → a.net ≢ b.net → ¬ (DoShort copper a b) → value ≡ clearance
-    → IsFirstLayer copper (λ l. ¬ (KeepOn l a b clearance)) layer → IsGap (KeepOn layer a b) clearance gap
-    → IsViolation copper a b (record { first = first; second = second; kind = Clearance; layer = layer; value = value; gap = gap })
-near_found copper a b first second layer value gap nets none is f least = inr (record { kind = refl; nets = nets; no_short = none; value = is; where_first = f; gap = least })
+pub near_found : (copper : LayerSet) (v : ℤ) (a b : Item) (first second layer : ℕ) (value gap : ℤ) → a.net ≢ b.net → ¬ (DoShort copper a b) → value ≡ v
+    → IsFirstLayer copper (λ l. ¬ (KeepOn l a b v)) layer → IsGap (KeepOn layer a b) v gap
+    → IsViolation copper v a b (record { first = first; second = second; kind = Clearance; layer = layer; value = value; gap = gap })
+near_found copper v a b first second layer value gap nets none is f least = inr (record { kind = refl; nets = nets; no_short = none; value = is; where_first = f; gap = least })
 
-pub near_only : (copper : LayerSet) (a b : Item) (row : Row) (first second layer : ℕ) (value gap : ℤ) → ¬ (DoShort copper a b) → value ≡ clearance
-    → IsFirstLayer copper (λ l. ¬ (KeepOn l a b clearance)) layer → IsGap (KeepOn layer a b) clearance gap
-    → row.first ≡ first → row.second ≡ second → IsViolation copper a b row
+pub near_only : (copper : LayerSet) (v : ℤ) (a b : Item) (row : Row) (first second layer : ℕ) (value gap : ℤ) → ¬ (DoShort copper a b) → value ≡ v
+    → IsFirstLayer copper (λ l. ¬ (KeepOn l a b v)) layer → IsGap (KeepOn layer a b) v gap
+    → row.first ≡ first → row.second ≡ second → IsViolation copper v a b row
     → Some (record { first = first; second = second; kind = Clearance; layer = layer; value = value; gap = gap }) ≡ Some row
-near_only copper a b row first second layer value gap none is f least e g (inl s) = absurd (none (short_row copper a b row s))
-near_only copper a b row first second layer value gap none is f least e g (inr n) =
-    let same : row.layer ≡ layer = first_once copper (λ l. ¬ (KeepOn l a b clearance)) row.layer layer n.where_first f in
-    let one : row.gap ≡ gap = gap_once (KeepOn layer a b) clearance row.gap gap (subst (λ (l : ℕ). IsGap (KeepOn l a b) clearance row.gap) same n.gap) least in
+near_only copper v a b row first second layer value gap none is f least e g (inl s) = absurd (none (short_row copper a b row s))
+near_only copper v a b row first second layer value gap none is f least e g (inr n) =
+    let same : row.layer ≡ layer = first_once copper (λ l. ¬ (KeepOn l a b v)) row.layer layer n.where_first f in
+    let one : row.gap ≡ gap = gap_once (KeepOn layer a b) v row.gap gap (subst (λ (l : ℕ). IsGap (KeepOn l a b) v row.gap) same n.gap) least in
     ap Some (built row first second Clearance layer value gap e g n.kind same (n.value ∙ sym is) one)
 
 -- a gap below the clearance
-pub below : (layer : ℕ) (a b : Item) (gap : ℤ) → IsGap (KeepOn layer a b) clearance gap → gap <ℤ clearance → ¬ (KeepOn layer a b clearance)
-below layer a b gap is less keep = absurd (past (is.greatest clearance (omega (arith, ints)) (omega (arith, ints)) keep))
+pub below : (layer : ℕ) (v : ℤ) (a b : Item) (gap : ℤ) → IsGap (KeepOn layer a b) v gap → gap <ℤ v → ¬ (KeepOn layer a b v)
+below layer v a b gap is less keep =
+    let from = is.from in
+    absurd (past (is.greatest v (omega (arith, ints)) (omega (arith, ints)) keep))
   where
-    past : clearance ≤ℤ gap → ⊥
+    past : v ≤ℤ gap → ⊥
     past h = omega (arith, ints)
+
+-- a gap of the clearance keeps it
+pub keeps : (layer : ℕ) (v : ℤ) (a b : Item) (gap : ℤ) → IsGap (KeepOn layer a b) v gap → v ≤ℤ gap → KeepOn layer a b v
+keeps layer v a b gap is most = by_kept is.kept
+  where
+    same : gap ≡ v
+    same = let to = is.to in omega (arith, ints)
+
+    by_kept : (gap ≡ pos 0) ⊎ KeepOn layer a b gap → KeepOn layer a b v
+    by_kept (inl none) = inl (sym same ∙ none)
+    by_kept (inr keep) = subst (KeepOn layer a b) same keep

@@ -1,5 +1,6 @@
-pub mod Copper
-pub mod Clear
+pub mod PlainRow
+pub mod Defaults
+pub mod Found
 pub mod Violations
 pub mod Rows
 pub mod RowsBelow

@@ -3,6 +3,7 @@ use Rattle.std.specs.Prelude.{◌≡◌, ◌⊎◌, ℕ, ◌<◌, ◌≤◌, Lis
 use Rattle.std.specs.List.{AllPairs}
 use Rattle.board_items.specs.declared.item.Item.{Item}
 use Rattle.board_items.specs.Boards.{PlainBoard, item_at, Rise}
+use Rattle.net_class.specs.Classes.{PlainClasses}
 use Rattle.row_check.specs.declared.rows.Row.{Row}
 use Rattle.row_check.specs.Rows.{IsRow, Before}
 
@@ -11,11 +12,11 @@ abbrev pub IsBelow : ℕ → ℕ → Row → Type 0
 IsBelow i j row = (row.first < i) ⊎ ((row.first ≡ i) × (row.second < j))
 
 -- all rows of the pairs before that of i and j
-pub record AreRowsBelow (board : PlainBoard) (i j : ℕ) (rows : List Row) : Type 0 where
+pub record AreRowsBelow (classes : PlainClasses) (board : PlainBoard) (i j : ℕ) (rows : List Row) : Type 0 where
   pub ordered : AllPairs Before rows
-  pub only : All (IsRow board) rows
+  pub only : All (IsRow classes board) rows
   pub below : All (IsBelow i j) rows
-  pub all : (row : Row) → IsRow board row → IsBelow i j row → Contains rows row
+  pub all : (row : Row) → IsRow classes board row → IsBelow i j row → Contains rows row
 
 -- the items that are left are those of the list from the id on, and their ids rise
 pub record AreFrom (id : ℕ) (items left : List (ℕ × Item)) : Type 0 where

@@ -1,18 +1,15 @@
 -- What two items break: the short and the clearance of KiCad's board rules. Only items whose nets differ are compared; a
 -- short needs two nets that are there, and where there is a short there is no row for the clearance. So it is said for tracks,
 -- vias and fills; what graphics and pads are spared, and clearances that an item has of its own, come with their readers.
+-- The clearance v is what is asked for between the two, in nanometres; where it is 0 nothing has to be kept.
 use Rattle.std.specs.Prelude.{◌≡◌, ◌≢◌, ℕ, ℤ, pos, ◌<◌, IsTrue, ◌⊎◌}
-use Rattle.geo_shape.specs.Distances.{IsGap}
+use Rattle.geo_seg.specs.Distances.{IsGap}
 use Rattle.board_items.specs.declared.layers.LayerSet.{LayerSet}
 use Rattle.board_items.specs.declared.item.Item.{Item}
 use Rattle.board_items.specs.Layers.{has_layer}
 use Rattle.row_check.specs.declared.rows.Row.{Row}
 use Rattle.row_check.specs.declared.rows.Kind.TheVariants.{Short, Clearance}
-use Rattle.row_check.specs.Copper.{MeetOn, KeepOn}
-
--- the clearance that is asked for between copper of different nets, in nanometres: 0.2 mm
-abbrev pub clearance : ℤ
-clearance = pos 200000
+use Rattle.board_items.specs.Copper.{MeetOn, KeepOn}
 
 -- the layer is one of the copper layers, of which a board has at most 32
 pub record IsAmong (copper : LayerSet) (layer : ℕ) : Type 0 where
@@ -47,14 +44,14 @@ pub record IsShort (copper : LayerSet) (a b : Item) (row : Row) : Type 0 where
   pub gap : row.gap ≡ pos 0
 
 -- the clearance is not kept and there is no short; the row says the first layer on which it is not kept, and the gap there
-pub record IsTooNear (copper : LayerSet) (a b : Item) (row : Row) : Type 0 where
+pub record IsTooNear (copper : LayerSet) (v : ℤ) (a b : Item) (row : Row) : Type 0 where
   pub kind : row.kind ≡ Clearance
   pub nets : a.net ≢ b.net
   pub no_short : ¬ (DoShort copper a b)
-  pub value : row.value ≡ clearance
-  pub where_first : IsFirstLayer copper (λ layer. ¬ (KeepOn layer a b clearance)) row.layer
-  pub gap : IsGap (KeepOn row.layer a b) clearance row.gap
+  pub value : row.value ≡ v
+  pub where_first : IsFirstLayer copper (λ layer. ¬ (KeepOn layer a b v)) row.layer
+  pub gap : IsGap (KeepOn row.layer a b) v row.gap
 
--- on a board with these copper layers the row says what the two items break
-abbrev pub IsViolation : LayerSet → Item → Item → Row → Type 0
-IsViolation copper a b row = IsShort copper a b row ⊎ IsTooNear copper a b row
+-- on a board with these copper layers, where the clearance v is asked for, the row says what the two items break
+abbrev pub IsViolation : LayerSet → ℤ → Item → Item → Row → Type 0
+IsViolation copper v a b row = IsShort copper a b row ⊎ IsTooNear copper v a b row

@@ -1,17 +1,16 @@
 //! What two items break.
 
-ghost use Rattle.std.specs.Prelude.{◌≡◌, ◌≢◌, ℕ, pos, Some, IfSome, MatchOption};
-ghost use Rattle.geo_shape.specs.Distances.{IsGap};
+ghost use Rattle.std.specs.Prelude.{◌≡◌, ◌≢◌, ◌<◌, ℕ, pos, Some, IfSome, MatchOption};
+ghost use Rattle.geo_seg.specs.Distances.{IsGap};
 ghost use Rattle.row_check.specs.declared.rows.Row.{Row};
-ghost use Rattle.row_check.specs.Copper.{MeetOn, KeepOn};
-ghost use Rattle.row_check.specs.Violations.{clearance, IsAmong, IsFirstLayer, DoShort, IsViolation};
+ghost use Rattle.board_items.specs.Copper.{MeetOn, KeepOn};
+ghost use Rattle.row_check.specs.Violations.{IsAmong, IsFirstLayer, DoShort, IsViolation};
 
-use crate::copper::{are_clear, gap_on, meet_on};
-use crate::rows::{Kind, Row};
+use crate::defaults::above_zero;
+use crate::distance::Distance;
+use crate::rows::Row;
 use board_items::{Item, LayerSet, Nm};
-
-/// The clearance in nanometres that is asked for between all copper of different nets: 0.2 mm.
-pub const CLEARANCE: Nm = 200_000;
+use item_copper::{are_clear, gap_on, meet_on};
 
 // A layer on which the clearance is not kept. The gap is in nanometres.
 #[derive(Clone, Copy)]
@@ -43,15 +42,15 @@ fn short_layer(copper: LayerSet, a: &Item, b: &Item) -> Option<u32>
     first_meeting(copper, a, b)
 }
 
-// The first layer on which the clearance is not kept, and the gap there.
-fn first_near(copper: LayerSet, a: &Item, b: &Item) -> Option<Near>
-    ensures { MatchOption result ((layer : ℕ) → IsAmong copper layer → KeepOn layer a.now b.now clearance)
-        (λ near. IsFirstLayer copper (λ layer. ¬ (KeepOn layer a.now b.now clearance)) near.layer × IsGap (KeepOn near.layer a.now b.now) clearance near.gap) }
+// The first layer on which the clearance `v` is not kept, and the gap there.
+fn first_near(copper: LayerSet, v: Distance, a: &Item, b: &Item) -> Option<Near>
+    ensures { MatchOption result ((layer : ℕ) → IsAmong copper layer → KeepOn layer a.now b.now v.nm)
+        (λ near. IsFirstLayer copper (λ layer. ¬ (KeepOn layer a.now b.now v.nm)) near.layer × IsGap (KeepOn near.layer a.now b.now) v.nm near.gap) }
 {
     for layer in 0..32 {
         if copper.has(layer) {
-            let gap = gap_on(a.copper.as_slice(), b.copper.as_slice(), layer, CLEARANCE);
-            if gap < CLEARANCE {
+            let gap = gap_on(a.copper.as_slice(), b.copper.as_slice(), layer, v.nm);
+            if gap < v.nm {
                 return Some(Near { layer, gap });
             }
         }
@@ -59,35 +58,29 @@ fn first_near(copper: LayerSet, a: &Item, b: &Item) -> Option<Near>
     None
 }
 
-/// The row of two items, if they break anything: a short, or else the clearance. The layers are gone through only where
-/// some parts are too near to each other.
-pub(crate) fn row_of(copper: LayerSet, first: u32, a: &Item, second: u32, b: &Item) -> Option<Row>
-    ensures found { IfSome result (λ row. IsViolation copper a.now b.now row × (row.first ≡ first) × (row.second ≡ second)) }
-    ensures only { (row : Row) → row.first ≡ first → row.second ≡ second → IsViolation copper a.now b.now row → result ≡ Some row }
+/// The row of two items, if they break anything: a short, or else the clearance `v`. The layers are gone through only
+/// where some parts are too near to each other.
+pub(crate) fn row_of(
+    copper: LayerSet,
+    v: Distance,
+    first: u32,
+    a: &Item,
+    second: u32,
+    b: &Item,
+) -> Option<Row>
+    requires { first < second }
+    ensures found { IfSome result (λ row. IsViolation copper v.nm a.now b.now row × (row.first ≡ first) × (row.second ≡ second)) }
+    ensures only { (row : Row) → row.first ≡ first → row.second ≡ second → IsViolation copper v.nm a.now b.now row → result ≡ Some row }
 {
     if a.net == b.net {
         return None;
     }
-    if are_clear(a.copper.as_slice(), b.copper.as_slice(), CLEARANCE) {
+    if are_clear(a.copper.as_slice(), b.copper.as_slice(), above_zero(v).nm) {
         return None;
     }
     if let Some(layer) = short_layer(copper, a, b) {
-        return Some(Row {
-            first,
-            second,
-            kind: Kind::Short,
-            layer,
-            value: 0,
-            gap: 0,
-        });
+        return Some(Row::short(first, second, layer));
     }
-    let Near { layer, gap } = first_near(copper, a, b)?;
-    Some(Row {
-        first,
-        second,
-        kind: Kind::Clearance,
-        layer,
-        value: CLEARANCE,
-        gap,
-    })
+    let Near { layer, gap } = first_near(copper, v, a, b)?;
+    Some(Row::clearance(first, second, layer, v.nm, gap))
 }

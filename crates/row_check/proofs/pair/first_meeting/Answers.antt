@@ -1,7 +1,6 @@
 use Rattle.std.proofs.Common.{sym, ◌∙◌}
-use Rattle.row_check.specs.Copper.{on_layer, SomeMeet, MeetOn}
-use Rattle.row_check.proofs.Scalars.{not_false}
-use Rattle.row_check.proofs.FirstLayers.{along, among, next_layer}
+use Rattle.board_items.specs.Copper.{on_layer, SomeMeet, MeetOn}
+use Rattle.row_check.proofs.FirstLayers.{along, among, next_layer, not_false}
 use Rattle.row_check.proofs.pair.first_meeting.Goals.{else-has-via-then-has+else-meet_on, else-has-via-else-has}
 use Rattle.row_check.proofs.pair.first_meeting.Goals as goal
 

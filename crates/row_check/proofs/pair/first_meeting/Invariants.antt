@@ -1,5 +1,5 @@
 use Rattle.std.proofs.Common.{ℕ, ◌<◌}
-use Rattle.row_check.specs.Copper.{MeetOn}
+use Rattle.board_items.specs.Copper.{MeetOn}
 use Rattle.row_check.specs.Violations.{IsAmong}
 use Rattle.row_check.proofs.pair.first_meeting.Given as goal
 
