@@ -1,15 +1,11 @@
-//! Checks a circuit board: `drc BOARD`.
+//! Checks a circuit board: `drc BOARD [--project FILE]`.
 //!
 //! The report goes to standard output, and the exit status says how the run ended.
 #![tactic(auto)]
 
-ghost use Rattle.std.specs.Prelude.{◌≡◌, ◌<◌, ◌≤◌, ◌⊎◌, ℕ, List, Option, Some, IfOk, IfSome};
-ghost use Rattle.std.specs.Io.KnownBytes.{Appends};
-ghost use Rattle.drc_io.specs.Causes.{Rose};
-ghost use Rattle.drc_io.specs.Sinks.{AppendsFront};
+ghost use Rattle.std.specs.Prelude.{◌≡◌, IfOk};
 ghost use Rattle.drc_run.specs.Words.{words_of};
-ghost use Rattle.drc_run.specs.Output.{Output, IsOutputFor, HasReadFault, cannot_read};
-ghost use Rattle.drc_run.specs.Endings.{Whole, Front};
+ghost use Rattle.drc_run.specs.Endings.{Promises};
 ghost use Rattle.drc_cli.specs.CommandLine.{reading_of_line, words_after_name};
 
 mod outside;
@@ -50,15 +46,8 @@ fn answer<R: AllocGlobal, F: Shelf, W: Sink>(
     shelf: &mut F,
     out: &mut W,
 ) -> u8
-    ensures whole { result < 4 → Whole (IsOutputFor (reading_of_line line.now) (F.files shelf.old)) (W.written out.old) (W.written out.new) result }
-    ensures read { result ≡ 4 → HasReadFault (reading_of_line line.now) (F.faults shelf.old) (F.faults shelf.new) × Appends (W.written out.old) (W.written out.new) cannot_read }
-    ensures write { result ≡ 5 → Rose (W.faults out.old) (W.faults out.new) }
-    ensures part { result ≡ 5 → Front (IsOutputFor (reading_of_line line.now) (F.files shelf.old)) (W.written out.old) (W.written out.new)
-        ⊎ (HasReadFault (reading_of_line line.now) (F.faults shelf.old) (F.faults shelf.new) × AppendsFront (W.written out.old) (W.written out.new) cannot_read) }
-    ensures memory { result ≡ 6 → Front (IsOutputFor (reading_of_line line.now) (F.files shelf.old)) (W.written out.old) (W.written out.new) }
-    ensures complete { ¬ (Rose (W.faults out.old) (W.faults out.new)) → ¬ (HasReadFault (reading_of_line line.now) (F.faults shelf.old) (F.faults shelf.new)) → (result < 4) ⊎ (result ≡ 6) }
-    ensures exact { IfSome (F.files shelf.old) (λ files. (output : Output) → IsOutputFor (reading_of_line line.now) (Some files) output → result < 4 → (result ≡ output.status) × Appends (W.written out.old) (W.written out.new) output.text) }
-    ensures bound { result ≤ 6 }
+    ensures promises { Promises (reading_of_line line.now) (F.files shelf.old) (F.faults shelf.old) (F.faults shelf.new)
+        (W.written out.old) (W.written out.new) (W.faults out.old) (W.faults out.new) result }
     ensures same { F.files shelf.new ≡ F.files shelf.old }
 {
     match words_of(rt.alloc(), line) {

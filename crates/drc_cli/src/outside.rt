@@ -1,33 +1,23 @@
-//! The edge of the program: files and standard output. Nothing is told of their bytes.
-ghost use Rattle.std.specs.Prelude.{◌≡◌, ◌≤◌, ◌<◌, ℕ, List, None, IfOk, IfErr, MatchResult, length, take};
-ghost use Rattle.std.specs.Io.KnownBytes.{Appends};
+//! The edge of the program: files and standard output.
+ghost use Rattle.std.specs.Prelude.{◌≡◌, ◌≤◌, ◌<◌, ◌+◌, ◌-◌, ◌^◌, ℕ, List, None, Some, min, not, IsSome, IfSome, IfOk, IfErr, OnErr, MatchResult, is_err, length, take};
+ghost use Rattle.std.specs.Io.KnownBytes.{Appends, WriteAppends};
+ghost use Rattle.drc_io.specs.Causes.{HasCause, Rose};
+ghost use Rattle.drc_io.specs.Files.{ReadsFrom};
+ghost use Rattle.drc_cli.specs.Faults.{counted, takes_all};
 ghost use Rattle.drc_cli.specs.Filling.{Fills, FillsFrom};
 
-use drc_io::{Failed, Shelf, Sink};
+use drc_io::{Failed, Name, Shelf, Sink};
 use std::io::{ErrorKind, Read, Seek, SeekFrom, Write};
 use std::marker::Model;
 use std::rt::Files;
 use std::{fs, io};
 
-/// The files of the system. Its one count of faults serves every name, and contracts see it as that count.
+/// An open file, with the place behind what was read of it. A name for which there is no memory is not kept.
 #[derive(Drop)]
-pub struct FileShelf<'a, R> {
-    rt: &'a R,
-    faults: u64,
-}
-
-impl<'a, R> Model for FileShelf<'a, R> {
-    ghost Value = { ℕ };
-
-    ghost view = { λ s. s.faults };
-}
-
-impl<'a, R> FileShelf<'a, R> {
-    pub fn new(rt: &'a R) -> FileShelf<'a, R>
-        ensures { result ≡ 0 }
-    {
-        FileShelf { rt, faults: 0 }
-    }
+struct Opened<F> {
+    name: Option<Name>,
+    file: F,
+    at: u64,
 }
 
 // Reads until the buffer is full or no byte is left.
@@ -49,28 +39,92 @@ fn fill<F: Read>(file: &mut F, buf: &mut [u8]) -> io::Result<usize>
     Err(io::Error::from(ErrorKind::Interrupted))
 }
 
-// Moves to a place and fills the buffer from there on.
-fn fill_from<F: Read + Seek>(file: &mut F, at: u64, buf: &mut [u8]) -> io::Result<usize>
-    ensures { IfOk result (λ n. FillsFrom F.Read.remaining F.Seek.stream_position file.old file.new at n buf.new) }
+// Fills the buffer from a place on. A file that stands there is not moved, so that a pipe is read too.
+fn fill_from<F: Read + Seek>(opened: &mut Opened<F>, at: u64, buf: &mut [u8]) -> io::Result<usize>
+    ensures filled { IfOk result (λ n. FillsFrom F.Read.remaining F.Seek.stream_position opened.old.file opened.new.file opened.old.at at n buf.new) }
+    ensures left { IfOk result (λ n. opened.new.at ≡ min (at + n) (2 ^ 64 - 1)) }
 {
-    file.seek(SeekFrom::Start(at))?;
-    fill(file, buf)
+    if opened.at != at {
+        opened.file.seek(SeekFrom::Start(at))?;
+    }
+    let n = fill(&mut opened.file, buf)?;
+    opened.at = at.saturating_add(n as u64);
+    Ok(n)
 }
 
-fn read_from<R: Files>(rt: &R, name: &str, at: u64, buf: &mut [u8]) -> io::Result<usize>
-    ensures { IfOk result (λ n. n ≤ length buf.old) }
+// The file that is open, where it is the one to go on with.
+fn going_on<F: Drop>(kept: Option<Opened<F>>, name: &str, at: u64) -> Option<Opened<F>>
+    ensures same { IfSome result (λ opened. (kept ≡ Some opened) × (opened.name ≡ Some name.now)) }
+    ensures later { IsSome result → 0 < at }
 {
-    fill_from(&mut fs::open(rt, name)?, at, buf)
+    let opened = kept?;
+    match &opened.name {
+        Some(kept) if at > 0 && kept.bytes() == name.as_bytes() => {}
+        _ => return None,
+    }
+    Some(opened)
 }
 
-impl<'a, R: Files> Shelf for FileShelf<'a, R> {
+/// The files of the system. Its one count of faults serves every name, and contracts see it as that count.
+#[derive(Drop)]
+pub struct FileShelf<'a, R: Files> {
+    rt: &'a R,
+    kept: Option<Opened<R::File>>,
+    faults: u64,
+}
+
+impl<'a, R: Files> Model for FileShelf<'a, R> {
+    ghost use Rattle.std.specs.Prelude.{ℕ};
+
+    ghost Value = { ℕ };
+
+    ghost view = { λ s. s.faults };
+}
+
+impl<'a, R: Files + AllocGlobal> FileShelf<'a, R> {
+    pub fn new(rt: &'a R) -> FileShelf<'a, R>
+        ensures { result ≡ 0 }
+    {
+        FileShelf {
+            rt,
+            kept: None,
+            faults: 0,
+        }
+    }
+
+    // Goes on with the file that is open, or opens it. The first bytes are read of a file that is opened for them.
+    fn read_open(&mut self, name: &str, at: u64, buf: &mut [u8]) -> io::Result<usize>
+        ensures bound { IfOk result (λ n. n ≤ length buf.old) }
+        ensures same { self.new ≡ self.old }
+    {
+        let mut opened = match going_on(self.kept.take(), name, at) {
+            Some(opened) => opened,
+            None => Opened {
+                name: Name::from_slice(self.rt.alloc(), name.as_bytes()).ok(),
+                file: fs::open(self.rt, name)?,
+                at: 0,
+            },
+        };
+        let n = fill_from(&mut opened, at, buf)?;
+        self.kept = Some(opened);
+        Ok(n)
+    }
+}
+
+impl<'a, R: Files + AllocGlobal> Shelf for FileShelf<'a, R> {
     ghost files = { λ _. None };
 
     ghost faults = { λ s _. s };
 
-    /// Opens the file anew at each read.
-    fn read(&mut self, name: &str, at: u64, buf: &mut [u8]) -> Result<usize, Failed> {
-        match read_from(self.rt, name, at, buf) {
+    /// A file stays open for the reads that follow. The count rises exactly where a read fails.
+    fn read(&mut self, name: &str, at: u64, buf: &mut [u8]) -> Result<usize, Failed>
+        ensures bound { IfOk result (λ n. n ≤ length buf.old) }
+        ensures bytes { IfOk result (λ n. ReadsFrom None name.now at n buf.new) }
+        ensures counts { (other : List ℕ) → self.old ≤ self.new }
+        ensures cause { OnErr result (Rose self.old self.new) }
+        ensures raised { self.new ≡ counted self.old (is_err result) }
+    {
+        match self.read_open(name, at, buf) {
             Ok(n) => Ok(n),
             Err(_) => {
                 self.faults = self.faults.saturating_add(1);
@@ -80,22 +134,16 @@ impl<'a, R: Files> Shelf for FileShelf<'a, R> {
     }
 }
 
-/// A writer of the system. Contracts see it as its count of faults.
+/// A writer of the system, which tells what it holds where the writer does.
 #[derive(Drop)]
 pub struct StdoutSink<W> {
     out: W,
     faults: u64,
 }
 
-impl<W> Model for StdoutSink<W> {
-    ghost Value = { ℕ };
-
-    ghost view = { λ s. s.faults };
-}
-
 impl<W> StdoutSink<W> {
     pub fn new(out: W) -> StdoutSink<W>
-        ensures { result ≡ 0 }
+        ensures { result ≡ record { out = out; faults = 0 } }
     {
         StdoutSink { out, faults: 0 }
     }
@@ -125,12 +173,19 @@ fn write_whole<W: Write>(out: &mut W, piece: &[u8]) -> Result<(), usize>
 }
 
 impl<W: Write> Sink for StdoutSink<W> {
-    ghost written = { λ _. None };
+    ghost written = { λ s. W.contents s.out };
 
-    ghost faults = { λ s. s };
+    ghost faults = { λ s. s.faults };
 
-    /// Where a fault comes after some bytes were taken, the answer counts these, and the next write meets it.
-    fn write(&mut self, piece: &[u8]) -> Result<usize, Failed> {
+    /// Where a fault comes after some bytes were taken, the answer counts these, and the next write meets it. The
+    /// count rises exactly where less than the whole piece was taken.
+    fn write(&mut self, piece: &[u8]) -> Result<usize, Failed>
+        ensures bound { IfOk result (λ n. n ≤ length piece.now) }
+        ensures some { IfOk result (λ n. 0 < length piece.now → 0 < n) }
+        ensures bytes { WriteAppends (W.contents self.old.out) (W.contents self.new.out) result piece.now }
+        ensures cause { HasCause self.old.faults self.new.faults result }
+        ensures raised { self.new.faults ≡ counted self.old.faults (not (takes_all result piece.now)) }
+    {
         match write_whole(&mut self.out, piece) {
             Ok(()) => Ok(piece.len()),
             Err(taken) => {

@@ -1,4 +1,6 @@
-pub mod Printable
+pub mod Read
 pub mod Written
+pub mod Accepting
+pub mod OneProject
 pub mod OneOutput
-pub mod Exact
+pub mod Promised

@@ -1,120 +1,172 @@
 -- The words and the files have one output.
-use Rattle.std.proofs.Common.{◌≡◌, ◌⊎◌, ℕ, zero, suc, ◌<◌, List, [], ◌∷◌, length, get_or, All, Contains, Option, Some, None, Result, Ok, Err, inl, inr, refl, sym, ap, subst, ◌∙◌, arith}
-use Rattle.std.specs.List.{AllPairs}
+use Rattle.std.proofs.Common.{◌≡◌, ◌≤◌, ℕ, ◌<◌, List, [], ◌∷◌, ◌++◌, length, Option, Some, None, Result, Ok, Err, sym, ap, subst, ◌∙◌, refl, arith}
 use Rattle.board_items.specs.declared.errors.BoardError.{BoardError}
 use Rattle.board_items.specs.Boards.{PlainBoard}
 use Rattle.pcb_read.specs.BoardText.{Says}
-use Rattle.row_check.specs.declared.rows.Row.{Row}
-use Rattle.row_check.specs.Rows.{Before, AreRows, IsRow}
+use Rattle.net_class.specs.declared.error.ProjectError.{ProjectError}
+use Rattle.net_class.specs.Classes.{PlainClasses, plain_classes}
+use Rattle.net_class.specs.ProjectText.{Says as ProjectSays}
+use Rattle.net_class.specs.Reasons.{reason_of as project_reason_of, place_of as project_place_of}
+use Rattle.row_check.proofs.OneList.{one_list}
 use Rattle.drc_rows.specs.Report.{report}
-use Rattle.drc_run.specs.Output.{Output, IsOutputOf, IsOutputFor, longer, refused, reported, refusal, status_of, IsReported}
+use Rattle.drc_io.specs.Files.{file_of}
+use Rattle.board_items.specs.Reasons.{board_reason_of, board_place_of}
+use Rattle.drc_run.specs.declared.texts.Which.{Which}
+use Rattle.drc_run.specs.declared.texts.Which.TheVariants.{Board, Project}
+use Rattle.drc_run.specs.Words.{Reading}
+use Rattle.drc_run.specs.Texts.{Named, texts_of, Value, a_board, a_project, Said, accepted, refused, at_place, IsWritten, ReaderSays, TextSays, longer, read, too_long}
+use Rattle.drc_run.specs.Output.{Output, IsReportOf, FileSays, AreAccepted, IsReached, IsReported, IsOutputOf, IsOutputFor, stopped, reported, refusal, status_of}
+use Rattle.drc_run.proofs.OneProject.{one_project}
 
--- ---- the rows
+-- ---- what a text says
 
--- of two rows not both come before the other
-before_once : (r s : Row) → Before r s → Before s r → ⊥
-before_once r s (inl h) (inl k) = omega arith
-before_once r s (inl h) (inr (inl k)) = let p = k.0 in omega arith
-before_once r s (inl h) (inr (inr k)) = let p = k.0 in omega arith
-before_once r s (inr (inl h)) (inl k) = let p = h.0 in omega arith
-before_once r s (inr (inl h)) (inr (inl k)) = let p = h.1 in let q = k.1 in omega arith
-before_once r s (inr (inl h)) (inr (inr k)) = let p = h.1 in let q = k.1 in omega arith
-before_once r s (inr (inr h)) (inl k) = let p = h.0 in omega arith
-before_once r s (inr (inr h)) (inr (inl k)) = let p = h.1 in let q = k.1 in omega arith
-before_once r s (inr (inr h)) (inr (inr k)) = let p = h.2 in let q = k.2 in omega arith
+same_line : (reason : List ℕ) (place : Option ℕ) (a b : List ℕ) → IsWritten reason place a → IsWritten reason place b → a ≡ b
+same_line reason place a b p q =
+    let both : Some p.at ≡ Some q.at = sym p.has_place ∙ q.has_place in
+    let at : p.at ≡ q.at = cc in
+    p.text_is ∙ (ap (at_place reason) at ∙ sym q.text_is)
 
-here : (r : Row) (rows : List Row) → Contains (r ∷ rows) r
-here r rows = (0, omega arith, refl)
+same_file : (files : List (List ℕ × List ℕ)) (name a b : List ℕ) → file_of files name ≡ Some a → file_of files name ≡ Some b → a ≡ b
+same_file files name a b p q = let both : Some a ≡ Some b = sym p ∙ q in cc
 
-nothing : (r : Row) → Contains [] r → ⊥
-nothing r c = let h = c.1 in omega arith
+same_values : (v w : Value) → accepted v ≡ accepted w → v ≡ w
+same_values v w e = cc
 
-cons_case : (r s : Row) (rows : List Row) → Contains (r ∷ rows) s → (r ≡ s) ⊎ Contains rows s
-cons_case r s rows c = by_place c.0 c.1 c.2
-  where
-    by_place : (k : ℕ) → k < length (r ∷ rows) → get_or (r ∷ rows) k s ≡ s → (r ≡ s) ⊎ Contains rows s
-    by_place zero h e = inl e
-    by_place (suc k) h e = inr (k, omega arith, e)
+not_both : (v : Value) (why : List ℕ) → accepted v ≡ refused why → ⊥
+not_both v why e = cc
 
--- the first row comes before each later one
-head_before : (r s : Row) (rows : List Row) → AllPairs Before (r ∷ rows) → Contains rows s → Before r s
-head_before r s rows ordered c = let h = c.1 in subst (Before r) c.2 (ordered 0 (suc c.0) s (omega arith) (omega arith))
+same_whys : (a b : List ℕ) → refused a ≡ refused b → a ≡ b
+same_whys a b e = cc
 
-tail_ordered : (r : Row) (rows : List Row) → AllPairs Before (r ∷ rows) → AllPairs Before rows
-tail_ordered r rows ordered i j d h k = ordered (suc i) (suc j) d (omega arith) (omega arith)
-
--- what is among the rest of the one is among the rest of the other
-rest_in : (r : Row) (rows others : List Row) → AllPairs Before (r ∷ rows) → ((s : Row) → Contains (r ∷ rows) s → Contains (r ∷ others) s) → (s : Row) → Contains rows s → Contains others s
-rest_in r rows others ordered into s c = by_case (cons_case r s others (into s (behind r s rows c)))
-  where
-    behind : (q t : Row) (rest : List Row) → Contains rest t → Contains (q ∷ rest) t
-    behind q t rest k = let h = k.1 in (suc k.0, omega arith, k.2)
-
-    by_case : (r ≡ s) ⊎ Contains others s → Contains others s
-    by_case (inr k) = k
-    by_case (inl e) = let b = head_before r s rows ordered c in absurd (before_once r s b (subst (λ x. Before s x) (sym e) (subst (λ x. Before x s) e b)))
-
--- rows in order with the same elements are the same
-pub same_rows : (xs ys : List Row) → AllPairs Before xs → AllPairs Before ys → ((r : Row) → Contains xs r → Contains ys r) → ((r : Row) → Contains ys r → Contains xs r) → xs ≡ ys
-same_rows [] [] ox oy into back = refl
-same_rows [] (y ∷ ys) ox oy into back = absurd (nothing y (back y (here y ys)))
-same_rows (x ∷ xs) [] ox oy into back = absurd (nothing x (into x (here x xs)))
-same_rows (x ∷ xs) (y ∷ ys) ox oy into back = by_heads (same_rows xs ys) (cons_case y x ys (into x (here x xs))) (cons_case x y xs (back y (here y ys)))
-  where
-    by_same : (AllPairs Before xs → AllPairs Before ys → ((r : Row) → Contains xs r → Contains ys r) → ((r : Row) → Contains ys r → Contains xs r) → xs ≡ ys)
-        → x ≡ y → (x ∷ xs) ≡ (y ∷ ys)
-    by_same again e =
-        let into_x : (r : Row) → Contains (x ∷ xs) r → Contains (x ∷ ys) r = λ r c. subst (λ h. Contains (h ∷ ys) r) (sym e) (into r c) in
-        let back_y : (r : Row) → Contains (y ∷ ys) r → Contains (y ∷ xs) r = λ r c. subst (λ h. Contains (h ∷ xs) r) e (back r c) in
-        let rest = again (tail_ordered x xs ox) (tail_ordered y ys oy) (rest_in x xs ys ox into_x) (rest_in y ys xs oy back_y) in
-        ap (λ h. h ∷ xs) e ∙ ap (λ t. y ∷ t) rest
-
-    by_heads : (AllPairs Before xs → AllPairs Before ys → ((r : Row) → Contains xs r → Contains ys r) → ((r : Row) → Contains ys r → Contains xs r) → xs ≡ ys)
-        → (y ≡ x) ⊎ Contains ys x → (x ≡ y) ⊎ Contains xs y → (x ∷ xs) ≡ (y ∷ ys)
-    by_heads again (inl e) k = by_same again (sym e)
-    by_heads again (inr h) (inl e) = by_same again e
-    by_heads again (inr h) (inr k) = absurd (before_once x y (head_before x y xs ox k) (head_before y x ys oy h))
-
-row_among : (board : PlainBoard) (rows : List Row) (r : Row) → All (IsRow board) rows → Contains rows r → IsRow board r
-row_among board rows r only c = subst (IsRow board) c.2 (only c.0 r c.1)
-
-pub one_list : (board : PlainBoard) (xs ys : List Row) → AreRows board xs → AreRows board ys → xs ≡ ys
-one_list board xs ys p q =
-    same_rows xs ys p.ordered q.ordered (λ r c. q.all r (row_among board xs r p.only c)) (λ r c. p.all r (row_among board ys r q.only c))
-
--- ---- the output
-
-one_report : (board : PlainBoard) (a b : Output) → IsReported board a → IsReported board b → a ≡ b
-one_report board a b p q =
-    let rows = one_list board p.rows q.rows p.are_rows q.are_rows in
+-- the report of a board
+one_report : (board : PlainBoard) (classes : PlainClasses) (a b : Output) → IsReportOf board classes a → IsReportOf board classes b → a ≡ b
+one_report board classes a b p q =
+    let rows = one_list classes board p.rows q.rows p.are_rows q.are_rows in
     let text : a.text ≡ b.text = p.text ∙ (ap (report board) rows ∙ sym q.text) in
     let status : a.status ≡ b.status = p.status ∙ (ap status_of rows ∙ sym q.status) in
     ap (λ t. record { text = t; status = a.status }) text ∙ ap (λ s. record { text = b.text; status = s }) status
 
+one_reported : (values : List Value) (a b : Output) → IsReported values a → IsReported values b → a ≡ b
+one_reported [] a b p q = absurd p
+one_reported (a_project classes ∷ values) a b p q = absurd p
+one_reported (a_board board ∷ []) a b p q = one_report board plain_classes a b p q
+one_reported (a_board board ∷ a_project classes ∷ []) a b p q = one_report board classes a b p q
+one_reported (a_board board ∷ a_board other ∷ values) a b p q = absurd p
+one_reported (a_board board ∷ a_project classes ∷ value ∷ values) a b p q = absurd p
+
 module _ (one_reading : (text : List ℕ) (a b : Result PlainBoard BoardError) → Says text a → Says text b → a ≡ b) where
-  one_refusal : (text : List ℕ) (e d : BoardError) → Says text (Err e) → Says text (Err d) → e ≡ d
-  one_refusal text e d p q = let both = one_reading text (Err e) (Err d) p q in cc
+  board_once : (bytes : List ℕ) (x y : PlainBoard) → Says bytes (Ok x) → Says bytes (Ok y) → x ≡ y
+  board_once bytes x y p q = let both = one_reading bytes (Ok x) (Ok y) p q in cc
 
-  one_board : (text : List ℕ) (a b : PlainBoard) → Says text (Ok a) → Says text (Ok b) → a ≡ b
-  one_board text a b p q = let both = one_reading text (Ok a) (Ok b) p q in cc
+  board_or_not : (bytes : List ℕ) (x : PlainBoard) (e : BoardError) → Says bytes (Ok x) → Says bytes (Err e) → ⊥
+  board_or_not bytes x e p q = let both = one_reading bytes (Ok x) (Err e) p q in cc
 
-  not_both : (text : List ℕ) (e : BoardError) (board : PlainBoard) → Says text (Err e) → Says text (Ok board) → ⊥
-  not_both text e board p q = let both = one_reading text (Err e) (Ok board) p q in cc
+  board_error_once : (bytes : List ℕ) (e f : BoardError) → Says bytes (Err e) → Says bytes (Err f) → e ≡ f
+  board_error_once bytes e f p q = let both = one_reading bytes (Err e) (Err f) p q in cc
 
-  pub one_output_of : (text : List ℕ) (a b : Output) → IsOutputOf text a → IsOutputOf text b → a ≡ b
-  one_output_of text a b (longer h e) (longer k f) = e ∙ sym f
-  one_output_of text a b (longer h e) (refused k d s n f) = absurd (omega arith)
-  one_output_of text a b (longer h e) (reported k board s r) = absurd (omega arith)
-  one_output_of text a b (refused h d s n e) (longer k f) = absurd (omega arith)
-  one_output_of text a b (refused h d s n e) (refused k c t m f) = e ∙ (ap refusal (one_refusal text d c s t) ∙ sym f)
-  one_output_of text a b (refused h d s n e) (reported k board t r) = absurd (not_both text d board s t)
-  one_output_of text a b (reported h board s r) (longer k f) = absurd (omega arith)
-  one_output_of text a b (reported h board s r) (refused k d t n f) = absurd (not_both text d board t s)
-  one_output_of text a b (reported h board s r) (reported k other t q) = one_report other a b (subst (λ x. IsReported x a) (one_board text board other s t) r) q
+  project_once : (bytes : List ℕ) (x y : PlainClasses) → ProjectSays bytes (Ok x) → ProjectSays bytes (Ok y) → x ≡ y
+  project_once bytes x y p q = let both = one_project bytes (Ok x) (Ok y) p q in cc
 
-  pub one_output : (reading : Option (List ℕ)) (files : List (List ℕ × List ℕ)) (a b : Output) → IsOutputFor reading (Some files) a → IsOutputFor reading (Some files) b → a ≡ b
+  project_or_not : (bytes : List ℕ) (x : PlainClasses) (e : ProjectError) → ProjectSays bytes (Ok x) → ProjectSays bytes (Err e) → ⊥
+  project_or_not bytes x e p q = let both = one_project bytes (Ok x) (Err e) p q in cc
+
+  project_error_once : (bytes : List ℕ) (e f : ProjectError) → ProjectSays bytes (Err e) → ProjectSays bytes (Err f) → e ≡ f
+  project_error_once bytes e f p q = let both = one_project bytes (Err e) (Err f) p q in cc
+
+  reader_once : (which : Which) (bytes : List ℕ) (s t : Said) → ReaderSays which bytes s → ReaderSays which bytes t → s ≡ t
+  reader_once Board bytes (accepted (a_board x)) (accepted (a_board y)) p q = ap (λ (z : PlainBoard). accepted (a_board z)) (board_once bytes x y p q)
+  reader_once Board bytes (accepted (a_board x)) (accepted (a_project c)) p q = absurd q
+  reader_once Board bytes (accepted (a_board x)) (refused b) p q = absurd (board_or_not bytes x q.0 p q.1)
+  reader_once Board bytes (accepted (a_project c)) t p q = absurd p
+  reader_once Board bytes (refused a) (accepted (a_board y)) p q = absurd (board_or_not bytes y p.0 q p.1)
+  reader_once Board bytes (refused a) (accepted (a_project c)) p q = absurd q
+  reader_once Board bytes (refused a) (refused b) p q =
+      let same : p.0 ≡ q.0 = board_error_once bytes p.0 q.0 p.1 q.1 in
+      ap refused (same_line (board_reason_of q.0) (board_place_of q.0) a b (subst (λ (e : BoardError). IsWritten (board_reason_of e) (board_place_of e) a) same p.2) q.2)
+  reader_once Project bytes (accepted (a_project x)) (accepted (a_project y)) p q = ap (λ (z : PlainClasses). accepted (a_project z)) (project_once bytes x y p q)
+  reader_once Project bytes (accepted (a_project x)) (accepted (a_board c)) p q = absurd q
+  reader_once Project bytes (accepted (a_project x)) (refused b) p q = absurd (project_or_not bytes x q.0 p q.1)
+  reader_once Project bytes (accepted (a_board c)) t p q = absurd p
+  reader_once Project bytes (refused a) (accepted (a_project y)) p q = absurd (project_or_not bytes y p.0 q p.1)
+  reader_once Project bytes (refused a) (accepted (a_board c)) p q = absurd q
+  reader_once Project bytes (refused a) (refused b) p q =
+      let same : p.0 ≡ q.0 = project_error_once bytes p.0 q.0 p.1 q.1 in
+      ap refused (same_line (project_reason_of q.0) (project_place_of q.0) a b (subst (λ (e : ProjectError). IsWritten (project_reason_of e) (project_place_of e) a) same p.2) q.2)
+
+  text_once : (which : Which) (bytes : List ℕ) (s t : Said) → TextSays which bytes s → TextSays which bytes t → s ≡ t
+  text_once which bytes s t (longer h e) (longer k f) = e ∙ sym f
+  text_once which bytes s t (longer h e) (read k q) = absurd (omega arith)
+  text_once which bytes s t (read h p) (longer k f) = absurd (omega arith)
+  text_once which bytes s t (read h p) (read k q) = reader_once which bytes s t p q
+
+  module _ (files : List (List ℕ × List ℕ)) where
+    says_once : (text : Named) (s t : Said) → FileSays (Some files) text s → FileSays (Some files) text t → s ≡ t
+    says_once text s t p q =
+        let same = same_file files text.file p.bytes q.bytes p.whole q.whole in
+        text_once text.which q.bytes s t (subst (λ (l : List ℕ). TextSays text.which l s) same p.says) q.says
+
+    -- a text that is refused is not accepted
+    refused_once : (text : Named) (why : List ℕ) (value : Value) → FileSays (Some files) text (refused why) → FileSays (Some files) text (accepted value) → ⊥
+    refused_once text why value p q = not_both value why (says_once text (accepted value) (refused why) q p)
+
+    -- ---- lists of texts
+
+    values_once : (texts : List Named) (vs ws : List Value) → AreAccepted (Some files) texts vs → AreAccepted (Some files) texts ws → vs ≡ ws
+    values_once [] [] [] p q = refl
+    values_once [] [] (w ∷ ws) p q = absurd q
+    values_once [] (v ∷ vs) ws p q = absurd p
+    values_once (text ∷ texts) [] ws p q = absurd p
+    values_once (text ∷ texts) (v ∷ vs) [] p q = absurd q
+    values_once (text ∷ texts) (v ∷ vs) (w ∷ ws) p q =
+        let head : v ≡ w = same_values v w (says_once text (accepted v) (accepted w) p.0 q.0) in
+        let tail : vs ≡ ws = values_once texts vs ws p.1 q.1 in
+        ap (λ (x : Value). x ∷ vs) head ∙ ap (λ (l : List Value). w ∷ l) tail
+
+    -- where all are accepted, so is each
+    accepted_each : (before : List Named) (text : Named) (after : List Named) (values : List Value) → AreAccepted (Some files) (before ++ text ∷ after) values
+        → (value : Value) × FileSays (Some files) text (accepted value)
+    accepted_each [] text after [] p = absurd p
+    accepted_each [] text after (v ∷ vs) p = (v, p.0)
+    accepted_each (first ∷ before) text after [] p = absurd p
+    accepted_each (first ∷ before) text after (v ∷ vs) p = accepted_each before text after vs p.1
+
+    heads : {t u : Named} {x y : List Named} → t ∷ x ≡ u ∷ y → t ≡ u
+    heads e = cc
+
+    tails : {t u : Named} {x y : List Named} → t ∷ x ≡ u ∷ y → x ≡ y
+    tails e = cc
+
+    -- the first text that is refused is one
+    first_once : (b c : List Named) (t u : Named) (x y : List Named) (vs ws : List Value) (why how : List ℕ) → b ++ t ∷ x ≡ c ++ u ∷ y → AreAccepted (Some files) b vs → AreAccepted (Some files) c ws
+        → FileSays (Some files) t (refused why) → FileSays (Some files) u (refused how) → t ≡ u
+    first_once [] [] t u x y vs ws why how e p q r s = heads e
+    first_once [] (k ∷ c) t u x y vs [] why how e p q r s = absurd q
+    first_once [] (k ∷ c) t u x y vs (w ∷ ws) why how e p q r s =
+        absurd (refused_once t why w r (subst (λ (z : Named). FileSays (Some files) z (accepted w)) (sym (heads e)) q.0))
+    first_once (k ∷ b) [] t u x y [] ws why how e p q r s = absurd p
+    first_once (k ∷ b) [] t u x y (v ∷ vs) ws why how e p q r s =
+        absurd (refused_once u how v s (subst (λ (z : Named). FileSays (Some files) z (accepted v)) (heads e) p.0))
+    first_once (k ∷ b) (l ∷ c) t u x y [] ws why how e p q r s = absurd p
+    first_once (k ∷ b) (l ∷ c) t u x y (v ∷ vs) [] why how e p q r s = absurd q
+    first_once (k ∷ b) (l ∷ c) t u x y (v ∷ vs) (w ∷ ws) why how e p q r s = first_once b c t u x y vs ws why how (tails e) p.1 q.1 r s
+
+    -- ---- the output
+
+    not_stopped : (texts : List Named) (text : Named) (why : List ℕ) (values : List Value) → IsReached (Some files) texts text → FileSays (Some files) text (refused why) → AreAccepted (Some files) texts values → ⊥
+    not_stopped texts text why values r f p =
+        let one = accepted_each r.before text r.after values (subst (λ (l : List Named). AreAccepted (Some files) l values) r.among p) in
+        refused_once text why one.0 f one.1
+
+    pub one_output_of : (texts : List Named) (a b : Output) → IsOutputOf (Some files) texts a → IsOutputOf (Some files) texts b → a ≡ b
+    one_output_of texts a b (stopped t why r f e) (stopped u how s g d) =
+        let same : t ≡ u = first_once r.before s.before t u r.after s.after r.values s.values why how (sym r.among ∙ s.among) r.before_accepted s.before_accepted f g in
+        let line : why ≡ how = same_whys why how (says_once u (refused why) (refused how) (subst (λ (z : Named). FileSays (Some files) z (refused why)) same f) g) in
+        e ∙ (ap (λ (z : Named). refusal z.which why) same ∙ (ap (refusal u.which) line ∙ sym d))
+    one_output_of texts a b (stopped t why r f e) (reported vs p q) = absurd (not_stopped texts t why vs r f p)
+    one_output_of texts a b (reported vs p q) (stopped t why r f e) = absurd (not_stopped texts t why vs r f p)
+    one_output_of texts a b (reported vs p q) (reported ws r s) =
+        one_reported ws a b (subst (λ (l : List Value). IsReported l a) (values_once texts vs ws p r) q) s
+
+  pub one_output : (reading : Option Reading) (files : List (List ℕ × List ℕ)) (a b : Output) → IsOutputFor reading (Some files) a → IsOutputFor reading (Some files) b → a ≡ b
   one_output None files a b p q = p ∙ sym q
-  one_output (Some name) files a b p q =
-      let both : Some p.0 ≡ Some q.0 = sym p.1 ∙ q.1 in
-      let text : p.0 ≡ q.0 = cc in
-      one_output_of q.0 a b (subst (λ x. IsOutputOf x a) text p.2) q.2
+  one_output (Some reading) files a b p q = one_output_of files (texts_of reading) a b p q

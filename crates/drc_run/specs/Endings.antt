@@ -1,11 +1,13 @@
 -- How a run ends, by its status.
-use Rattle.std.specs.Prelude.{◌≡◌, ◌⊎◌, ℕ, List, [], ◌∷◌, Option}
+use Rattle.std.specs.Prelude.{◌≡◌, ◌⊎◌, ℕ, ◌<◌, ◌≤◌, List, Option, Some, IfSome}
 use Rattle.std.specs.Io.KnownBytes.{Appends, Keeps}
+use Rattle.drc_io.specs.Causes.{Rose}
 use Rattle.drc_io.specs.Sinks.{AppendsFront}
+use Rattle.drc_run.specs.declared.texts.Which.{Which}
 use Rattle.drc_run.specs.declared.status.Status.{Status}
 use Rattle.drc_run.specs.declared.status.Status.TheVariants.{Clean, Rows, Usage, Refused, ReadFault, WriteFault, OutOfMemory}
-use Rattle.row_check.specs.declared.rows.Row.{Row}
-use Rattle.drc_run.specs.Output.{Output, cannot_read}
+use Rattle.drc_run.specs.Words.{Reading}
+use Rattle.drc_run.specs.Output.{Output, IsOutputFor, HasReadFault, cannot_read}
 
 -- an output with this status was written whole
 abbrev pub Whole : (Output → Type 0) → Option (List ℕ) → Option (List ℕ) → ℕ → Type 0
@@ -15,17 +17,48 @@ Whole IsIt old new status = (out : Output) × IsIt out × (out.status ≡ status
 abbrev pub Front : (Output → Type 0) → Option (List ℕ) → Option (List ℕ) → Type 0
 Front IsIt old new = Keeps old new ⊎ ((out : Output) × IsIt out × AppendsFront old new out.text)
 
--- what was written by the end of a run. `Fault` says that a read failed
-abbrev pub Ends : (Output → Type 0) → Type 0 → Option (List ℕ) → Option (List ℕ) → Status → Type 0
+-- a text was not read, and the line that says which was written
+abbrev pub Unread : (Which → Type 0) → Option (List ℕ) → Option (List ℕ) → Type 0
+Unread Fault old new = (which : Which) × Fault which × Appends old new (cannot_read which)
+
+-- a text was not read, and a front part of that line was written
+abbrev pub UnreadFront : (Which → Type 0) → Option (List ℕ) → Option (List ℕ) → Type 0
+UnreadFront Fault old new = (which : Which) × Fault which × AppendsFront old new (cannot_read which)
+
+-- what was written by the end of a run. `Fault` says of a text that it was not read
+abbrev pub Ends : (Output → Type 0) → (Which → Type 0) → Option (List ℕ) → Option (List ℕ) → Status → Type 0
 Ends IsIt Fault old new Clean = Whole IsIt old new 0
 Ends IsIt Fault old new Rows = Whole IsIt old new 1
 Ends IsIt Fault old new Usage = Whole IsIt old new 2
 Ends IsIt Fault old new Refused = Whole IsIt old new 3
-Ends IsIt Fault old new ReadFault = Fault × Appends old new cannot_read
-Ends IsIt Fault old new WriteFault = Front IsIt old new ⊎ (Fault × AppendsFront old new cannot_read)
+Ends IsIt Fault old new ReadFault = Unread Fault old new
+Ends IsIt Fault old new WriteFault = Front IsIt old new ⊎ UnreadFront Fault old new
 Ends IsIt Fault old new OutOfMemory = Front IsIt old new
 
--- the status of a report with these rows
-abbrev pub report_status : List Row → Status
-report_status [] = Clean
-report_status (row ∷ rows) = Rows
+-- the number of a status
+abbrev pub number_of : Status → ℕ
+number_of Clean = 0
+number_of Rows = 1
+number_of Usage = 2
+number_of Refused = 3
+number_of ReadFault = 4
+number_of WriteFault = 5
+number_of OutOfMemory = 6
+
+-- What a run promises, by the reading of its words, the files that its shelf tells, the shelf's counts of faults before and
+-- after, what the sink held before and after, the sink's counts, and the status.
+pub record Promises (reading : Option Reading) (told : Option (List (List ℕ × List ℕ))) (reads_before reads_now : List ℕ → ℕ) (old new : Option (List ℕ)) (writes_before writes_now status : ℕ) : Type 0 where
+  pub bound : status ≤ 6
+  -- below 4 the whole output was written, and this is its status
+  pub whole : status < 4 → Whole (IsOutputFor reading told) old new status
+  -- a read fault has its cause: the turn of that text came, and the count of its file rose; and one line was written, which says which text
+  pub read : status ≡ 4 → Unread (HasReadFault reading told reads_before reads_now) old new
+  -- a write fault has its cause, and a front part was written of the output, or of the line of a read fault
+  pub write : status ≡ 5 → Rose writes_before writes_now
+  pub part : status ≡ 5 → Front (IsOutputFor reading told) old new ⊎ UnreadFront (HasReadFault reading told reads_before reads_now) old new
+  -- where memory ran out a front part of the output was written
+  pub memory : status ≡ 6 → Front (IsOutputFor reading told) old new
+  -- without a fault the output comes whole, unless memory runs out
+  pub complete : ¬ (Rose writes_before writes_now) → ((which : Which) → ¬ (HasReadFault reading told reads_before reads_now which)) → (status < 4) ⊎ (status ≡ 6)
+  -- of a shelf that tells, the words and the files have one output: this status and the text that was written
+  pub exact : IfSome told (λ files. (output : Output) → IsOutputFor reading (Some files) output → status < 4 → (status ≡ output.status) × Appends old new output.text)

@@ -1,4 +1,6 @@
 pub mod Words
-pub mod Refusal
+pub mod Names
+pub mod Texts
 pub mod Output
+pub mod Refusing
 pub mod Endings

@@ -1,61 +1,94 @@
 -- The whole output of the program, as a relation between its words, the files of its shelf and what it writes.
-use Rattle.std.specs.Prelude.{◌≡◌, ◌≢◌, ℕ, ◌<◌, ◌≤◌, List, [], ◌∷◌, length, Option, None, Some, Ok, Err, codes}
+use Rattle.std.specs.Prelude.{◌≡◌, ℕ, List, [], ◌∷◌, ◌++◌, Option, None, Some, codes}
 use Rattle.drc_io.specs.Causes.{Rose}
 use Rattle.drc_io.specs.Files.{IsWhole}
-use Rattle.board_items.specs.declared.errors.BoardError.{BoardError}
 use Rattle.board_items.specs.Boards.{PlainBoard}
-use Rattle.pcb_read.specs.BoardText.{Says}
 use Rattle.row_check.specs.declared.rows.Row.{Row}
 use Rattle.row_check.specs.Rows.{AreRows}
+use Rattle.net_class.specs.Classes.{PlainClasses, plain_classes}
 use Rattle.drc_rows.specs.Report.{report}
-use Rattle.drc_run.specs.Refusal.{reason, refusal_line}
+use Rattle.drc_run.specs.declared.texts.Which.{Which}
+use Rattle.drc_run.specs.Words.{Reading}
+use Rattle.drc_run.specs.Texts.{Named, texts_of, word_of, Value, a_board, a_project, Said, accepted, refused, TextSays}
 
 -- a text, and the status with which the program ends once it is written
 pub record Output : Type 0 where
   pub text : List ℕ
   pub status : ℕ
 
--- the most bytes of a text
-abbrev pub limit : ℕ
-limit = 33554432
-
 abbrev pub usage : Output
-usage = record { text = codes "usage: drc BOARD\n"; status = 2 }
+usage = record { text = codes "usage: drc BOARD [--project FILE]\n"; status = 2 }
 
-abbrev pub too_long : Output
-too_long = record { text = codes "refused board: TooLong (0) at 33554432\n"; status = 3 }
+-- the line of a text that is refused
+abbrev pub refusal : Which → List ℕ → Output
+refusal which why = record { text = codes "refused " ++ word_of which ++ codes ": " ++ why ++ codes "\n"; status = 3 }
 
-abbrev pub refusal : BoardError → Output
-refusal e = record { text = refusal_line e; status = 3 }
-
-abbrev pub cannot_read : List ℕ
-cannot_read = codes "cannot read board\n"
+-- the line of a text that was not read
+abbrev pub cannot_read : Which → List ℕ
+cannot_read which = codes "cannot read " ++ word_of which ++ codes "\n"
 
 -- the status of a board with these rows
 abbrev pub status_of : List Row → ℕ
 status_of [] = 0
 status_of (row ∷ rows) = 1
 
--- the report of a board: with its rows, and status 1 exactly where it has one
-pub record IsReported (board : PlainBoard) (out : Output) : Type 0 where
+-- the report of a board under these classes: with its rows, and status 1 exactly where it has one
+pub record IsReportOf (board : PlainBoard) (classes : PlainClasses) (out : Output) : Type 0 where
   pub rows : List Row
-  pub are_rows : AreRows board rows
+  pub are_rows : AreRows classes board rows
   pub text : out.text ≡ report board rows
   pub status : out.status ≡ status_of rows
 
--- the output for a text of the board: that it is too long, or why it is refused, by name, or the report of the board that it
--- says
-pub data IsOutputOf (text : List ℕ) (out : Output) : Type 0 where
-  longer : limit < length text → out ≡ too_long → IsOutputOf text out
-  refused : length text ≤ limit → (e : BoardError) → Says text (Err e) → reason e ≢ [] → out ≡ refusal e → IsOutputOf text out
-  reported : length text ≤ limit → (board : PlainBoard) → Says text (Ok board) → IsReported board out → IsOutputOf text out
+-- ---- the texts
 
--- the whole output for a reading of the words. The text of the board is what the shelf tells of its file, or else any
-abbrev pub IsOutputFor : Option (List ℕ) → Option (List (List ℕ × List ℕ)) → Output → Type 0
+-- the bytes of a text are what the shelf tells of its file, or else any, and they say this
+pub record FileSays (told : Option (List (List ℕ × List ℕ))) (text : Named) (said : Said) : Type 0 where
+  pub bytes : List ℕ
+  pub whole : IsWhole told text.file bytes
+  pub says : TextSays text.which bytes said
+
+-- the texts are accepted, each with its value
+abbrev pub AreAccepted : Option (List (List ℕ × List ℕ)) → List Named → List Value → Type 0
+AreAccepted told [] [] = Unit {0}
+AreAccepted told [] (value ∷ values) = ⊥
+AreAccepted told (text ∷ texts) [] = ⊥
+AreAccepted told (text ∷ texts) (value ∷ values) = FileSays told text (accepted value) × AreAccepted told texts values
+
+-- a text's turn comes: it is among the texts, and those before it are accepted
+pub record IsReached (told : Option (List (List ℕ × List ℕ))) (texts : List Named) (text : Named) : Type 0 where
+  pub before : List Named
+  pub after : List Named
+  pub among : texts ≡ before ++ text ∷ after
+  pub values : List Value
+  pub before_accepted : AreAccepted told before values
+
+-- the report of what the texts stand for: of the board under the classes of the project, or without one under the plain classes
+abbrev pub IsReported : List Value → Output → Type 0
+IsReported [] out = ⊥
+IsReported (a_project classes ∷ values) out = ⊥
+IsReported (a_board board ∷ []) out = IsReportOf board plain_classes out
+IsReported (a_board board ∷ a_project classes ∷ []) out = IsReportOf board classes out
+IsReported (a_board board ∷ a_board other ∷ values) out = ⊥
+IsReported (a_board board ∷ a_project classes ∷ value ∷ values) out = ⊥
+
+-- the output for these texts: the line of the first that is refused, or the report of all
+pub data IsOutputOf (told : Option (List (List ℕ × List ℕ))) (texts : List Named) (out : Output) : Type 0 where
+  stopped : (text : Named) (why : List ℕ) → IsReached told texts text → FileSays told text (refused why) → out ≡ refusal text.which why → IsOutputOf told texts out
+  reported : (values : List Value) → AreAccepted told texts values → IsReported values out → IsOutputOf told texts out
+
+-- the whole output for a reading of the words
+abbrev pub IsOutputFor : Option Reading → Option (List (List ℕ × List ℕ)) → Output → Type 0
 IsOutputFor None told out = out ≡ usage
-IsOutputFor (Some name) told out = (text : List ℕ) × IsWhole told name text × IsOutputOf text out
+IsOutputFor (Some reading) told out = IsOutputOf told (texts_of reading) out
 
--- a fault of the board's file: the words name it, and its count rose
-abbrev pub HasReadFault : Option (List ℕ) → (List ℕ → ℕ) → (List ℕ → ℕ) → Type 0
-HasReadFault None before now = ⊥
-HasReadFault (Some name) before now = Rose (before name) (now name)
+-- ---- faults
+
+-- a text was not read: its turn came, and the count of faults of its file rose
+pub record ReadFails (told : Option (List (List ℕ × List ℕ))) (texts : List Named) (before now : List ℕ → ℕ) (which : Which) : Type 0 where
+  pub file : List ℕ
+  pub reached : IsReached told texts (record { which = which; file = file })
+  pub rose : Rose (before file) (now file)
+
+abbrev pub HasReadFault : Option Reading → Option (List (List ℕ × List ℕ)) → (List ℕ → ℕ) → (List ℕ → ℕ) → Which → Type 0
+HasReadFault None told before now which = ⊥
+HasReadFault (Some reading) told before now which = ReadFails told (texts_of reading) before now which

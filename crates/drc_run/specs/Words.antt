@@ -1,16 +1,46 @@
--- What the words of the command line say.
-use Rattle.std.specs.Prelude.{ℕ, List, [], ◌∷◌, Option, None, Some, Bool, false, ◌==◌, map, if◌then◌else◌}
+-- What the words of the command line say: what `clap` makes of them, by the program's command.
+use Rattle.std.specs.Prelude.{ℕ, List, [], ◌∷◌, Option, None, Some, true, map, codes}
+use Rattle.std.specs.Option.{option_map}
 use Rattle.std.proofs.Common.{Bor}
+use Rattle.clap.specs.Words.{App, Rule, Row, Kinds, new_app, new_rule, with_rule, fault_of, matches_of, first_of}
+use Rattle.clap.specs.Simple.{Shape, on_top}
 
-abbrev pub begins_with_dash : List ℕ → Bool
-begins_with_dash [] = false
-begins_with_dash (byte ∷ rest) = byte == 45
+-- ---- the command
 
--- the board's file: the words are one word that does not begin with a dash
-abbrev pub reading_of : List (List ℕ) → Option (List ℕ)
-reading_of [] = None
-reading_of (word ∷ []) = if begins_with_dash word then None else Some word
-reading_of (word ∷ (more ∷ rest)) = None
+-- the words do not begin with the program's name, and none of them asks for help or for the version
+abbrev pub settings_of : Shape → Shape
+settings_of shape = record shape { no_binary_name = true; disable_help_flag = true; disable_version_flag = true }
+
+-- the board's file, which must be there
+abbrev pub board_rule : Rule
+board_rule = record (new_rule (codes "BOARD")) { required = true }
+
+-- `--project` and the project's file
+abbrev pub project_rule : Rule
+project_rule = record (new_rule (codes "project")) { long = Some (codes "project") }
+
+abbrev pub drc_app : App
+drc_app = with_rule (with_rule (on_top settings_of (new_app (codes "drc"))) board_rule) project_rule
+
+-- ---- the reading
+
+-- the files that the words give
+pub record Reading : Type 0 where
+  pub board : List ℕ
+  pub project : Option (List ℕ)
+
+abbrev pub reading_with : Option (List ℕ) → Option (List ℕ) → Option Reading
+reading_with None project = None
+reading_with (Some board) project = Some (record { board = board; project = project })
+
+-- what the matches give, where the words have no fault
+abbrev pub reading_if : Kinds → List Row → Option Reading
+reading_if [] rows = reading_with (first_of (codes "BOARD") rows) (first_of (codes "project") rows)
+reading_if (fault ∷ faults) rows = None
+
+-- the reading of the words, which have none where `clap` refuses them
+unfoldable pub reading_of : List (List ℕ) → Option Reading
+reading_of words = reading_if (fault_of drc_app words) (matches_of drc_app words)
 
 -- the words as lists of bytes
 abbrev pub words_of : List (Bor (List ℕ)) → List (List ℕ)

@@ -1,14 +1,59 @@
 //! What the words of the command line say.
 
-ghost use Rattle.std.specs.Prelude.{◌≡◌, option_map};
-ghost use Rattle.drc_run.specs.Words.{reading_of, words_of};
+ghost use Rattle.std.specs.Prelude.{◌≡◌, IfOk, option_map, codes};
+ghost use Rattle.clap.specs.Words.{app_of, first_value, found_of};
+ghost use Rattle.drc_run.specs.Words.{drc_app, reading_of, reading_with, words_of};
+ghost use Rattle.drc_run.specs.Names.{reading_in};
 
-/// The board's file: the words are one word that does not begin with a dash.
-pub(crate) fn reading<'a>(words: &[&'a str]) -> Option<&'a str>
-    ensures { option_map (λ word. word.now) result ≡ reading_of (words_of words.now) }
+use clap::error::ErrorKind;
+use clap::{Arg, ArgMatches, Command};
+use std::alloc::{AllocError, Global};
+
+/// The files that the words give.
+#[derive(Clone, Copy)]
+pub(crate) struct Names<'a> {
+    pub(crate) board: &'a str,
+    pub(crate) project: Option<&'a str>,
+}
+
+/// The program's command: `drc BOARD [--project FILE]`.
+fn command<'a>(alloc: Global) -> Result<Command<'a>, AllocError>
+    ensures { IfOk result (λ command. app_of command ≡ drc_app) }
 {
-    match words {
-        [word] if !word.as_bytes().starts_with(b"-") => Some(word),
-        _ => None,
+    let board = Arg::new(alloc, "BOARD").required(true);
+    let project = Arg::new(alloc, "project").long("project");
+    let command = Command::new(alloc, "drc")
+        .no_binary_name(true)
+        .disable_help_flag(true)
+        .disable_version_flag(true)
+        .arg(board)?;
+    command.arg(project)
+}
+
+/// The files that the words give, or none where they are no command line.
+pub(crate) fn reading<'a>(
+    alloc: Global,
+    words: &'a [&'a str],
+) -> Result<Option<Names<'a>>, AllocError>
+    ensures { IfOk result (λ names. option_map reading_in names ≡ reading_of (words_of words.entry.now)) }
+{
+    let command = command(alloc)?;
+    match command.try_get_matches_from(words) {
+        Ok(matches) => Ok(names_in(&matches)),
+        Err(error) => match error.kind() {
+            ErrorKind::OutOfMemory => Err(AllocError),
+            _ => Ok(None),
+        },
     }
+}
+
+/// The files among the matches.
+fn names_in<'a>(matches: &ArgMatches<'a>) -> Option<Names<'a>>
+    ensures { option_map reading_in result ≡ reading_with (first_value (found_of matches.now) (codes "BOARD")) (first_value (found_of matches.now) (codes "project")) }
+{
+    let board = matches.get_str("BOARD")?;
+    Some(Names {
+        board,
+        project: matches.get_str("project"),
+    })
 }

@@ -1,23 +1,20 @@
-use Rattle.std.proofs.Common.{ap, sym, subst, Some, Err}
-use Rattle.drc_io.specs.Files.{IsWhole}
-use Rattle.drc_run.specs.declared.status.Status.TheVariants.{Refused}
-use Rattle.drc_run.specs.Output.{IsOutputOf, IsOutputFor, too_long}
-use Rattle.drc_run.proofs.Written.{written, faulted, longer_output, ends_as}
+use Rattle.std.proofs.Common.{Some}
+use Rattle.drc_run.specs.Output.{IsOutputFor}
+use Rattle.drc_run.proofs.Written.{ends_as}
+use Rattle.drc_run.specs.Names.{reading_in}
+use Rattle.drc_run.proofs.Accepting.{report_is_output, line_is_output, unread_has_fault}
 use Rattle.drc_run.proofs.check.check.Goals as goal
-
-pub returns-in-Err-TooLong-clause-ends : goal.returns-in-Err-TooLong-clause-ends
-returns-in-Err-TooLong-clause-ends g c =
-    let is = longer_output (g.F.Shelf.files c.args.shelf.now) c.args.name.now (c.in-Err-TooLong.ensures.too_long (ap Err c.in-Err-TooLong.field-0-is)) in
-    written (IsOutputFor (Some c.args.name.now) (g.F.Shelf.files c.args.shelf.now)) _ _ _ _ _ too_long c.put_all.result Refused c.after.result is (λ w. w) c.put_all.ensures c.after.ensures
-
-pub returns-in-Err-Failed-clause-ends : goal.returns-in-Err-Failed-clause-ends
-returns-in-Err-Failed-clause-ends g c =
-    faulted (IsOutputFor (Some c.args.name.now) (g.F.Shelf.files c.args.shelf.now)) _ _ _ _ _ c.put_all-in-Err-Failed.result c.after-in-Err-Failed.result
-    (c.in-Err-Failed.ensures.failed (ap Err c.in-Err-Failed.field-0-is)) c.put_all-in-Err-Failed.ensures c.after-in-Err-Failed.ensures
 
 pub returns-in-Ok-clause-ends : goal.returns-in-Ok-clause-ends
 returns-in-Ok-clause-ends g c =
     let told = g.F.Shelf.files c.args.shelf.now in
-    let whole = subst (IsWhole told c.args.name.now) (sym c.deref.ensures.value) c.in-Ok.ensures.whole in
-    ends_as (IsOutputOf c.deref.result.now) (IsOutputFor (Some c.args.name.now) told) ⊥ _ _ _ c.check_text.result (λ out is. (c.deref.result.now, whole, is)) (λ none. absurd none)
-    c.check_text.ensures.ends
+    let reading = reading_in c.args.names in
+    ends_as _ (IsOutputFor (Some reading) told) (λ _. ⊥) _ _ _ c.report.result (λ out is. report_is_output told reading c.in-Ok.texts.board c.in-Ok.texts.classes out c.in-Ok.ensures.ok is)
+    (λ w none. absurd none) c.report.ensures.ends
+
+pub returns-in-Err-clause-ends : goal.returns-in-Err-clause-ends
+returns-in-Err-clause-ends g c =
+    let told = g.F.Shelf.files c.args.shelf.now in
+    let reading = reading_in c.args.names in
+    ends_as _ (IsOutputFor (Some reading) told) _ _ _ _ c.write_stop.result (λ out is. line_is_output told _ _ reading c.in-Err.stop out c.in-Err.ensures.stop is)
+    (λ w is. unread_has_fault told _ _ reading c.in-Err.stop w c.in-Err.ensures.stop is) c.write_stop.ensures.ends
