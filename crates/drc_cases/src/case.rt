@@ -18,7 +18,7 @@ pub struct Given {
     pub files: Vec<(Name, Vec<u8>)>,
     pub failing_reads: Vec<u64>,
     pub failing_writes: Vec<u64>,
-    pub most: usize,
+    pub most: u64,
 }
 
 /// A run of the program and how it is to end.
@@ -40,7 +40,7 @@ impl Given {
             files: Vec::new(alloc),
             failing_reads: Vec::new(alloc),
             failing_writes: Vec::new(alloc),
-            most: usize::MAX,
+            most: u64::MAX,
         }
     }
 
@@ -56,7 +56,7 @@ impl Given {
         } = self;
         let mut shelf = MemShelf::new(files, failing_reads);
         let room = expected.saturating_add(ROOM);
-        let mut out = MemSink::new(alloc, most.max(1), room, failing_writes)?;
+        let mut out = MemSink::new(alloc, most.max(1) as usize, room, failing_writes)?;
         let words: Vec<&str> = words.iter().map(|word| word.as_str()).collect(alloc)?;
         let status = run(rt, &words, &mut shelf, &mut out);
         Ok(Outcome {

@@ -3,9 +3,16 @@
 use std::alloc::{AllocError, AllocFailed};
 use std::fmt;
 
+/// What is wrong, and the number of the line.
+#[derive(Clone, Copy)]
+pub struct Fault {
+    pub line: usize,
+    pub reason: Reason,
+}
+
 /// What is wrong with a line.
 #[derive(Clone, Copy)]
-pub enum Fault {
+pub enum Reason {
     UnknownLine,
     EndsInSpace,
     NoCase,
@@ -22,42 +29,47 @@ pub enum Fault {
     OutOfMemory,
 }
 
-impl Fault {
+impl Reason {
+    /// This in the line of that number.
+    pub fn at(self, line: usize) -> Fault {
+        Fault { line, reason: self }
+    }
+
     fn message(self) -> &'static str {
         match self {
-            Fault::UnknownLine => "no such kind of line",
-            Fault::EndsInSpace => "ends in a space, which is written \\s",
-            Fault::NoCase => "stands in no case",
-            Fault::NoOutcome => "the case before has no out",
-            Fault::SecondOutcome => "says a second out of a case",
-            Fault::NoText => "adds to no text",
-            Fault::NoWord => "has two spaces where one parts words",
-            Fault::UnknownShorthand => "has a shorthand that is not defined above",
-            Fault::SecondShorthand => "defines a shorthand again",
-            Fault::UnknownEscape => "has an escape that is none",
-            Fault::BadNumber => "has no number where one is demanded",
-            Fault::BadName => "names a shorthand by more than letters, digits and underscores",
-            Fault::TooLong => "makes a text too long",
-            Fault::OutOfMemory => "memory ran out",
+            Reason::UnknownLine => "no such kind of line",
+            Reason::EndsInSpace => "ends in a space, which is written \\s",
+            Reason::NoCase => "stands in no case",
+            Reason::NoOutcome => "the case has no out",
+            Reason::SecondOutcome => "says a second out of a case",
+            Reason::NoText => "adds to no text",
+            Reason::NoWord => "has two spaces where one parts words",
+            Reason::UnknownShorthand => "has a shorthand that is not defined above",
+            Reason::SecondShorthand => "defines a shorthand again",
+            Reason::UnknownEscape => "has an escape that is none",
+            Reason::BadNumber => "has no number where one is demanded",
+            Reason::BadName => "names a shorthand by more than letters, digits and underscores",
+            Reason::TooLong => "makes a text too long",
+            Reason::OutOfMemory => "memory ran out",
         }
     }
 }
 
-impl fmt::Display for Fault {
+impl fmt::Display for Reason {
     fn fmt<W: fmt::Write>(&self, f: &mut fmt::Formatter<W>) -> fmt::Result {
         let message = self.message();
         write!(f, "{message}")
     }
 }
 
-impl From<AllocError> for Fault {
-    fn from(_: AllocError) -> Fault {
-        Fault::OutOfMemory
+impl From<AllocError> for Reason {
+    fn from(_: AllocError) -> Reason {
+        Reason::OutOfMemory
     }
 }
 
-impl<T: Drop> From<AllocFailed<T>> for Fault {
-    fn from(_: AllocFailed<T>) -> Fault {
-        Fault::OutOfMemory
+impl<T: Drop> From<AllocFailed<T>> for Reason {
+    fn from(_: AllocFailed<T>) -> Reason {
+        Reason::OutOfMemory
     }
 }

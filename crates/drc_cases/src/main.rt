@@ -1,7 +1,7 @@
 //! Runs cases of the whole program that are written as data: each word of the command line names a file of them.
 //!
 //! Prints the name of each case with ` ok`, or with what differs, and ends with status 1 where one differs. A line
-//! that cannot be read counts as differing. `docs/CASES.md` has the format.
+//! that cannot be read counts as differing, and its case is not tried. `docs/CASES.md` has the format.
 #![tactic(auto)]
 
 mod case;
@@ -13,11 +13,12 @@ mod texts;
 use case::Case;
 use difference::difference;
 use fault::Fault;
-use reader::Reader;
+use reader::{Line, first_case, lines_of, read_case};
 use std::env::Env;
 use std::process::ExitCode;
 use std::rt::Files;
 use std::{env, fs, io};
+use texts::Shorthands;
 
 /// How many cases ended as expected, and how many cases and lines did not.
 #[derive(Clone, Copy)]
@@ -47,29 +48,24 @@ fn try_case<R: AllocGlobal + Print>(rt: &R, counts: &mut Counts, case: Case) -> 
 }
 
 /// Prints why a line cannot be read.
-fn refuse<R: Print>(
-    rt: &R,
-    counts: &mut Counts,
-    file: &str,
-    line: usize,
-    fault: Fault,
-) -> io::Result<()> {
+fn refuse<R: Print>(rt: &R, counts: &mut Counts, file: &str, fault: Fault) -> io::Result<()> {
+    let Fault { line, reason } = fault;
     counts.differ = counts.differ.saturating_add(1);
-    println!(rt; "{file}:{line}: {fault}")
+    println!(rt; "{file}:{line}: {reason}")
 }
 
-/// Tries what a line has ended, if it ended a case, or prints why it cannot be read.
-fn go_on<R: AllocGlobal + Print>(
+/// Tries the case of some lines. A case with a line that cannot be read is not tried.
+fn try_lines<R: AllocGlobal + Print>(
     rt: &R,
     counts: &mut Counts,
     file: &str,
-    line: usize,
-    ended: Result<Option<Case>, Fault>,
+    shorthands: &mut Shorthands,
+    lines: &[Line],
 ) -> io::Result<()> {
-    match ended {
+    match read_case(rt.alloc(), shorthands, lines) {
         Ok(Some(case)) => try_case(rt, counts, case),
         Ok(None) => Ok(()),
-        Err(fault) => refuse(rt, counts, file, line, fault),
+        Err(fault) => refuse(rt, counts, file, fault),
     }
 }
 
@@ -80,13 +76,16 @@ fn try_file<R: AllocGlobal + Print + Files>(
     file: &str,
 ) -> io::Result<()> {
     let text = fs::read_to_string(rt, file)?;
-    let mut reader = Reader::new(rt.alloc());
-    let mut number = 0usize;
-    for line in text.lines() {
-        number = number.saturating_add(1);
-        go_on(rt, counts, file, number, reader.line(line))?;
+    let lines = lines_of(rt.alloc(), &text)?;
+    let mut shorthands = Shorthands::new(rt.alloc());
+    let mut rest = lines.as_slice();
+    // Each turn takes a line at least.
+    for _ in 0..lines.len() {
+        let (first, others) = first_case(rest);
+        try_lines(rt, counts, file, &mut shorthands, first)?;
+        rest = others;
     }
-    go_on(rt, counts, file, number, reader.end())
+    Ok(())
 }
 
 fn try_files<R: AllocGlobal + Print + Files + Env>(rt: &R) -> io::Result<Counts> {

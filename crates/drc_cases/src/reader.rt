@@ -1,250 +1,257 @@
-//! Reads cases line by line.
+//! Reads a case from its lines.
 
 use crate::case::{Case, Given, Outcome};
-use crate::fault::Fault;
-use crate::texts::{Shorthands, is_in_name};
+use crate::fault::{Fault, Reason};
+use crate::texts::{Shorthands, add_times, first_word, is_in_name, number};
 use drc_io::Name;
-use std::alloc::Global;
+use std::alloc::{AllocError, Global};
 
-/// A text of more bytes is not repeated.
-const LONGEST: usize = 67_108_864;
-
-/// Where a text goes when it is whole.
-#[derive(Drop)]
-enum Goal {
-    Shorthand(String),
-    File(Name),
-    Output(u8),
+/// A line with its number in the file.
+#[derive(Clone, Copy)]
+pub struct Line<'a> {
+    pub number: usize,
+    pub written: &'a str,
 }
 
-/// A case that is not yet whole.
+/// What the lines of a case have said so far.
 #[derive(Drop)]
-struct Started {
-    name: String,
+struct Draft {
+    name: Option<String>,
     given: Given,
     expected: Option<Outcome>,
 }
 
-/// What the lines up to here have said.
-#[derive(Drop)]
-pub struct Reader {
+/// The lines of a text that say something.
+pub fn lines_of(alloc: Global, text: &str) -> Result<Vec<Line<'_>>, AllocError> {
+    let mut lines = Vec::new(alloc);
+    let mut number = 0usize;
+    for written in text.lines() {
+        number = number.saturating_add(1);
+        if !written.is_empty() && !written.starts_with('#') {
+            lines.push(Line { number, written })?;
+        }
+    }
+    Ok(lines)
+}
+
+/// The lines up to the next one that begins a case, and the rest.
+pub fn first_case<'a, 'b>(lines: &'b [Line<'a>]) -> (&'b [Line<'a>], &'b [Line<'a>]) {
+    let next = lines
+        .iter()
+        .skip(1)
+        .position(|line| line.written.starts_with("case "));
+    let end = next.map_or(lines.len(), |at| at.saturating_add(1));
+    lines.split_at(end.min(lines.len()))
+}
+
+/// Whether a line adds to the text that was begun last.
+fn adds(written: &str) -> bool {
+    written.starts_with('|') || written.starts_with('+') || written.starts_with('*')
+}
+
+/// Whether a line begins a text.
+fn begins_text(kind: &str) -> bool {
+    kind == "file" || kind == "out" || kind == "let"
+}
+
+/// The text that begins with what is written and goes on in the lines that add to it.
+fn text_of(
     alloc: Global,
-    shorthands: Shorthands,
-    case: Option<Started>,
-    text: Option<(Goal, Vec<u8>)>,
-}
-
-impl Reader {
-    pub fn new(alloc: Global) -> Reader {
-        Reader {
-            alloc,
-            shorthands: Shorthands::new(alloc),
-            case: None,
-            text: None,
-        }
-    }
-
-    /// Reads a line, and gives the case that it ends.
-    pub fn line(&mut self, line: &str) -> Result<Option<Case>, Fault> {
-        if line.is_empty() || line.starts_with('#') {
-            return Ok(None);
-        }
-        if line.ends_with(' ') {
-            return Err(Fault::EndsInSpace);
-        }
-        if self.add(line)? {
-            return Ok(None);
-        }
-        self.close_text()?;
-        let (kind, rest) = first_word(line);
-        if kind == "case" {
-            return self.start_case(rest);
-        }
-        self.say(kind, rest)?;
-        Ok(None)
-    }
-
-    /// Gives the last case.
-    pub fn end(&mut self) -> Result<Option<Case>, Fault> {
-        self.close_text()?;
-        self.end_case()
-    }
-
-    /// Adds to the text that was begun last, if it is a line that adds.
-    fn add(&mut self, line: &str) -> Result<bool, Fault> {
-        if let Some(written) = line.strip_prefix('|') {
-            self.add_times(1, written, "\n")?;
-        } else if let Some(written) = line.strip_prefix('+') {
-            self.add_times(1, written, "")?;
-        } else if let Some(repeated) = line.strip_prefix('*') {
-            let (times, written) = first_word(repeated);
-            self.add_times(number(times)?, written, "")?;
+    shorthands: &Shorthands,
+    written: &str,
+    lines: &[Line],
+) -> Result<Vec<u8>, Reason> {
+    let mut text = Vec::new(alloc);
+    shorthands.add(&mut text, written)?;
+    for line in lines {
+        if let Some(written) = line.written.strip_prefix('|') {
+            shorthands.add(&mut text, written)?;
+            text.push(b'\n')?;
+        } else if let Some(written) = line.written.strip_prefix('+') {
+            shorthands.add(&mut text, written)?;
+        } else if let Some(written) = line.written.strip_prefix('*') {
+            add_times(alloc, shorthands, &mut text, written)?;
         } else {
-            return Ok(false);
-        }
-        Ok(true)
-    }
-
-    /// Adds so many times what is written and then the end.
-    fn add_times(&mut self, times: u64, written: &str, end: &str) -> Result<(), Fault> {
-        let mut piece = Vec::new(self.alloc);
-        self.shorthands.add(&mut piece, written)?;
-        piece.extend_from_slice(end.as_bytes())?;
-        let (_, text) = self.text.as_mut().ok_or(Fault::NoText)?;
-        for _ in 0..times {
-            if text.len() > LONGEST {
-                return Err(Fault::TooLong);
-            }
-            text.extend_from_slice(&piece)?;
-        }
-        Ok(())
-    }
-
-    /// Reads a line that neither adds to a text nor starts a case.
-    fn say(&mut self, kind: &str, rest: &str) -> Result<(), Fault> {
-        match kind {
-            "run" => self.add_words(rest),
-            "file" => self.begin_file(rest),
-            "out" => self.begin_output(rest),
-            "let" => self.begin_shorthand(rest),
-            "take" => self.set_most(rest),
-            "fail-read" => self.fail_read(rest),
-            "fail-write" => self.fail_write(rest),
-            _ => Err(Fault::UnknownLine),
+            break;
         }
     }
+    Ok(text)
+}
 
-    fn begin_file(&mut self, rest: &str) -> Result<(), Fault> {
-        self.given()?;
-        let (name, written) = first_word(rest);
-        let name = Name::of(name.to_string(self.alloc)?.into_bytes());
-        self.begin_text(Goal::File(name), written)
+/// Adds the words, which single spaces part. The empty word is written as two quotes.
+fn add_words(alloc: Global, words: &mut Vec<String>, written: &str) -> Result<(), Reason> {
+    if written.is_empty() {
+        return Ok(());
     }
-
-    fn begin_output(&mut self, rest: &str) -> Result<(), Fault> {
-        if self.started()?.expected.is_some() {
-            return Err(Fault::SecondOutcome);
-        }
-        let (status, written) = first_word(rest);
-        let status = status.parse::<u8>().map_err(|_| Fault::BadNumber)?;
-        self.begin_text(Goal::Output(status), written)
-    }
-
-    fn begin_shorthand(&mut self, rest: &str) -> Result<(), Fault> {
-        let (name, written) = first_word(rest);
-        if name.is_empty() || !name.bytes().all(is_in_name) {
-            return Err(Fault::BadName);
-        }
-        if self.shorthands.has(name) {
-            return Err(Fault::SecondShorthand);
-        }
-        let name = name.to_string(self.alloc)?;
-        self.begin_text(Goal::Shorthand(name), written)
-    }
-
-    fn set_most(&mut self, rest: &str) -> Result<(), Fault> {
-        let most = rest.parse::<usize>().map_err(|_| Fault::BadNumber)?;
-        self.given()?.most = most;
-        Ok(())
-    }
-
-    fn fail_read(&mut self, rest: &str) -> Result<(), Fault> {
-        let call = number(rest)?;
-        self.given()?.failing_reads.push(call)?;
-        Ok(())
-    }
-
-    fn fail_write(&mut self, rest: &str) -> Result<(), Fault> {
-        let call = number(rest)?;
-        self.given()?.failing_writes.push(call)?;
-        Ok(())
-    }
-
-    fn started(&mut self) -> Result<&mut Started, Fault> {
-        self.case.as_mut().ok_or(Fault::NoCase)
-    }
-
-    fn given(&mut self) -> Result<&mut Given, Fault> {
-        Ok(&mut self.started()?.given)
-    }
-
-    /// Adds the words, which single spaces part. The empty word is written as two quotes.
-    fn add_words(&mut self, written: &str) -> Result<(), Fault> {
-        let alloc = self.alloc;
-        let words = &mut self.given()?.words;
-        if written.is_empty() {
-            return Ok(());
-        }
-        for word in written.split(' ') {
-            let word = match word {
-                "" => return Err(Fault::NoWord),
-                "''" => "",
-                word => word,
-            };
-            words.push(word.to_string(alloc)?)?;
-        }
-        Ok(())
-    }
-
-    fn begin_text(&mut self, goal: Goal, written: &str) -> Result<(), Fault> {
-        let mut text = Vec::new(self.alloc);
-        self.shorthands.add(&mut text, written)?;
-        self.text = Some((goal, text));
-        Ok(())
-    }
-
-    /// Puts the text that was begun last where it goes.
-    fn close_text(&mut self) -> Result<(), Fault> {
-        let Some((goal, text)) = self.text.take() else {
-            return Ok(());
+    for word in written.split(' ') {
+        let word = match word {
+            "" => return Err(Reason::NoWord),
+            "''" => "",
+            word => word,
         };
-        match goal {
-            Goal::Shorthand(name) => self.shorthands.define(name, text),
-            Goal::File(name) => {
-                self.given()?.files.push((name, text))?;
-                Ok(())
-            }
-            Goal::Output(status) => {
-                self.started()?.expected = Some(Outcome { status, text });
-                Ok(())
-            }
-        }
+        words.push(word.to_string(alloc)?)?;
     }
-
-    /// Starts a case, and gives the one before.
-    fn start_case(&mut self, name: &str) -> Result<Option<Case>, Fault> {
-        let before = self.end_case();
-        self.case = Some(Started {
-            name: name.to_string(self.alloc)?,
-            given: Given::nothing(self.alloc),
-            expected: None,
-        });
-        before
-    }
-
-    fn end_case(&mut self) -> Result<Option<Case>, Fault> {
-        match self.case.take() {
-            None => Ok(None),
-            Some(
-                Started {
-                    name,
-                    given,
-                    expected,
-                },
-            ) => Ok(Some(Case {
-                name,
-                given,
-                expected: expected.ok_or(Fault::NoOutcome)?,
-            })),
-        }
-    }
+    Ok(())
 }
 
-/// What comes up to the first space, and what comes behind it.
-fn first_word(written: &str) -> (&str, &str) {
-    written.split_once(' ').unwrap_or((written, ""))
+/// Reads how a case is to end.
+fn outcome_of(
+    alloc: Global,
+    shorthands: &Shorthands,
+    rest: &str,
+    others: &[Line],
+) -> Result<Outcome, Reason> {
+    let (status, written) = first_word(rest);
+    let status = status.parse::<u8>().map_err(|_| Reason::BadNumber)?;
+    let text = text_of(alloc, shorthands, written, others)?;
+    Ok(Outcome { status, text })
 }
 
-fn number(written: &str) -> Result<u64, Fault> {
-    written.parse::<u64>().map_err(|_| Fault::BadNumber)
+/// Reads a shorthand.
+fn define(
+    alloc: Global,
+    shorthands: &mut Shorthands,
+    rest: &str,
+    others: &[Line],
+) -> Result<(), Reason> {
+    let (name, written) = first_word(rest);
+    if name.is_empty() || !name.bytes().all(is_in_name) {
+        return Err(Reason::BadName);
+    }
+    if shorthands.has(name) {
+        return Err(Reason::SecondShorthand);
+    }
+    let text = text_of(alloc, shorthands, written, others)?;
+    shorthands.define(name.to_string(alloc)?, text)
+}
+
+/// Reads a file.
+fn file_of(
+    alloc: Global,
+    shorthands: &Shorthands,
+    rest: &str,
+    others: &[Line],
+) -> Result<(Name, Vec<u8>), Reason> {
+    let (name, written) = first_word(rest);
+    let name = Name::of(name.to_string(alloc)?.into_bytes());
+    Ok((name, text_of(alloc, shorthands, written, others)?))
+}
+
+/// Reads a line on what the program is given.
+fn add_given(
+    alloc: Global,
+    shorthands: &Shorthands,
+    given: &mut Given,
+    (kind, rest): (&str, &str),
+    others: &[Line],
+) -> Result<(), Reason> {
+    match kind {
+        "run" => add_words(alloc, &mut given.words, rest)?,
+        "file" => given.files.push(file_of(alloc, shorthands, rest, others)?)?,
+        "take" => given.most = number(rest)?,
+        "fail-read" => given.failing_reads.push(number(rest)?)?,
+        "fail-write" => given.failing_writes.push(number(rest)?)?,
+        _ => return Err(Reason::UnknownLine),
+    }
+    Ok(())
+}
+
+/// Reads a line that adds to no text. The other lines are those behind it.
+fn read_line(
+    alloc: Global,
+    shorthands: &mut Shorthands,
+    draft: &mut Draft,
+    written: &str,
+    others: &[Line],
+) -> Result<(), Reason> {
+    let (kind, rest) = first_word(written);
+    if written.ends_with(' ') {
+        return Err(Reason::EndsInSpace);
+    }
+    if kind == "let" {
+        return define(alloc, shorthands, rest, others);
+    }
+    if kind == "case" {
+        draft.name = Some(rest.to_string(alloc)?);
+        return Ok(());
+    }
+    if draft.name.is_none() {
+        return Err(Reason::NoCase);
+    }
+    if kind != "out" {
+        return add_given(alloc, shorthands, &mut draft.given, (kind, rest), others);
+    }
+    if draft.expected.is_some() {
+        return Err(Reason::SecondOutcome);
+    }
+    draft.expected = Some(outcome_of(alloc, shorthands, rest, others)?);
+    Ok(())
+}
+
+/// Reads a line, and says whether lines that add to a text may follow it.
+fn read_next(
+    alloc: Global,
+    shorthands: &mut Shorthands,
+    draft: &mut Draft,
+    in_text: bool,
+    written: &str,
+    others: &[Line],
+) -> Result<bool, Reason> {
+    if adds(written) {
+        return if in_text {
+            Ok(true)
+        } else {
+            Err(Reason::NoText)
+        };
+    }
+    read_line(alloc, shorthands, draft, written, others)?;
+    Ok(begins_text(first_word(written).0))
+}
+
+/// Reads the lines in their order.
+fn read_lines(
+    alloc: Global,
+    shorthands: &mut Shorthands,
+    draft: &mut Draft,
+    lines: &[Line],
+) -> Result<(), Fault> {
+    let mut in_text = false;
+    for (i, line) in lines.iter().enumerate() {
+        let others = &lines[i + 1..];
+        match read_next(alloc, shorthands, draft, in_text, line.written, others) {
+            Ok(follows) => in_text = follows,
+            Err(reason) => return Err(reason.at(line.number)),
+        }
+    }
+    Ok(())
+}
+
+/// Reads the lines of a case, and those before the first case of a file, which give none.
+pub fn read_case(
+    alloc: Global,
+    shorthands: &mut Shorthands,
+    lines: &[Line],
+) -> Result<Option<Case>, Fault> {
+    let mut draft = Draft {
+        name: None,
+        given: Given::nothing(alloc),
+        expected: None,
+    };
+    read_lines(alloc, shorthands, &mut draft, lines)?;
+    let Draft {
+        name,
+        given,
+        expected,
+    } = draft;
+    let Some(name) = name else {
+        return Ok(None);
+    };
+    match expected {
+        Some(expected) => Ok(Some(Case {
+            name,
+            given,
+            expected,
+        })),
+        None => Err(Reason::NoOutcome.at(lines.first().map_or(0, |line| line.number))),
+    }
 }

@@ -3,8 +3,11 @@
 //! A text stands for its bytes, except for `$NAME`, which stands for a shorthand, and for the escapes `\n`, `\r`,
 //! `\t`, `\s` for a space, `\\`, `\$` and `\xHH`.
 
-use crate::fault::Fault;
+use crate::fault::Reason;
 use std::alloc::Global;
+
+/// A text of more bytes is not repeated.
+const LONGEST: usize = 67_108_864;
 
 /// Names and the texts that they stand for.
 #[derive(Drop)]
@@ -32,13 +35,13 @@ impl Shorthands {
         self.find(name.as_bytes()).is_some()
     }
 
-    pub fn define(&mut self, name: String, text: Vec<u8>) -> Result<(), Fault> {
+    pub fn define(&mut self, name: String, text: Vec<u8>) -> Result<(), Reason> {
         self.entries.push((name, text))?;
         Ok(())
     }
 
     /// Adds what the written text stands for.
-    pub fn add(&self, text: &mut Vec<u8>, written: &str) -> Result<(), Fault> {
+    pub fn add(&self, text: &mut Vec<u8>, written: &str) -> Result<(), Reason> {
         let mut rest = written.as_bytes();
         // Each step takes a byte at least.
         for _ in 0..written.len() {
@@ -56,10 +59,10 @@ impl Shorthands {
     }
 
     /// Adds the text of the name that stands in front, and gives what is behind the name.
-    fn add_named<'a>(&self, text: &mut Vec<u8>, written: &'a [u8]) -> Result<&'a [u8], Fault> {
+    fn add_named<'a>(&self, text: &mut Vec<u8>, written: &'a [u8]) -> Result<&'a [u8], Reason> {
         let end = written.iter().position(|byte| !is_in_name(*byte));
         let (name, rest) = written.split_at(end.unwrap_or(written.len()).min(written.len()));
-        text.extend_from_slice(self.find(name).ok_or(Fault::UnknownShorthand)?)?;
+        text.extend_from_slice(self.find(name).ok_or(Reason::UnknownShorthand)?)?;
         Ok(rest)
     }
 }
@@ -69,16 +72,16 @@ pub fn is_in_name(byte: u8) -> bool {
 }
 
 /// The digit's value.
-fn hex(digit: u8) -> Result<u8, Fault> {
+fn hex(digit: u8) -> Result<u8, Reason> {
     match digit {
         b'0'..=b'9' => Ok(digit - b'0'),
         b'a'..=b'f' => Ok(digit - b'a' + 10),
-        _ => Err(Fault::UnknownEscape),
+        _ => Err(Reason::UnknownEscape),
     }
 }
 
 /// Adds the byte whose escape stands in front, behind its backslash, and gives what is behind it.
-fn add_escaped<'a>(text: &mut Vec<u8>, written: &'a [u8]) -> Result<&'a [u8], Fault> {
+fn add_escaped<'a>(text: &mut Vec<u8>, written: &'a [u8]) -> Result<&'a [u8], Reason> {
     let (byte, rest) = match written {
         [b'n', rest @ ..] => (b'\n', rest),
         [b'r', rest @ ..] => (b'\r', rest),
@@ -89,8 +92,36 @@ fn add_escaped<'a>(text: &mut Vec<u8>, written: &'a [u8]) -> Result<&'a [u8], Fa
         [b'x', high, low, rest @ ..] => {
             (hex(*high)?.wrapping_mul(16).wrapping_add(hex(*low)?), rest)
         }
-        _ => return Err(Fault::UnknownEscape),
+        _ => return Err(Reason::UnknownEscape),
     };
     text.push(byte)?;
     Ok(rest)
+}
+
+/// What comes up to the first space, and what comes behind it.
+pub fn first_word(written: &str) -> (&str, &str) {
+    written.split_once(' ').unwrap_or((written, ""))
+}
+
+pub fn number(written: &str) -> Result<u64, Reason> {
+    written.parse::<u64>().map_err(|_| Reason::BadNumber)
+}
+
+/// Adds a text as often as the number in front of it says.
+pub fn add_times(
+    alloc: Global,
+    shorthands: &Shorthands,
+    text: &mut Vec<u8>,
+    written: &str,
+) -> Result<(), Reason> {
+    let (times, written) = first_word(written);
+    let mut piece = Vec::new(alloc);
+    shorthands.add(&mut piece, written)?;
+    for _ in 0..number(times)? {
+        if text.len() > LONGEST {
+            return Err(Reason::TooLong);
+        }
+        text.extend_from_slice(&piece)?;
+    }
+    Ok(())
 }

@@ -1,0 +1,236 @@
+//! Calls on points, segments, polygons and shapes, in half nanometres.
+//!
+//! `|` stands between the parts of a call, and spaces between the numbers of a part. A point has two, a segment four,
+//! a polygon six and more; a shape has its radius and then the numbers of a point, a segment or a polygon.
+//! `comb FOOT ROOT TIP FROM TO` stands for the numbers of a polygon of 1,100 teeth, for k from 0 to 1,099 each from
+//! (40k + FROM, ROOT) up to TIP and down at 40k + TO, closed at FOOT.
+
+ghost use Rattle.std.specs.Prelude.{◌≤ℤ◌, pos, IfOk};
+
+use crate::fault::Fault;
+use crate::numbers::number;
+use geo_poly::{holds, poly_apart, poly_seg_apart, poly_seg_within, poly_within};
+use geo_seg::{
+    Core, Point, Poly, Seg, Shape, point_apart, point_within, seg_apart, seg_meet, seg_within,
+};
+use geo_shape::{apart, gap, meet};
+use std::alloc::Global;
+
+/// Adds a corner's numbers.
+fn add(numbers: &mut Vec<i64>, x: i64, y: i64) -> Result<(), Fault> {
+    numbers.push(x)?;
+    numbers.push(y)?;
+    Ok(())
+}
+
+/// Adds the numbers of a comb, of which five are given.
+fn add_comb(numbers: &mut Vec<i64>, given: &[i64]) -> Result<(), Fault> {
+    let [foot, root, tip, from, to] = given else {
+        return Err(Fault::BadNumber);
+    };
+    for k in 0..1100u16 {
+        let shift = 40 * i64::from(k);
+        let left = from.saturating_add(shift);
+        let right = to.saturating_add(shift);
+        add(numbers, left, *root)?;
+        add(numbers, left, *tip)?;
+        add(numbers, right, *tip)?;
+        add(numbers, right, *root)?;
+    }
+    add(numbers, to.saturating_add(43_960), *foot)?;
+    add(numbers, *from, *foot)
+}
+
+/// The numbers of a part.
+fn numbers(alloc: Global, written: &str) -> Result<Vec<i64>, Fault> {
+    let Some((before, given)) = written.split_once("comb ") else {
+        return plain(alloc, written);
+    };
+    let mut numbers = plain(alloc, before)?;
+    add_comb(&mut numbers, &plain(alloc, given)?)?;
+    Ok(numbers)
+}
+
+/// The numbers between spaces.
+fn plain(alloc: Global, written: &str) -> Result<Vec<i64>, Fault> {
+    let mut numbers = Vec::new(alloc);
+    for word in written.split_whitespace() {
+        numbers.push(number(word)?)?;
+    }
+    Ok(numbers)
+}
+
+fn point(x: i64, y: i64) -> Result<Point, Fault> {
+    if x.unsigned_abs() > 1_000_000_000 || y.unsigned_abs() > 1_000_000_000 {
+        return Err(Fault::BadNumber);
+    }
+    Ok(Point { x, y })
+}
+
+fn one_point(part: &[i64]) -> Result<Point, Fault> {
+    match part {
+        [x, y] => point(*x, *y),
+        _ => Err(Fault::BadNumber),
+    }
+}
+
+fn segment(part: &[i64]) -> Result<Seg, Fault> {
+    match part {
+        [ax, ay, bx, by] => Ok(Seg {
+            a: point(*ax, *ay)?,
+            b: point(*bx, *by)?,
+        }),
+        _ => Err(Fault::BadNumber),
+    }
+}
+
+fn polygon(alloc: Global, part: &[i64]) -> Result<Poly, Fault> {
+    let mut corners = Vec::new(alloc);
+    for corner in part.chunks(2) {
+        corners.push(one_point(corner)?)?;
+    }
+    if corners.len() < 3 {
+        return Err(Fault::BadNumber);
+    }
+    Ok(Poly::indexed(alloc, corners)?)
+}
+
+fn shape(alloc: Global, part: &[i64]) -> Result<Shape, Fault> {
+    let [radius, core @ ..] = part else {
+        return Err(Fault::BadNumber);
+    };
+    let radius = *radius;
+    if radius < 0 || 500_000_000 < radius {
+        return Err(Fault::BadNumber);
+    }
+    let core = match core.len() {
+        2 => {
+            let at = one_point(core)?;
+            Core::Line(Seg { a: at, b: at })
+        }
+        4 => Core::Line(segment(core)?),
+        _ => Core::Area(polygon(alloc, core)?),
+    };
+    Ok(Shape { core, radius })
+}
+
+/// A distance from 0 to `most`.
+fn distance(part: &[i64], most: i64) -> Result<i64, Fault>
+    ensures from { IfOk result (λ d. pos 0 ≤ℤ d) }
+    ensures to { IfOk result (λ d. d ≤ℤ most) }
+{
+    match part {
+        [d] => {
+            let d = *d;
+            if d < 0 || most < d {
+                return Err(Fault::BadNumber);
+            }
+            Ok(d)
+        }
+        _ => Err(Fault::BadNumber),
+    }
+}
+
+/// What a call answers that is asked whether something holds.
+fn test(alloc: Global, name: &str, parts: &[Vec<i64>]) -> Result<bool, Fault> {
+    match parts {
+        [a, b] => test_two(alloc, name, a, b),
+        [a, b, d] => test_at(alloc, name, a, b, d),
+        _ => Err(Fault::UnknownCall),
+    }
+}
+
+fn test_two(alloc: Global, name: &str, a: &[i64], b: &[i64]) -> Result<bool, Fault> {
+    Ok(match name {
+        "seg_meet" => seg_meet(segment(a)?, segment(b)?),
+        "holds" => holds(&polygon(alloc, a)?, one_point(b)?),
+        "meet" => meet(&shape(alloc, a)?, &shape(alloc, b)?),
+        _ => return Err(Fault::UnknownCall),
+    })
+}
+
+fn test_at(alloc: Global, name: &str, a: &[i64], b: &[i64], d: &[i64]) -> Result<bool, Fault> {
+    match name {
+        "apart" => {
+            let c = distance(d, 1_000_000_000)?;
+            Ok(apart(&shape(alloc, a)?, &shape(alloc, b)?, c))
+        }
+        "poly_seg_apart" | "poly_seg_within" => {
+            area_and_line(name, &polygon(alloc, a)?, segment(b)?, d)
+        }
+        "poly_apart" | "poly_within" => areas(name, &polygon(alloc, a)?, &polygon(alloc, b)?, d),
+        _ => lines(name, a, b, d),
+    }
+}
+
+fn area_and_line(name: &str, a: &Poly, b: Seg, d: &[i64]) -> Result<bool, Fault> {
+    let d = distance(d, 2_000_000_000)?;
+    Ok(if name == "poly_seg_apart" {
+        poly_seg_apart(a, b, d)
+    } else {
+        poly_seg_within(a, b, d)
+    })
+}
+
+fn areas(name: &str, a: &Poly, b: &Poly, d: &[i64]) -> Result<bool, Fault> {
+    let d = distance(d, 2_000_000_000)?;
+    Ok(if name == "poly_apart" {
+        poly_apart(a, b, d)
+    } else {
+        poly_within(a, b, d)
+    })
+}
+
+fn lines(name: &str, a: &[i64], b: &[i64], d: &[i64]) -> Result<bool, Fault> {
+    let b = segment(b)?;
+    let d = distance(d, 2_000_000_000)?;
+    Ok(match name {
+        "point_apart" => point_apart(one_point(a)?, b, d),
+        "point_within" => point_within(one_point(a)?, b, d),
+        "seg_apart" => seg_apart(segment(a)?, b, d),
+        "seg_within" => seg_within(segment(a)?, b, d),
+        _ => return Err(Fault::UnknownCall),
+    })
+}
+
+fn gap_of(alloc: Global, parts: &[Vec<i64>]) -> Result<i64, Fault> {
+    match parts {
+        [a, b, below] => {
+            let below = distance(below, 500_000_000)?;
+            Ok(gap(&shape(alloc, a)?, &shape(alloc, b)?, below))
+        }
+        _ => Err(Fault::UnknownCall),
+    }
+}
+
+fn bounds_of(alloc: Global, parts: &[Vec<i64>]) -> Result<String, Fault> {
+    let [part] = parts else {
+        return Err(Fault::UnknownCall);
+    };
+    let bounds = shape(alloc, part)?.bounds();
+    let left = bounds.left;
+    let top = bounds.top;
+    let right = bounds.right;
+    let bottom = bounds.bottom;
+    Ok(format!(in alloc; "{left} {top} {right} {bottom}")?)
+}
+
+/// The answer of the call of this name.
+pub fn answer(alloc: Global, name: &str, written: &str) -> Result<Vec<u8>, Fault> {
+    let mut parts = Vec::new(alloc);
+    for part in written.split('|') {
+        parts.push(numbers(alloc, part)?)?;
+    }
+    let text = match name {
+        "gap" => {
+            let gap = gap_of(alloc, &parts)?;
+            format!(in alloc; "{gap}")?
+        }
+        "bounds" => bounds_of(alloc, &parts)?,
+        _ => {
+            let answer = test(alloc, name, &parts)?;
+            format!(in alloc; "{answer}")?
+        }
+    };
+    Ok(text.into_bytes())
+}
