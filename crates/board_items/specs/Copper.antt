@@ -1,5 +1,5 @@
--- The copper of two items on one layer. Shapes are in half nanometres, so that half of an odd width is a whole number; the
--- distances that are kept are nanometres.
+-- The copper of two items on one layer. Lengths of shapes count half nanometres, since widths are halved; distances to
+-- be kept count nanometres.
 use Rattle.std.specs.Prelude.{◌≡◌, ℕ, ℤ, pos, ◌*ℤ◌, List, IsTrue, ◌⊎◌, filter, All}
 use Rattle.std.specs.List.{Any}
 use Rattle.geo_seg.specs.Distances.{Apart, Meet}

@@ -141,7 +141,7 @@ impl Board {
         self.copper = copper;
     }
 
-    /// Declares a net. A number that is there keeps its first name.
+    /// Declares a net. Nothing changes where the number was declared before.
     pub fn declare(&mut self, net: u32, name: Name) -> Result<(), AllocError>
         ensures ok { OnOk result (self.new ≡ with_net self.old net name) }
         ensures err { OnErr result (self.new ≡ self.old) }
@@ -205,7 +205,7 @@ impl Board {
         Ok(place)
     }
 
-    /// Takes all items of the unit out. It takes no memory.
+    /// Removes every item that carries the unit's number. It takes no memory.
     pub fn remove(&mut self, unit: u32)
         ensures { self.new ≡ without_unit self.old unit }
     {

@@ -3,8 +3,8 @@
 ghost use Rattle.std.specs.Prelude.{◌≡◌, ◌<◌, Some, slice_get};
 ghost use Rattle.board_items.specs.Layers.{layer_names};
 
-/// A set of copper layers. F.Cu, In1.Cu to In30.Cu and B.Cu are numbered 0 to 31 in stack order, and a layer is in
-/// the set where the bit of its number is set.
+/// A set of copper layers, a bit a layer. Bit 0 is F.Cu, bits 1 to 30 are In1.Cu to In30.Cu, and bit 31 is B.Cu, as
+/// the layers lie in the board from front to back.
 #[derive(Clone, Copy, Debug, PartialEq, Eq, Drop)]
 pub struct LayerSet {
     pub bits: u32,

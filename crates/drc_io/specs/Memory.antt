@@ -42,7 +42,7 @@ pub record SinkState : Type 0 where
   pub calls : ℕ
   pub faults : ℕ
 
--- a write fails: its number is listed, or the piece is not empty and no room is left
+-- a write fails where it is one of the listed ones, and where a piece of one byte or more finds the room used up
 abbrev pub Refuses : SinkState → List ℕ → Type 0
 Refuses sink piece = Contains sink.fails (next_count sink.calls) ⊎ ((0 < length piece) × (sink.room ≤ length sink.bytes))
 

@@ -61,8 +61,8 @@ impl Sink for MemSink {
 
     ghost faults = { λ s. s.faults };
 
-    /// Takes as much of the piece as `most` and the room left allow. `Failed` comes exactly where the number of
-    /// the write is listed, or the piece is not empty and no room is left.
+    /// Appends the front of the piece, at most `most` bytes and never beyond the reserved room. It fails where
+    /// this write is one of the listed ones, and where a piece of one byte or more finds the room used up.
     fn write(&mut self, piece: &[u8]) -> Result<usize, Failed>
         ensures bound { IfOk result (λ n. n ≤ length piece.now) }
         ensures some { IfOk result (λ n. 0 < length piece.now → 0 < n) }

@@ -92,8 +92,8 @@ pub fn mm_near(text: &[u8]) -> Result<Nm, DecError>
     }
 }
 
-/// The ratio in the text, from 0 to one half, times the length `of` of 0 to 500 mm, to the nearest
-/// nanometre, ties upward. TooWide also where the ratio is below 0 or above one half.
+/// A share of the length `of`, which is 0 to 500 mm, in nanometres and rounded as `mm_near` rounds. The share
+/// is the decimal in the text; TooWide also where it is negative or more than one half.
 pub fn ratio_near(text: &[u8], of: Nm) -> Result<Nm, DecError>
     requires from_zero { pos 0 ≤ℤ of }
     requires half_a_metre { of ≤ℤ pos 500000000 }
@@ -106,8 +106,8 @@ pub fn ratio_near(text: &[u8], of: Nm) -> Result<Nm, DecError>
     }
 }
 
-/// A decimal followed at once by `mm`, `mil` or `in`, to the nearest nanometre, ties upward. A decimal of
-/// value 0 may stand alone. The limit of 64 bytes counts the unit.
+/// A length with its unit, `mm`, `mil` or `in`, written right behind the decimal, in nanometres and rounded as
+/// `mm_near` rounds. Only zero needs no unit. The unit is part of the 64 bytes that a text may have.
 pub fn with_unit(text: &[u8]) -> Result<Nm, DecError>
     ensures reads { (answer : Result ℤ DecError) → (result ≡ answer) ↔ WithUnit text.now answer }
     ensures computed { result ≡ with_unit_answer text.now }

@@ -317,7 +317,7 @@ case_within pY qY aY bY sP sQ tA tB l hp hp' ha hb b c h k = by_lt_z bY aY
     (λ o. within_up pY qY aY bY sP sQ tA tB l hp o hb b c h k)
 
 -- ---- all places
--- a corner is marked where it is higher than P, not higher than Q, and to the right of the segment
+-- marked are the corners to the right of the segment whose height is above that of P and at most that of Q
 abbrev pub marking : Bool → Bool → ℤ → Bool
 marking true k t = false
 marking false true t = lt_z t (pos 0)

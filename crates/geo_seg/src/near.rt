@@ -148,8 +148,8 @@ pub fn seg_apart(a: Seg, b: Seg, d: i64) -> bool
     a.bounds().is_clear(b.bounds(), d) || are_off(a, b, d)
 }
 
-/// Whether some point of `a` and some point of `b` are at most `d` apart, for `d` from 0 to
-/// 2,000,000,000 half nanometres.
+/// Whether the distance between the two segments is at most `d`, for `d` from 0 to 2,000,000,000
+/// half nanometres.
 pub fn seg_within(a: Seg, b: Seg, d: i64) -> bool
     requires { IsDistance d }
     ensures { IsTrue result ↔ AreWithin (IsOn a) (IsOn b) d }

@@ -91,7 +91,7 @@ pub fn apart(a: &Shape, b: &Shape, c: i64) -> bool
     cores_apart(&a.core, &b.core, reach(a, b, c))
 }
 
-/// Whether the two touch or overlap: some points of the cores are at most the two radii apart.
+/// Whether the two touch or overlap. Touching counts.
 pub fn meet(a: &Shape, b: &Shape) -> bool
     ensures { IsTrue result ↔ Meet a.now b.now }
 {

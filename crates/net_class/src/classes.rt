@@ -106,8 +106,8 @@ impl Classes {
         })
     }
 
-    /// The class of a net: that of the first pattern that matches its whole name. Default, where none matches or the
-    /// project has no class of that name. It takes no memory.
+    /// The class of a net. The first pattern that matches the whole name tells the class; it is Default without such
+    /// a pattern, and where the project has no class of the name that the pattern tells. It takes no memory.
     #[tactic(auto, unfolding(crate::specs::Classes::class_of))]
     pub fn of_net(&self, name: &Name) -> &Class
         ensures { plain_class result.now ≡ class_of self.now name.now }

@@ -1,5 +1,5 @@
--- Comment lines of rule files and scripts: a line whose first sign other than space and tab is #, outside a string,
--- is passed over up to its end. Only a line feed ends a line.
+-- Comment lines of rule files and scripts. Where a line begins outside a string with #, blanks and tabs before it
+-- aside, nothing of it is read. A line goes on until a line feed and ends at nothing else.
 use Rattle.std.specs.Prelude.{ℕ, zero, suc, Bool, true, false, ◌==◌, if◌then◌else◌, List, slice_index_or}
 use Rattle.sexpr_read.specs.declared.bytes.Class.{Class}
 use Rattle.sexpr_read.specs.declared.bytes.Class.TheVariants.{Space, Open, Close, Quote, Backslash, Plain}

@@ -3,7 +3,7 @@ use Rattle.std.specs.Prelude.{ℕ, ◌≡◌, ◌+◌, ◌-◌, ◌<◌, ◌≤�
 use Rattle.sexpr_read.specs.declared.place.Span.{Span}
 use Rattle.sexpr_read.specs.Tree.{Forest, none, atom, list, Tree, leaf, branch}
 
--- the content of an atom is the slice of the text at its span, of a string without the quotes
+-- an atom's content is what the text has at its span; the quotes of a string are no part of it
 abbrev pub IsSlice : List ℕ → Span → Bool → List ℕ → Type 0
 IsSlice text s false bytes = bytes ≡ slice_range text s.at s.end
 IsSlice text s true bytes = (s.at + 2 ≤ s.end) × (bytes ≡ slice_range text (s.at + 1) (s.end - 1))

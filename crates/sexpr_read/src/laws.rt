@@ -11,8 +11,8 @@ pub fn one_tree()
     ensures forms { (text : List ℕ) (s t : Tree) → SpellsAll text s → SpellsAll text t → s ≡ t }
 {}
 
-/// Spans of siblings are in order and inside their parent's, at every depth, and each atom is the slice of the text
-/// at its span, of a string without the quotes. Forms stand in order in the whole text.
+/// At every depth what lies between the brackets of a list are the spans of its parts, one after another, and an
+/// atom's content is what the text has there, the quotes of a string left away. So do forms in the whole text.
 pub fn spans_in_order()
     ensures one { (text : List ℕ) (t : Tree) → Spells text t
         → ((span t).end ≤ length text) × PartsStandBetween text ((span t).at + 1) ((span t).end - 1) t }

@@ -1,9 +1,9 @@
 //! S-expressions: a text is read once into a flat row of cells, and its tree is walked from there.
 //!
-//! A text is UTF-8. Space is the space, the tab, the line feed and the carriage return. A list is `(`, any number
-//! of lists and atoms, `)`. An atom is a word, a longest run of bytes other than space, brackets and quotes, or a
-//! string in quotes, in which `\n` stands for a line feed, `\r` for a carriage return and a backslash before any
-//! other character for that character. Places are bytes of the text, from 0.
+//! Texts are UTF-8, and blank, tab, line feed and carriage return separate what stands in them. Round brackets
+//! enclose a list, whose parts are lists and atoms. An atom without quotes is a word and goes on until a separator,
+//! a bracket or a quote. An atom in quotes is a string; there a backslash takes the next character as it is, but
+//! for `\n` and `\r`, which mean the two line ends. Places are bytes of the text, from 0.
 #![tactic(auto)]
 
 mod arena;
