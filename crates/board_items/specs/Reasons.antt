@@ -5,7 +5,7 @@ use Rattle.sexpr_read.specs.Reasons.{name_of, code_of, place_of}
 use Rattle.board_items.specs.declared.errors.ItemError.{ItemError}
 use Rattle.board_items.specs.declared.errors.ItemError.TheVariants.{OutOfBoard as ItemOutOfBoard, UnknownNet as ItemUnknownNet, UnknownLayer as ItemUnknownLayer, TooMany as ItemTooMany, OutOfMemory as ItemOutOfMemory}
 use Rattle.board_items.specs.declared.errors.BoardError.{BoardError}
-use Rattle.board_items.specs.declared.errors.BoardError.TheVariants.{Text, NotABoard, Version, Missing, BadNumber, OutOfBoard, Arc, Turned, PadShape, Ring, UnknownNet, UnknownLayer, ThickFill, TooMany, NotBuilt, OutOfMemory}
+use Rattle.board_items.specs.declared.errors.BoardError.TheVariants.{Text, NotABoard, Version, Missing, BadNumber, OutOfBoard, Arc, Turned, PadShape, Ring, UnknownNet, UnknownLayer, ThickFill, TooMany, OutOfMemory}
 
 abbrev pub item_name_of : ItemError → List ℕ
 item_name_of ItemOutOfBoard = codes "OutOfBoard"
@@ -41,7 +41,6 @@ board_name_of (UnknownNet at) = codes "UnknownNet"
 board_name_of (UnknownLayer at) = codes "UnknownLayer"
 board_name_of (ThickFill at) = codes "ThickFill"
 board_name_of (TooMany at) = codes "TooMany"
-board_name_of (NotBuilt at) = codes "NotBuilt"
 board_name_of OutOfMemory = codes "OutOfMemory"
 
 abbrev pub board_code_of : BoardError → List ℕ
@@ -59,7 +58,6 @@ board_code_of (UnknownNet at) = codes "11"
 board_code_of (UnknownLayer at) = codes "12"
 board_code_of (ThickFill at) = codes "13"
 board_code_of (TooMany at) = codes "14"
-board_code_of (NotBuilt at) = codes "15"
 board_code_of OutOfMemory = codes "0"
 
 abbrev pub board_reason_of : BoardError → List ℕ
@@ -81,5 +79,4 @@ board_place_of (UnknownNet at) = Some at
 board_place_of (UnknownLayer at) = Some at
 board_place_of (ThickFill at) = Some at
 board_place_of (TooMany at) = Some at
-board_place_of (NotBuilt at) = Some at
 board_place_of OutOfMemory = None

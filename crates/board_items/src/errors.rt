@@ -122,8 +122,6 @@ pub enum BoardError {
     ThickFill { at: u32 },
     /// The item at `at` is one too many, or there is no id or no unit number left for it.
     TooMany { at: u32 },
-    /// The list at `at` is one that this version does not read yet.
-    NotBuilt { at: u32 },
     /// Memory ran out.
     OutOfMemory,
 }
@@ -180,7 +178,6 @@ impl BoardError {
             BoardError::UnknownLayer { .. } => "UnknownLayer",
             BoardError::ThickFill { .. } => "ThickFill",
             BoardError::TooMany { .. } => "TooMany",
-            BoardError::NotBuilt { .. } => "NotBuilt",
             BoardError::OutOfMemory => "OutOfMemory",
         }
     }
@@ -204,7 +201,6 @@ impl BoardError {
             BoardError::UnknownLayer { .. } => "12",
             BoardError::ThickFill { .. } => "13",
             BoardError::TooMany { .. } => "14",
-            BoardError::NotBuilt { .. } => "15",
             BoardError::OutOfMemory => "0",
         }
     }
@@ -227,8 +223,7 @@ impl BoardError {
             | BoardError::UnknownNet { at }
             | BoardError::UnknownLayer { at }
             | BoardError::ThickFill { at }
-            | BoardError::TooMany { at }
-            | BoardError::NotBuilt { at } => Some(*at),
+            | BoardError::TooMany { at } => Some(*at),
             BoardError::OutOfMemory => None,
         }
     }

@@ -75,7 +75,7 @@ by_sign e m n true k h w =
 by_sign e m n false k h w = absurd cc
 
 -- a size is from 0 on
-size_in_range : (atom : Tree) (n : ℤ) → size_in atom ≡ Ok n → (pos 0 ≤ℤ n) × (n ≤ℤ pos 1000000000000)
+pub size_in_range : (atom : Tree) (n : ℤ) → size_in atom ≡ Ok n → (pos 0 ≤ℤ n) × (n ≤ℤ pos 1000000000000)
 unfolding size_in
 size_in_range atom n h =
     let a = both_ok (length_in atom) _ n h in

@@ -1,6 +1,6 @@
 -- Figures: what graphics draw, as plain numbers, and the parts of copper, the lines of an edge or the courtyards that they give
 -- where they lie on a board. Shapes count half nanometres, so half of a width is the width itself.
-use Rattle.std.specs.Prelude.{◌≡◌, ℕ, ◌≤◌, ℤ, pos, ◌+ℤ◌, ◌*ℤ◌, ◌≤ℤ◌, Bool, true, false, ◌||◌, List, [], ◌∷◌, map, Option, None, Some, ⊤, refl, if◌then◌else◌}
+use Rattle.std.specs.Prelude.{◌≡◌, ℕ, ◌≤◌, ℤ, pos, ◌+ℤ◌, ◌*ℤ◌, ◌≤ℤ◌, Bool, true, false, ◌||◌, List, [], ◌∷◌, ◌++◌, map, Option, None, Some, ⊤, refl, if◌then◌else◌}
 use Rattle.std.specs.Ordering.{int_eq}
 use Rattle.int_algebra.proofs.Tested.{le_by_test}
 use Rattle.geo_seg.specs.declared.points.Point.{Point}
@@ -101,6 +101,11 @@ radius_with w figure = w
 -- the parts that a drawing gives, unless it leaves the board or its width, or the diameter of its disc, is above 500 mm
 abbrev pub drawn : LayerSet → Stance → Drawing → Option (List Part)
 drawn layers stance d = parts_around layers (radius_of (radius_with d.width d.figure)) (cores_of stance d.filled d.figure)
+
+-- the list with these at its end, if they are there
+abbrev pub added : List Part → Option (List Part) → Option (List Part)
+added old None = None
+added old (Some parts) = Some (old ++ parts)
 
 -- on Edge.Cuts the lines alone count, though the width must be one
 abbrev pub drawn_edge : Stance → Drawing → Option (List Part)

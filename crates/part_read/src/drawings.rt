@@ -69,8 +69,9 @@ fn gather(spots: &mut Vec<Spot>, spot: Spot) -> Result<(), AllocError>
     Ok(())
 }
 
-/// The spots of each `(xy X Y)`. An arc is refused, or passed over where curves may stand.
-fn spots_in(alloc: Global, list: Node<'_, '_>, curved: bool) -> Result<Vec<Spot>, BoardError>
+/// The spots of each `(xy X Y)`, each number at most 10^12 nanometres from 0. An arc is refused, or passed over where
+/// curves may stand.
+pub fn spots_in(alloc: Global, list: Node<'_, '_>, curved: bool) -> Result<Vec<Spot>, BoardError>
     ensures spots { GivesItems result (spots_among curved (parts (tree_of list.entry))) }
     ensures within { IfOk result (λ spots. All (IsWithin 1000000000000) spots.items) }
 {

@@ -1,11 +1,11 @@
 //! What graphics draw, and the parts that they give where they lie on a board.
 
-ghost use Rattle.std.specs.Prelude.{◌≡◌, ◌<◌, ◌≤◌, ◌≤ℤ◌, pos, ◌∷◌, ◌++◌, [], true, OnOk, Some, length, option_map, IfOk};
+ghost use Rattle.std.specs.Prelude.{◌≡◌, ◌<◌, ◌≤◌, ◌≤ℤ◌, pos, ◌∷◌, ◌++◌, [], true, OnOk, Some, None, if◌then◌else◌, length, option_map, IfOk};
 ghost use Rattle.part_read.specs.OnBoard.{is_length};
 ghost use Rattle.part_read.specs.Stances.{IsWithin, stood};
 ghost use Rattle.part_read.specs.declared.figures.Figure.{Figure};
 ghost use Rattle.part_read.specs.declared.figures.Drawing.{Drawing};
-ghost use Rattle.part_read.specs.Figures.{sides, sides_from, box_corners, box_core, line_cores, cores_between, line_between, box_between, cores_around, cores_of, around, parts_around, radius_with, drawn, drawn_edge, first_spot, is_ring, is_circle, HasReach, IsDrawable};
+ghost use Rattle.part_read.specs.Figures.{sides, sides_from, box_corners, box_core, line_cores, cores_between, line_between, box_between, cores_around, cores_of, around, parts_around, radius_with, added, drawn, drawn_edge, first_spot, is_ring, is_circle, HasReach, IsDrawable};
 
 use crate::corners::Corners;
 use crate::numbers::Spot;
@@ -179,19 +179,18 @@ fn push_part(list: &mut SmallVec<Part, 2>, layers: LayerSet, shape: Shape) -> Re
 }
 
 // The cores with the radius around them, on these layers.
-fn parts_around(
-    alloc: Global,
+fn push_around(
     layers: LayerSet,
     radius: Radius,
     cores: Vec<Core>,
-) -> Result<Parts, AllocError>
-    ensures { IfOk result (λ parts. Some parts ≡ parts_around layers (Some radius) (Some cores.items)) }
+    list: &mut SmallVec<Part, 2>,
+) -> Result<(), AllocError>
+    ensures { OnOk result (added list.old.items (parts_around layers (Some radius) (Some cores.items)) ≡ Some list.new.items) }
 {
-    let mut list = SmallVec::new(alloc);
     for core in cores {
-        push_part(&mut list, layers, around(radius, core))?;
+        push_part(list, layers, around(radius, core))?;
     }
-    Ok(Parts::of(list))
+    Ok(())
 }
 
 // The radius in half nanometres.
@@ -205,8 +204,33 @@ fn radius_with(drawing: &Drawing) -> Nm
     }
 }
 
+/// Appends the parts that a drawing gives on these layers and answers true, unless it leaves the board or its width, or the
+/// diameter of its disc, is above 500 mm.
+pub fn draw_into(
+    alloc: Global,
+    layers: LayerSet,
+    stance: Stance,
+    drawing: &Drawing,
+    list: &mut SmallVec<Part, 2>,
+) -> Result<bool, AllocError>
+    requires quarter { stance.quarter < 4 }
+    requires at { IsWithin 3000000000000 stance.at }
+    requires drawable { IsDrawable drawing.now }
+    ensures { IfOk result (λ drew. added list.old.items (drawn layers stance drawing.now) ≡ (if drew then Some list.new.items else None)) }
+{
+    let Some(radius) = radius_of(radius_with(drawing)) else {
+        return Ok(false);
+    };
+    let Some(cores) = cores_of(alloc, stance, drawing.filled, &drawing.figure)? else {
+        return Ok(false);
+    };
+    push_around(layers, radius, cores, list)?;
+    Ok(true)
+}
+
 /// The parts that a drawing gives on these layers, unless it leaves the board or its width, or the diameter of its disc,
 /// is above 500 mm.
+#[tactic(auto, using(crate::proofs::Gathering::added_to_none))]
 pub fn draw(
     alloc: Global,
     layers: LayerSet,
@@ -218,13 +242,11 @@ pub fn draw(
     requires drawable { IsDrawable drawing.now }
     ensures { IfOk result (λ parts. parts ≡ drawn layers stance drawing.now) }
 {
-    let Some(radius) = radius_of(radius_with(drawing)) else {
+    let mut list = SmallVec::new(alloc);
+    if !draw_into(alloc, layers, stance, drawing, &mut list)? {
         return Ok(None);
-    };
-    let Some(cores) = cores_of(alloc, stance, drawing.filled, &drawing.figure)? else {
-        return Ok(None);
-    };
-    Ok(Some(parts_around(alloc, layers, radius, cores)?))
+    }
+    Ok(Some(Parts::of(list)))
 }
 
 /// The spot by which a report names a figure.

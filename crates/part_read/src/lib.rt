@@ -21,10 +21,11 @@ mod stances;
 pub use atoms::{bad_number, first_atom, has_head, has_word, missing, place, second_atom};
 pub use circles::radius_between;
 pub use corners::Corners;
-pub use drawings::{Kind, corners_of, drawing_of, element, fill_of, spot_in, width_of};
+pub use drawings::{Kind, corners_of, drawing_of, element, fill_of, spot_in, spots_in, width_of};
 pub use elements::{Wanted, find_elements, pick};
 pub use figures::{
-    Drawing, Figure, box_core, box_corners, draw, draw_edge, first_spot, is_circle, is_ring,
+    Drawing, Figure, box_core, box_corners, draw, draw_edge, draw_into, first_spot, is_circle,
+    is_ring,
 };
 pub use graphics::{
     Ground, curve_by, ground_of, name_of_list, no_parts, note_of, one_part, plain_item,

@@ -1,7 +1,0 @@
-use Rattle.std.proofs.Common.{◌≡◌, map}
-use Rattle.part_read.specs.Figures.{around}
-use Rattle.part_read.proofs.figures.parts_around.Given as goal
-
--- the parts of the cores so far
-abbrev pub invariant-loop-core : goal.invariant-loop-core
-invariant-loop-core l = l.list.items ≡ map (λ core. record { layers = l.layers; shape = around l.radius core }) l.yielded
