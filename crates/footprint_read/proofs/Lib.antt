@@ -1,0 +1,13 @@
+pub mod Gathering
+pub mod Ratios
+pub mod Padding
+pub mod Adding
+pub mod Making
+pub mod Corners
+pub mod Counting
+pub mod Closed
+pub mod Courting
+pub mod Bared
+pub mod Standing
+pub mod Saying
+pub mod OneAnswer

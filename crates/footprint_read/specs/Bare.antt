@@ -1,0 +1,6 @@
+-- Parts on no copper layer.
+use Rattle.std.specs.Prelude.{◌≡◌, List, All}
+use Rattle.board_items.specs.declared.parts.Part.{Part}
+
+abbrev pub AreBare : List Part → Type 0
+AreBare parts = All (λ part. part.layers.bits ≡ 0) parts

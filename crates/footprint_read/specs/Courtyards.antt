@@ -1,0 +1,206 @@
+-- Courtyards: on each side the rectangles, outlines and circles of its layer, and the closed outlines of its lines. A side with a
+-- curve or a loose line is not checked. Widths and fills have no effect.
+use Rattle.std.specs.Prelude.{◌≡◌, ℕ, ◌+◌, ℤ, pos, ◌*ℤ◌, ◌==◌, ◌&&◌, ◌||◌, nat_le, length, Bool, true, false, not, cond, List, [], ◌∷◌, ◌++◌, map, codes, Option, None, Some, Result, Ok, Err, ◌⊎◌, if◌then◌else◌}
+use Rattle.std.specs.List.{list_any, list_all}
+use Rattle.sexpr_read.specs.Tree.{Tree, parts}
+use Rattle.geo_seg.specs.declared.points.Point.{Point}
+use Rattle.geo_seg.specs.declared.points.Seg.{Seg}
+use Rattle.geo_seg.specs.declared.shapes.Core.{Core}
+use Rattle.geo_seg.specs.declared.shapes.Core.TheVariants.{Line as LineCore, Area}
+use Rattle.board_items.specs.declared.errors.BoardError.{BoardError}
+use Rattle.board_items.specs.declared.errors.BoardError.TheVariants.{Missing}
+use Rattle.board_items.specs.declared.parts.Part.{Part}
+use Rattle.part_read.specs.declared.numbers.Spot.{Spot}
+use Rattle.part_read.specs.declared.stances.Stance.{Stance}
+use Rattle.part_read.specs.declared.radii.Radius.{Radius}
+use Rattle.part_read.specs.declared.drawings.Kind.{Kind}
+use Rattle.part_read.specs.declared.drawings.Kind.TheVariants.{Line, Rect, Circle, Outline}
+use Rattle.part_read.specs.declared.figures.Figure.{Figure}
+use Rattle.part_read.specs.declared.figures.Figure.TheVariants.{Line as LineFigure, Rect as RectFigure, Circle as CircleFigure, Outline as OutlineFigure}
+use Rattle.part_read.specs.Elements.{◌>>=◌, needed, place, has_head, element}
+use Rattle.part_read.specs.Numbers.{spot_of}
+use Rattle.part_read.specs.OnBoard.{tested, fits_board, point_at}
+use Rattle.part_read.specs.Stances.{stood, point_stood, points_stood}
+use Rattle.part_read.specs.Circles.{radius_between}
+use Rattle.part_read.specs.Figures.{box_core, no_radius, radius_of, around}
+use Rattle.part_read.specs.Drawings.{spots_among}
+use Rattle.courtyard.specs.Ends.{is_same}
+use Rattle.courtyard.specs.Outlines.{AreChained}
+use Rattle.footprint_read.specs.declared.sides.Course.{Course}
+use Rattle.footprint_read.specs.declared.sides.Side.{Side}
+use Rattle.footprint_read.specs.declared.courts.Court.{Court}
+use Rattle.footprint_read.specs.declared.courts.Court.TheVariants.{Unchecked, Parts, Off}
+
+abbrev pub empty_side : Side
+empty_side = record { curved = false; figures = []; lines = [] }
+
+-- ---- what a list on the layer of a courtyard adds to its side
+
+abbrev pub with_figure : Side → Figure → Side
+with_figure side figure = record side { figures = side.figures ++ figure ∷ [] }
+
+abbrev pub with_curve : Side → Side
+with_curve side = record side { curved = true }
+
+-- a line from one spot of the board to another
+unfoldable pub with_line : Stance → Side → Tree → Result Side BoardError
+with_line stance side tree = do
+  start ← spot_of (codes "start") tree
+  end ← spot_of (codes "end") tree
+  Ok (record side { lines = side.lines ++ record { a = stood stance start; b = stood stance end } ∷ [] })
+
+unfoldable pub with_rect : Side → Tree → Result Side BoardError
+with_rect side tree = do
+  start ← spot_of (codes "start") tree
+  end ← spot_of (codes "end") tree
+  Ok (with_figure side (RectFigure start end))
+
+unfoldable pub with_circle : Side → Tree → Result Side BoardError
+with_circle side tree = do
+  center ← spot_of (codes "center") tree
+  end ← spot_of (codes "end") tree
+  Ok (with_figure side (CircleFigure center (radius_between center end)))
+
+abbrev pub with_spots : Side → Tree → Bool → List Spot → Result Side BoardError
+with_spots side list curved spots =
+    if curved then Ok (with_curve side)
+    else if nat_le 3 (length spots) then Ok (with_figure side (OutlineFigure spots))
+    else Err (Missing (place list))
+
+abbrev pub has_arc : Tree → Bool
+has_arc list = list_any (has_head (codes "arc")) (parts list)
+
+-- an outline; with an arc in it its points are not counted
+unfoldable pub with_outline : Side → Tree → Result Side BoardError
+with_outline side tree = do
+  list ← needed (Missing (place tree)) (element (codes "pts") tree)
+  spots ← spots_among true (parts list)
+  with_spots side list (has_arc list) spots
+
+abbrev pub with_graphic : Stance → Kind → Side → Tree → Result Side BoardError
+with_graphic stance Line side tree = with_line stance side tree
+with_graphic stance Rect side tree = with_rect side tree
+with_graphic stance Circle side tree = with_circle side tree
+with_graphic stance Outline side tree = with_outline side tree
+
+-- ---- loose lines; a place is a spot as a pair of numbers
+
+abbrev pub at : Spot → ℤ × ℤ
+at spot = (spot.x, spot.y)
+
+-- a line that has a length
+abbrev pub is_long : Course → Bool
+is_long line = not (is_same (at line.a) (at line.b))
+
+-- how many ends of the line stand at a place: none where it has no length
+abbrev pub ends_at : ℤ × ℤ → Course → ℕ
+ends_at k line = cond (is_long line) (cond (is_same (at line.a) k) 1 0 + cond (is_same (at line.b) k) 1 0) 0
+
+abbrev pub many_at : ℤ × ℤ → List Course → ℕ
+many_at k [] = 0
+many_at k (line ∷ lines) = ends_at k line + many_at k lines
+
+-- each end of the line, if it has a length, equals exactly one other end of the lines: with itself there are two at its place
+abbrev pub is_met : List Course → Course → Bool
+is_met lines line = not (is_long line) || (many_at (at line.a) lines == 2 && many_at (at line.b) lines == 2)
+
+-- no end is loose
+abbrev pub is_closed : List Course → Bool
+is_closed lines = list_all (is_met lines) lines
+
+-- ---- the parts of a side
+
+abbrev pub seg_between : Option Point → Option Point → Option Seg
+seg_between None b = None
+seg_between (Some a) None = None
+seg_between (Some a) (Some b) = Some (record { a = a; b = b })
+
+-- the line, if it lies on the board
+abbrev pub seg_of : Course → Option Seg
+seg_of line = seg_between (tested (fits_board line.a) (point_at line.a)) (tested (fits_board line.b) (point_at line.b))
+
+abbrev pub with_seg : Option Seg → Option (List Seg) → Option (List Seg)
+with_seg None segs = None
+with_seg (Some seg) None = None
+with_seg (Some seg) (Some segs) = Some (seg ∷ segs)
+
+-- the lines that have a length, if they all lie on the board
+abbrev pub segs_of : List Course → Option (List Seg)
+segs_of [] = Some []
+segs_of (line ∷ lines) = if is_long line then with_seg (seg_of line) (segs_of lines) else segs_of lines
+
+abbrev pub core_between : (Point → Point → Core) → Option Point → Option Point → Option Core
+core_between core None q = None
+core_between core (Some p) None = None
+core_between core (Some p) (Some q) = Some (core p q)
+
+abbrev pub line_core : Point → Point → Core
+line_core p q = LineCore (record { a = p; b = q })
+
+abbrev pub area_core : Option (List Point) → Option Core
+area_core None = None
+area_core (Some points) = Some (Area points)
+
+-- a rectangle and an outline with all that they enclose, and the centre of a circle, if it lies on the board
+abbrev pub core_of : Stance → Figure → Option Core
+core_of stance (LineFigure a b) = core_between line_core (point_stood stance a) (point_stood stance b)
+core_of stance (RectFigure a b) = core_between box_core (point_stood stance a) (point_stood stance b)
+core_of stance (CircleFigure c r) = core_between line_core (point_stood stance c) (point_stood stance c)
+core_of stance (OutlineFigure spots) = area_core (points_stood stance spots)
+
+-- what lies around that belongs to it, in half nanometres: the radius of a circle
+abbrev pub reach_of : Figure → ℤ
+reach_of (CircleFigure c r) = pos 2 *ℤ r
+reach_of figure = pos 0
+
+abbrev pub court_part : Radius → Core → Part
+court_part r core = record { layers = record { bits = 0 }; shape = around r core }
+
+abbrev pub part_by : Option Radius → Option Core → Option Part
+part_by None core = None
+part_by (Some r) None = None
+part_by (Some r) (Some core) = Some (court_part r core)
+
+-- the part of a figure, if it lies on the board and its diameter is at most 500 mm
+abbrev pub figure_part : Stance → Figure → Option Part
+figure_part stance figure = part_by (radius_of (reach_of figure)) (core_of stance figure)
+
+abbrev pub with_part : Option Part → Option (List Part) → Option (List Part)
+with_part None parts = None
+with_part (Some part) None = None
+with_part (Some part) (Some parts) = Some (part ∷ parts)
+
+abbrev pub figure_parts : Stance → List Figure → Option (List Part)
+figure_parts stance [] = Some []
+figure_parts stance (figure ∷ figures) = with_part (figure_part stance figure) (figure_parts stance figures)
+
+abbrev pub outline_part : List Point → Part
+outline_part points = court_part no_radius (Area points)
+
+-- ---- the courtyard of a side: it is not checked, or it lies on the board and has these parts, or it leaves the board
+
+-- the parts are those of the figures, and then the closed outlines of the lines, by their definition
+pub record HasParts (stance : Stance) (side : Side) (parts : List Part) : Type 0 where
+  pub drawn : List Part
+  pub segs : List Seg
+  pub polys : List (List Point)
+  pub of_figures : figure_parts stance side.figures ≡ Some drawn
+  pub of_lines : segs_of side.lines ≡ Some segs
+  pub chained : AreChained segs polys
+  pub all : parts ≡ drawn ++ map outline_part polys
+
+abbrev pub IsChecked : Side → Type 0
+IsChecked side = (side.curved ≡ false) × (is_closed side.lines ≡ true)
+
+abbrev pub IsCourt : Stance → Side → Court → Type 0
+IsCourt stance side Unchecked = (side.curved ≡ true) ⊎ (is_closed side.lines ≡ false)
+IsCourt stance side (Parts parts) = IsChecked side × HasParts stance side parts
+IsCourt stance side Off = IsChecked side × ((figure_parts stance side.figures ≡ None) ⊎ (segs_of side.lines ≡ None))
+
+abbrev pub parts_in : Court → List Part
+parts_in (Parts parts) = parts
+parts_in court = []
+
+abbrev pub lies_on_board : Court → Bool
+lies_on_board Off = false
+lies_on_board court = true

@@ -1,0 +1,91 @@
+-- The head of a footprint: (footprint .. (layer F.Cu) (at X Y ANGLE) (fp_text reference "R1" ..) (clearance C) ..), its elements in
+-- this order.
+use Rattle.std.specs.Prelude.{ℕ, ℤ, pos, ◌/◌, ◌%◌, ◌==◌, ◌&&◌, unsigned_abs, Bool, true, false, List, [], codes, Option, None, Some, slice_get, find, Result, Ok, Err, if◌then◌else◌}
+use Rattle.std.specs.Int.{int_rem_euclid}
+use Rattle.sexpr_read.specs.Tree.{Tree, parts, is_list}
+use Rattle.board_items.specs.declared.errors.BoardError.{BoardError}
+use Rattle.board_items.specs.declared.errors.BoardError.TheVariants.{Missing, Turned, UnknownLayer}
+use Rattle.board_items.specs.declared.layers.LayerSet.{LayerSet}
+use Rattle.part_read.specs.Elements.{◌>>=◌, needed, place, text_of, is_text, has_head, element, atom_of, in_needed}
+use Rattle.part_read.specs.Numbers.{length_in, spot_at}
+use Rattle.part_read.specs.LayersOf.{copper_in}
+use Rattle.footprint_read.specs.declared.head.Head.{Head}
+use Rattle.footprint_read.specs.declared.head.Posture.{Posture}
+
+-- ---- angles, read as lengths are: a quarter turn is 90,000,000
+
+abbrev pub angle_by : Option Tree → Result ℤ BoardError
+angle_by None = Ok (pos 0)
+angle_by (Some t) = if is_list t then Ok (pos 0) else length_in t
+
+-- the position and the angle of (at X Y ANGLE); an angle that is missing is 0
+unfoldable pub posture_at : Tree → Result Posture BoardError
+posture_at list = do
+  spot ← spot_at list
+  angle ← angle_by (slice_get (parts list) 3)
+  Ok (record { at = spot; angle = angle })
+
+abbrev pub posture_of : Tree → Result Posture BoardError
+posture_of tree = in_needed posture_at tree (element (codes "at") tree)
+
+-- how many quarter turns an angle is, of whole turns none, if it is a multiple of one
+abbrev pub quarters_by : ℕ → Option ℕ
+quarters_by rest = if rest % 90000000 == 0 then Some (rest / 90000000) else None
+
+abbrev pub quarters_of : ℤ → Option ℕ
+quarters_of angle = quarters_by (unsigned_abs (int_rem_euclid angle (pos 360000000)))
+
+-- ---- the side
+
+abbrev pub side_by : Tree → ℕ → Result Bool BoardError
+side_by atom layer = if layer == 0 then Ok false else if layer == 31 then Ok true else Err (UnknownLayer (place atom))
+
+-- whether (layer NAME) says that it is on the back: F.Cu or B.Cu
+unfoldable pub side_of : LayerSet → Tree → Result Bool BoardError
+side_of copper tree = do
+  list ← needed (Missing (place tree)) (element (codes "layer") tree)
+  atom ← atom_of 1 list
+  layer ← copper_in copper atom
+  side_by atom layer
+
+-- ---- the reference
+
+abbrev pub is_word : List ℕ → Option Tree → Bool
+is_word word None = false
+is_word word (Some t) = is_text t word
+
+-- (HEAD WORD ..)
+abbrev pub says : List ℕ → List ℕ → Tree → Bool
+says head word tree = has_head head tree && is_word word (slice_get (parts tree) 1)
+
+abbrev pub second_text : Tree → Result (List ℕ) BoardError
+second_text tree = atom_of 2 tree >>= λ atom. Ok (text_of atom)
+
+abbrev pub reference_by : Option Tree → Option Tree → Result (List ℕ) BoardError
+reference_by (Some text) property = second_text text
+reference_by None (Some property) = second_text property
+reference_by None None = Ok []
+
+-- the text of the first (fp_text reference "R1" ..), else that of the first (property "Reference" "R1" ..), or the empty one
+unfoldable pub reference_of : Tree → Result (List ℕ) BoardError
+reference_of tree = reference_by (find (says (codes "fp_text") (codes "reference")) (parts tree)) (find (says (codes "property") (codes "Reference")) (parts tree))
+
+-- ---- clearances, of which 0 and less count as none
+
+abbrev pub clearance_by : Option Tree → Result ℤ BoardError
+clearance_by None = Ok (pos 0)
+clearance_by (Some list) = atom_of 1 list >>= length_in
+
+unfoldable pub clearance_of : Tree → Result ℤ BoardError
+clearance_of tree = clearance_by (element (codes "clearance") tree)
+
+-- ---- the whole head
+
+unfoldable pub head_of : LayerSet → Tree → Result Head BoardError
+head_of copper tree = do
+  on_back ← side_of copper tree
+  posture ← posture_of tree
+  quarter ← needed (Turned (place tree)) (quarters_of posture.angle)
+  reference ← reference_of tree
+  clearance ← clearance_of tree
+  Ok (record { on_back = on_back; stance = record { quarter = quarter; at = posture.at }; reference = reference; clearance = clearance })

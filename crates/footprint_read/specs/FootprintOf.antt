@@ -1,0 +1,170 @@
+-- Footprints: the items that (footprint .. (layer F.Cu) (at X Y ANGLE) ..) gives: its body, then its pads, graphics, edges and notes in
+-- the order of the text, then a note for each side whose courtyard is not checked, front first. Spots of its parts are relative to its
+-- position, and turned by its angle.
+use Rattle.std.specs.Prelude.{◌≡◌, ◌⊎◌, Vec, ℕ, suc, nat_lt, Bool, ◌&&◌, ◌||◌, List, [], ◌∷◌, ◌++◌, map, codes, Option, None, Some, Result, Ok, Err, refl, if◌then◌else◌}
+use Rattle.std.specs.declared.alloc.Global.{Global}
+use Rattle.sexpr_read.specs.Tree.{Tree, parts}
+use Rattle.board_items.specs.declared.errors.BoardError.{BoardError}
+use Rattle.board_items.specs.declared.errors.BoardError.TheVariants.{OutOfBoard, TooMany, OutOfMemory}
+use Rattle.board_items.specs.declared.item.About.TheVariants.{Text, Courtyard, FootZone}
+use Rattle.board_items.specs.declared.item.What.TheVariants.{Body}
+use Rattle.board_items.specs.declared.item.Item.{Item}
+use Rattle.board_items.specs.Boards.{PlainBoard}
+use Rattle.board_items.specs.Refusals.{room_of}
+use Rattle.part_read.specs.declared.drawings.Kind.{Kind}
+use Rattle.part_read.specs.declared.drawings.Kind.TheVariants.{Line, Rect, Circle, Outline}
+use Rattle.part_read.specs.declared.graphics.Ground.{Ground}
+use Rattle.part_read.specs.declared.graphics.Ground.TheVariants.{Front, Back}
+use Rattle.part_read.specs.Elements.{◌>>=◌, check, place, has_head, name_in}
+use Rattle.part_read.specs.OnBoard.{fits_board}
+use Rattle.part_read.specs.PlainItems.{plain_item}
+use Rattle.part_read.specs.Graphics.{ground_of, graphic_by, curve_by, text_by, note_of}
+use Rattle.footprint_read.specs.declared.head.Head.{Head}
+use Rattle.footprint_read.specs.declared.sides.Side.{Side}
+use Rattle.footprint_read.specs.declared.contents.Contents.{Contents}
+use Rattle.footprint_read.specs.declared.contents.Given.{Given}
+use Rattle.footprint_read.specs.FootHead.{head_of}
+use Rattle.footprint_read.specs.PadOf.{pad_of}
+use Rattle.footprint_read.specs.declared.courts.Court.{Court}
+use Rattle.footprint_read.specs.declared.courts.Court.TheVariants.{Unchecked}
+use Rattle.footprint_read.specs.Courtyards.{IsCourt, empty_side, parts_in, lies_on_board, with_curve, with_graphic}
+
+-- ---- the children, in the order of the text
+
+-- items, with the place of the list that gives them
+abbrev pub given_at : ℕ → List Item → List Given
+given_at place items = map (λ item. record { place = place; item = item }) items
+
+abbrev pub with_items : Contents → Tree → List Item → Contents
+with_items contents tree items = record contents { given = contents.given ++ given_at (place tree) items }
+
+abbrev pub adding : Contents → Tree → Result (List Item) BoardError → Result Contents BoardError
+adding contents tree answer = answer >>= λ items. Ok (with_items contents tree items)
+
+abbrev pub at_front : Contents → Result Side BoardError → Result Contents BoardError
+at_front contents answer = answer >>= λ side. Ok (record contents { front = side })
+
+abbrev pub at_back : Contents → Result Side BoardError → Result Contents BoardError
+at_back contents answer = answer >>= λ side. Ok (record contents { back = side })
+
+abbrev pub with_drawn : PlainBoard → ℕ → Head → Contents → Kind → Tree → Ground → Result Contents BoardError
+with_drawn board unit head contents kind tree Front = at_front contents (with_graphic head.stance kind contents.front tree)
+with_drawn board unit head contents kind tree Back = at_back contents (with_graphic head.stance kind contents.back tree)
+with_drawn board unit head contents kind tree lies = adding contents tree (graphic_by board unit head.stance kind tree lies)
+
+-- a curve on copper or on Edge.Cuts is refused, and one in a courtyard leaves its side unchecked
+abbrev pub with_arc : Contents → Tree → Ground → Result Contents BoardError
+with_arc contents tree Front = Ok (record contents { front = with_curve contents.front })
+with_arc contents tree Back = Ok (record contents { back = with_curve contents.back })
+with_arc contents tree lies = adding contents tree (curve_by tree lies)
+
+abbrev pub drawn_kind : Tree → Option Kind
+drawn_kind t =
+    if has_head (codes "fp_line") t then Some Line
+    else if has_head (codes "fp_rect") t then Some Rect
+    else if has_head (codes "fp_circle") t then Some Circle
+    else if has_head (codes "fp_poly") t then Some Outline
+    else None
+
+abbrev pub is_curve : Tree → Bool
+is_curve t = has_head (codes "fp_arc") t || has_head (codes "fp_curve") t
+
+-- texts, and properties, which KiCad 8 shows as texts
+abbrev pub is_writing : Tree → Bool
+is_writing t = has_head (codes "fp_text") t || has_head (codes "fp_text_box") t || has_head (codes "property") t
+
+abbrev pub with_other : PlainBoard → ℕ → Contents → Tree → Result Contents BoardError
+with_other board unit contents t =
+    if is_curve t then (ground_of board.copper t >>= with_arc contents t)
+    else if is_writing t then (ground_of board.copper t >>= λ lies. adding contents t (text_by unit Text t lies))
+    else if has_head (codes "zone") t then Ok (with_items contents t (note_of (name_in t) unit FootZone [] ∷ []))
+    else Ok contents
+
+abbrev pub with_child_by : PlainBoard → ℕ → Head → Contents → Tree → Option Kind → Result Contents BoardError
+with_child_by board unit head contents t (Some kind) = ground_of board.copper t >>= with_drawn board unit head contents kind t
+with_child_by board unit head contents t None = with_other board unit contents t
+
+unfoldable pub with_child : PlainBoard → ℕ → Head → Contents → Tree → Result Contents BoardError
+with_child board unit head contents t =
+    if has_head (codes "pad") t then adding contents t (pad_of board unit head t >>= λ pad. Ok (pad ∷ []))
+    else with_child_by board unit head contents t (drawn_kind t)
+
+abbrev pub with_children : PlainBoard → ℕ → Head → Contents → List Tree → Result Contents BoardError
+with_children board unit head contents [] = Ok contents
+with_children board unit head contents (t ∷ ts) = with_child board unit head contents t >>= λ more. with_children board unit head more ts
+
+abbrev pub empty : Contents
+empty = record { given = []; front = empty_side; back = empty_side }
+
+-- ---- body and notes of courtyards
+
+abbrev pub body_of : ℕ → Head → Tree → Court → Court → Item
+body_of unit head tree front back =
+    plain_item (name_in tree) unit 0 head.stance.at [] (Body head.reference (parts_in front) (parts_in back) head.on_back) refl
+
+abbrev pub court_notes : ℕ → Tree → List ℕ → Court → List Item
+court_notes unit tree layer Unchecked = note_of (name_in tree) unit Courtyard layer ∷ []
+court_notes unit tree layer court = []
+
+-- the body, what the children give, and the notes of the courtyards, the front first
+abbrev pub all_given : ℕ → Head → Tree → List Given → Court → Court → List Given
+all_given unit head tree given front back =
+    ((given_at (place tree) (body_of unit head tree front back ∷ []) ++ given)
+    ++ given_at (place tree) (court_notes unit tree (codes "F.CrtYd") front))
+    ++ given_at (place tree) (court_notes unit tree (codes "B.CrtYd") back)
+
+-- ---- room
+
+abbrev pub items_of : List Given → List Item
+items_of given = map (λ g. g.item) given
+
+-- room for an item more after so many, and a number for its unit
+abbrev pub has_room_after : ℕ → PlainBoard → ℕ → Bool
+has_room_after items board unit = nat_lt items (room_of board) && nat_lt unit 4294967295
+
+-- the first item for which there is no room is refused at the list that gives it; so many come before
+abbrev pub with_room : PlainBoard → ℕ → ℕ → List Given → Result (Unit {0}) BoardError
+with_room board unit before [] = Ok tt
+with_room board unit before (g ∷ gs) =
+    if has_room_after before board unit then with_room board unit (suc before) gs else Err (TooMany g.place)
+
+abbrev pub in_room : PlainBoard → ℕ → List Given → Result (List Item) BoardError
+in_room board unit given = with_room board unit 0 given >>= λ room. Ok (items_of given)
+
+-- the body must lie on the board with its courtyards; then there must be room
+abbrev pub is_placed : Head → Court → Court → Bool
+is_placed head front back = fits_board head.stance.at && (lies_on_board front && lies_on_board back)
+
+unfoldable pub finished : PlainBoard → ℕ → Head → Tree → List Given → Court → Court → Result (List Item) BoardError
+finished board unit head tree given front back = do
+  on_board ← check (OutOfBoard (place tree)) (is_placed head front back)
+  in_room board unit (all_given unit head tree given front back)
+
+-- ---- the whole: it gives these items, or this refusal
+
+abbrev pub contents_of : PlainBoard → ℕ → Head → Tree → Result Contents BoardError
+contents_of board unit head tree = with_children board unit head empty (parts tree)
+
+-- what the children gave and the courtyards of both sides, by their definition, make the answer
+pub record SaysOf (board : PlainBoard) (unit : ℕ) (head : Head) (tree : Tree) (contents : Contents) (answer : Result (List Item) BoardError) : Type 0 where
+  pub front : Court
+  pub back : Court
+  pub of_front : IsCourt head.stance contents.front front
+  pub of_back : IsCourt head.stance contents.back back
+  pub same : answer ≡ finished board unit head tree contents.given front back
+
+abbrev pub SaysInside : PlainBoard → ℕ → Head → Tree → Result Contents BoardError → Result (List Item) BoardError → Type 0
+SaysInside board unit head tree (Err e) answer = answer ≡ Err e
+SaysInside board unit head tree (Ok contents) answer = SaysOf board unit head tree contents answer
+
+abbrev pub SaysWith : PlainBoard → ℕ → Tree → Result Head BoardError → Result (List Item) BoardError → Type 0
+SaysWith board unit tree (Err e) answer = answer ≡ Err e
+SaysWith board unit tree (Ok head) answer = SaysInside board unit head tree (contents_of board unit head tree) answer
+
+abbrev pub Says : PlainBoard → ℕ → Tree → Result (List Item) BoardError → Type 0
+Says board unit tree answer = SaysWith board unit tree (head_of board.copper tree) answer
+
+-- the call gives items that the definition gives, or a refusal that it gives, unless memory ran out
+abbrev pub SaysItems : Result (Vec Item Global) BoardError → PlainBoard → ℕ → Tree → Type 0
+SaysItems (Ok items) board unit tree = Says board unit tree (Ok items.items)
+SaysItems (Err e) board unit tree = (e ≡ OutOfMemory) ⊎ Says board unit tree (Err e)

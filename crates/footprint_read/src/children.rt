@@ -1,0 +1,227 @@
+//! The children of a footprint, in the order of the text.
+
+ghost use Rattle.std.specs.Prelude.{◌≡◌, ◌<◌, ◌∷◌, [], ℕ, IfOk, All};
+ghost use Rattle.sexpr_read.specs.Tree.{parts};
+ghost use Rattle.sexpr_read.specs.Views.{tree_of, trees_left};
+ghost use Rattle.board_items.specs.Boards.{PlainBoard};
+ghost use Rattle.board_items.specs.declared.item.About.TheVariants.{FootZone};
+ghost use Rattle.part_read.specs.Elements.{name_in};
+ghost use Rattle.part_read.specs.Graphics.{note_of};
+ghost use Rattle.part_read.specs.Nodes.{Gives};
+ghost use Rattle.part_read.specs.Grounds.{IsOn};
+ghost use Rattle.part_read.specs.Stances.{IsWithin};
+ghost use Rattle.part_read.specs.Ready.{IsReady};
+ghost use Rattle.footprint_read.specs.FootprintOf.{items_of, with_items, with_drawn, with_arc, drawn_kind, is_curve, is_writing, with_other, with_child, with_children, contents_of, empty};
+
+use crate::contents::Contents;
+use crate::court_lists::with_graphic;
+use crate::head::Head;
+use crate::notes::{note_on, one_item};
+use crate::pad::pad_of;
+use board_items::{About, Board, BoardError, Item};
+use part_read::{Ground, Kind, curve_by, ground_of, has_head, place, read_graphic, read_text};
+use sexpr_read::Node;
+use std::alloc::{AllocError, Global};
+
+fn drawn_kind(node: Node<'_, '_>) -> Option<Kind>
+    ensures { result ≡ drawn_kind (tree_of node.entry) }
+{
+    if has_head(node, b"fp_line") {
+        return Some(Kind::Line);
+    }
+    if has_head(node, b"fp_rect") {
+        return Some(Kind::Rect);
+    }
+    if has_head(node, b"fp_circle") {
+        return Some(Kind::Circle);
+    }
+    if has_head(node, b"fp_poly") {
+        return Some(Kind::Outline);
+    }
+    None
+}
+
+fn is_curve(node: Node<'_, '_>) -> bool
+    ensures { result ≡ is_curve (tree_of node.entry) }
+{
+    has_head(node, b"fp_arc") || has_head(node, b"fp_curve")
+}
+
+/// Whether it is a text, or a property, which KiCad 8 shows as a text.
+fn is_writing(node: Node<'_, '_>) -> bool
+    ensures { result ≡ is_writing (tree_of node.entry) }
+{
+    has_head(node, b"fp_text") || has_head(node, b"fp_text_box") || has_head(node, b"property")
+}
+
+/// With items that this list gives.
+fn with_items(
+    contents: Contents,
+    node: Node<'_, '_>,
+    items: Vec<Item>,
+) -> Result<Contents, AllocError>
+    ensures with { IfOk result (λ all. all ≡ with_items contents (tree_of node.entry) items.items) }
+    ensures ready { (board : PlainBoard) (unit : ℕ) → All (IsReady board unit) (items_of contents.given) → All (IsReady board unit) items.items → IfOk result (λ all. All (IsReady board unit) (items_of all.given)) }
+{
+    Ok(Contents {
+        given: contents.given.with(place(node), items)?,
+        front: contents.front,
+        back: contents.back,
+    })
+}
+
+/// With a graphic on copper, on Edge.Cuts or in a courtyard.
+fn with_drawn(
+    alloc: Global,
+    board: &Board,
+    unit: u32,
+    head: &Head,
+    contents: Contents,
+    kind: Kind,
+    node: Node<'_, '_>,
+    lies: Ground,
+) -> Result<Contents, BoardError>
+    requires quarter { head.now.stance.quarter < 4 }
+    requires at { IsWithin 3000000000000 head.now.stance.at }
+    requires on { IsOn board.now.copper lies }
+    requires ready { All (IsReady board.now unit) (items_of contents.given) }
+    ensures read { Gives result (with_drawn board.now unit head.now contents kind (tree_of node.entry) lies) }
+    ensures ready { IfOk result (λ all. All (IsReady board.now unit) (items_of all.given)) }
+{
+    match lies {
+        Ground::Front => Ok(Contents {
+            given: contents.given,
+            front: with_graphic(alloc, head.stance, kind, contents.front, node)?,
+            back: contents.back,
+        }),
+        Ground::Back => Ok(Contents {
+            given: contents.given,
+            front: contents.front,
+            back: with_graphic(alloc, head.stance, kind, contents.back, node)?,
+        }),
+        lies => {
+            let items = read_graphic(alloc, board, unit, head.stance, kind, node, lies)?;
+            Ok(with_items(contents, node, items)?)
+        }
+    }
+}
+
+/// With a curve: it is refused on copper and on Edge.Cuts, and in a courtyard it leaves the side unchecked.
+fn with_arc(
+    alloc: Global,
+    contents: Contents,
+    node: Node<'_, '_>,
+    lies: Ground,
+) -> Result<Contents, BoardError>
+    ensures read { Gives result (with_arc contents (tree_of node.entry) lies) }
+    ensures same { IfOk result (λ all. items_of all.given ≡ items_of contents.given) }
+{
+    match lies {
+        Ground::Front => Ok(Contents {
+            given: contents.given,
+            front: contents.front.with_curve(),
+            back: contents.back,
+        }),
+        Ground::Back => Ok(Contents {
+            given: contents.given,
+            front: contents.front,
+            back: contents.back.with_curve(),
+        }),
+        lies => {
+            let items = curve_by(alloc, node, lies)?;
+            Ok(with_items(contents, node, items)?)
+        }
+    }
+}
+
+/// The note of a zone, which is not checked.
+fn zone_notes(
+    alloc: Global,
+    board: &Board,
+    unit: u32,
+    node: Node<'_, '_>,
+) -> Result<Vec<Item>, AllocError>
+    ensures notes { IfOk result (λ notes. notes.items ≡ note_of (name_in (tree_of node.entry)) unit FootZone [] ∷ []) }
+    ensures ready { IfOk result (λ notes. All (IsReady board.now unit) notes.items) }
+{
+    // Net 0 is there on each board.
+    let _ = board.left();
+    let notes = one_item(alloc, note_on(alloc, unit, About::FootZone, "", node)?)?;
+    Ok(notes)
+}
+
+/// With what is neither a pad nor a graphic.
+fn with_other(
+    alloc: Global,
+    board: &Board,
+    unit: u32,
+    contents: Contents,
+    node: Node<'_, '_>,
+) -> Result<Contents, BoardError>
+    requires ready { All (IsReady board.now unit) (items_of contents.given) }
+    ensures read { Gives result (with_other board.now unit contents (tree_of node.entry)) }
+    ensures ready { IfOk result (λ all. All (IsReady board.now unit) (items_of all.given)) }
+{
+    if is_curve(node) {
+        let lies = ground_of(board.copper(), node)?;
+        return with_arc(alloc, contents, node, lies);
+    }
+    if is_writing(node) {
+        let lies = ground_of(board.copper(), node)?;
+        let notes = read_text(alloc, board, unit, About::Text, node, lies)?;
+        return Ok(with_items(contents, node, notes)?);
+    }
+    if has_head(node, b"zone") {
+        let notes = zone_notes(alloc, board, unit, node)?;
+        return Ok(with_items(contents, node, notes)?);
+    }
+    Ok(contents)
+}
+
+/// A pad, a graphic, an edge, a note, or nothing.
+#[tactic(auto, using(crate::proofs::Standing::wider), unfolding(crate::specs::FootprintOf::with_child))]
+fn with_child(
+    alloc: Global,
+    board: &Board,
+    unit: u32,
+    head: &Head,
+    contents: Contents,
+    node: Node<'_, '_>,
+) -> Result<Contents, BoardError>
+    requires quarter { head.now.stance.quarter < 4 }
+    requires at { IsWithin 1000000000000 head.now.stance.at }
+    requires ready { All (IsReady board.now unit) (items_of contents.given) }
+    ensures read { Gives result (with_child board.now unit head.now contents (tree_of node.entry)) }
+    ensures ready { IfOk result (λ all. All (IsReady board.now unit) (items_of all.given)) }
+{
+    if has_head(node, b"pad") {
+        let pad = pad_of(alloc, board, unit, head, node)?;
+        return Ok(with_items(contents, node, one_item(alloc, pad)?)?);
+    }
+    let Some(kind) = drawn_kind(node) else {
+        return with_other(alloc, board, unit, contents, node);
+    };
+    let lies = ground_of(board.copper(), node)?;
+    with_drawn(alloc, board, unit, head, contents, kind, node, lies)
+}
+
+/// What all children give, in the order of the text.
+#[tactic(auto, using(crate::proofs::Standing::none_ready))]
+pub fn contents_of(
+    alloc: Global,
+    board: &Board,
+    unit: u32,
+    head: &Head,
+    node: Node<'_, '_>,
+) -> Result<Contents, BoardError>
+    requires quarter { head.now.stance.quarter < 4 }
+    requires at { IsWithin 1000000000000 head.now.stance.at }
+    ensures read { Gives result (contents_of board.now unit head.now (tree_of node.entry)) }
+    ensures ready { IfOk result (λ all. All (IsReady board.now unit) (items_of all.given)) }
+{
+    let mut contents = Contents::new(alloc);
+    for part in node.children() {
+        contents = with_child(alloc, board, unit, head, contents, part)?;
+    }
+    Ok(contents)
+}

@@ -1,0 +1,103 @@
+//! What the children of a footprint give.
+
+ghost use Rattle.std.specs.Prelude.{◌≡◌, ◌++◌, [], IfOk, OnOk};
+ghost use Rattle.footprint_read.specs.FootprintOf.{empty, given_at};
+
+use crate::sides::Side;
+use board_items::Item;
+use std::alloc::{AllocError, Global};
+use std::marker::Model;
+
+/// An item, and the place of the list that gives it.
+#[derive(Drop)]
+pub struct Given {
+    pub place: u32,
+    pub item: Item,
+}
+
+/// Contracts see the list.
+#[derive(Drop)]
+pub struct AllGiven {
+    list: Vec<Given>,
+}
+
+impl Model for AllGiven {
+    ghost use Rattle.std.specs.Prelude.{List};
+    ghost use Rattle.footprint_read.specs.declared.contents.Given.{Given};
+
+    ghost Value = { List Given };
+
+    ghost view = { λ g. g.list.items };
+}
+
+fn append_items(list: &mut Vec<Given>, place: u32, items: Vec<Item>) -> Result<(), AllocError>
+    ensures { OnOk result (list.new.items ≡ list.old.items ++ given_at place items.items) }
+{
+    for item in items {
+        list.push(Given { place, item })?;
+    }
+    Ok(())
+}
+
+fn append_given(list: &mut Vec<Given>, more: Vec<Given>) -> Result<(), AllocError>
+    ensures { OnOk result (list.new.items ≡ list.old.items ++ more.items) }
+{
+    for given in more {
+        list.push(given)?;
+    }
+    Ok(())
+}
+
+impl AllGiven {
+    pub fn new(alloc: Global) -> AllGiven
+        ensures { result ≡ [] }
+    {
+        AllGiven {
+            list: Vec::new(alloc),
+        }
+    }
+
+    /// With the items of the list at this place behind them.
+    pub fn with(self, place: u32, items: Vec<Item>) -> Result<AllGiven, AllocError>
+        ensures { IfOk result (λ all. all ≡ self ++ given_at place items.items) }
+    {
+        let mut list = self.list;
+        append_items(&mut list, place, items)?;
+        Ok(AllGiven { list })
+    }
+
+    /// With these behind them.
+    pub fn and(self, more: AllGiven) -> Result<AllGiven, AllocError>
+        ensures { IfOk result (λ all. all ≡ self ++ more) }
+    {
+        let mut list = self.list;
+        append_given(&mut list, more.list)?;
+        Ok(AllGiven { list })
+    }
+
+    pub fn into_list(self) -> Vec<Given>
+        ensures { result.items ≡ self }
+    {
+        self.list
+    }
+}
+
+/// Items in the order of the text, and the sides.
+#[derive(Drop)]
+pub struct Contents {
+    pub given: AllGiven,
+    pub front: Side,
+    pub back: Side,
+}
+
+impl Contents {
+    pub fn new(alloc: Global) -> Contents
+        ensures { result ≡ empty }
+    {
+        Contents {
+            given: AllGiven::new(alloc),
+            front: Side::new(alloc),
+            back: Side::new(alloc),
+        }
+    }
+}

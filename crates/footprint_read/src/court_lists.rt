@@ -1,0 +1,140 @@
+//! What the lists of courtyards add to their sides.
+
+ghost use Rattle.std.specs.Prelude.{◌≡◌, ◌<◌, ◌++◌, ◌∷◌, [], IfOk};
+ghost use Rattle.std.specs.List.{list_any};
+ghost use Rattle.sexpr_read.specs.Tree.{parts};
+ghost use Rattle.sexpr_read.specs.Views.{tree_of, trees_left};
+ghost use Rattle.part_read.specs.Elements.{element, in_needed, has_head};
+ghost use Rattle.part_read.specs.Nodes.{Gives};
+ghost use Rattle.part_read.specs.Numbers.{spot_at};
+ghost use Rattle.part_read.specs.Stances.{IsWithin};
+ghost use Rattle.part_read.specs.Figures.{HasReach};
+ghost use Rattle.footprint_read.specs.Courtyards.{with_figure, with_line, with_rect, with_circle, with_spots, has_arc, with_outline, with_graphic};
+
+use crate::sides::{Course, Side};
+use board_items::BoardError;
+use part_read::{
+    Corners, Figure, Kind, Spot, Stance, element, has_head, missing, radius_between, spot_in,
+    spots_in, stand,
+};
+use sexpr_read::Node;
+use std::alloc::{AllocError, Global};
+
+/// The spot of an element which must be there.
+fn spot_needed(node: Node<'_, '_>, head: &[u8]) -> Result<Spot, BoardError>
+    ensures spot { result ≡ in_needed spot_at (tree_of node.entry) (element head.now (tree_of node.entry)) }
+    ensures within { IfOk result (IsWithin 1000000000000) }
+{
+    match element(node, head) {
+        None => Err(missing(node)),
+        Some(list) => spot_in(list),
+    }
+}
+
+fn with_figure(side: Side, figure: Figure) -> Result<Side, AllocError>
+    requires { HasReach figure }
+    ensures { IfOk result (λ all. all ≡ with_figure side figure) }
+{
+    Ok(Side {
+        curved: side.curved,
+        figures: side.figures.with(figure)?,
+        lines: side.lines,
+    })
+}
+
+fn with_course(side: Side, course: Course) -> Result<Side, AllocError>
+    ensures { IfOk result (λ all. all ≡ record side { lines = side.lines ++ course ∷ [] }) }
+{
+    Ok(Side {
+        curved: side.curved,
+        figures: side.figures,
+        lines: side.lines.with(course)?,
+    })
+}
+
+/// With a line, which goes from one spot of the board to another.
+#[tactic(auto, unfolding(crate::specs::Courtyards::with_line))]
+fn with_line(stance: Stance, side: Side, node: Node<'_, '_>) -> Result<Side, BoardError>
+    requires quarter { stance.quarter < 4 }
+    requires at { IsWithin 3000000000000 stance.at }
+    ensures { Gives result (with_line stance side (tree_of node.entry)) }
+{
+    let start = spot_needed(node, b"start")?;
+    let end = spot_needed(node, b"end")?;
+    let course = Course {
+        a: stand(stance, start),
+        b: stand(stance, end),
+    };
+    Ok(with_course(side, course)?)
+}
+
+/// With a rectangle.
+#[tactic(auto, unfolding(crate::specs::Courtyards::with_rect))]
+fn with_rect(side: Side, node: Node<'_, '_>) -> Result<Side, BoardError>
+    ensures { Gives result (with_rect side (tree_of node.entry)) }
+{
+    let start = spot_needed(node, b"start")?;
+    let end = spot_needed(node, b"end")?;
+    Ok(with_figure(side, Figure::Rect(start, end))?)
+}
+
+/// With a circle.
+#[tactic(auto, unfolding(crate::specs::Courtyards::with_circle))]
+fn with_circle(side: Side, node: Node<'_, '_>) -> Result<Side, BoardError>
+    ensures { Gives result (with_circle side (tree_of node.entry)) }
+{
+    let center = spot_needed(node, b"center")?;
+    let end = spot_needed(node, b"end")?;
+    let radius = radius_between(center, end);
+    Ok(with_figure(side, Figure::Circle(center, radius))?)
+}
+
+/// Whether an arc stands among the spots.
+fn has_arc(list: Node<'_, '_>) -> bool
+    ensures { result ≡ has_arc (tree_of list.entry) }
+{
+    for part in list.children() {
+        if has_head(part, b"arc") {
+            return true;
+        }
+    }
+    false
+}
+
+/// With an outline; one with an arc leaves the side unchecked.
+#[tactic(auto, unfolding(crate::specs::Courtyards::with_outline))]
+fn with_outline(alloc: Global, side: Side, node: Node<'_, '_>) -> Result<Side, BoardError>
+    ensures { Gives result (with_outline side (tree_of node.entry)) }
+{
+    let Some(list) = element(node, b"pts") else {
+        return Err(missing(node));
+    };
+    let spots = spots_in(alloc, list, true)?;
+    if has_arc(list) {
+        return Ok(side.with_curve());
+    }
+    if spots.len() < 3 {
+        return Err(missing(list));
+    }
+    Ok(with_figure(side, Figure::Outline(Corners::of(spots)))?)
+}
+
+/// With a graphic of this kind.
+pub fn with_graphic(
+    alloc: Global,
+    stance: Stance,
+    kind: Kind,
+    side: Side,
+    node: Node<'_, '_>,
+) -> Result<Side, BoardError>
+    requires quarter { stance.quarter < 4 }
+    requires at { IsWithin 3000000000000 stance.at }
+    ensures { Gives result (with_graphic stance kind side (tree_of node.entry)) }
+{
+    match kind {
+        Kind::Line => with_line(stance, side, node),
+        Kind::Rect => with_rect(side, node),
+        Kind::Circle => with_circle(side, node),
+        Kind::Outline => with_outline(alloc, side, node),
+    }
+}

@@ -1,0 +1,13 @@
+//! Laws of footprints. The functions do nothing: each clause holds for all boards and lists.
+
+ghost use Rattle.std.specs.Prelude.{◌≡◌, ℕ, List, Result};
+ghost use Rattle.sexpr_read.specs.Tree.{Tree};
+ghost use Rattle.board_items.specs.declared.errors.BoardError.{BoardError};
+ghost use Rattle.board_items.specs.declared.item.Item.{Item};
+ghost use Rattle.board_items.specs.Boards.{PlainBoard};
+ghost use Rattle.footprint_read.specs.FootprintOf.{Says};
+
+/// A list says one thing: it gives these items, or this refusal.
+pub fn one_answer()
+    ensures { (board : PlainBoard) (unit : ℕ) (tree : Tree) (a b : Result (List Item) BoardError) → Says board unit tree a → Says board unit tree b → a ≡ b }
+{}

@@ -1,0 +1,44 @@
+//! Notes of what is not checked.
+
+ghost use Rattle.std.specs.Prelude.{◌≡◌, ◌∷◌, [], IfOk};
+ghost use Rattle.sexpr_read.specs.Views.{tree_of};
+ghost use Rattle.part_read.specs.Elements.{name_in};
+ghost use Rattle.part_read.specs.Graphics.{note_of};
+
+use board_items::{About, Boxed, Item, What};
+use drc_io::Name;
+use part_read::{Spot, name_of_list, no_parts, plain_item};
+use sexpr_read::Node;
+use std::alloc::{AllocError, Global};
+
+/// The note of something on the layer of this name, by the name of the list that gives it.
+pub fn note_on(
+    alloc: Global,
+    unit: u32,
+    about: About,
+    layer: &str,
+    node: Node<'_, '_>,
+) -> Result<Item, AllocError>
+    ensures { IfOk result (λ note. note ≡ note_of (name_in (tree_of node.entry)) unit about layer.now) }
+{
+    let name = name_of_list(alloc, node)?;
+    let layer = Boxed::new(alloc, Name::from_slice(alloc, layer.as_bytes())?)?;
+    let at = Spot { x: 0, y: 0 };
+    Ok(plain_item(
+        name,
+        unit,
+        0,
+        at,
+        no_parts(alloc),
+        What::Note { about, layer },
+    ))
+}
+
+/// The list of one item.
+pub fn one_item(alloc: Global, item: Item) -> Result<Vec<Item>, AllocError>
+    ensures { IfOk result (λ items. items.items ≡ item ∷ []) }
+{
+    let mut items = Vec::with_capacity(alloc, 1)?;
+    items.push(item)?;
+    Ok(items)
+}

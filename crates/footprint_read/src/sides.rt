@@ -1,0 +1,135 @@
+//! The sides of a footprint, as far as its courtyards go.
+
+ghost use Rattle.std.specs.Prelude.{◌≡◌, ◌++◌, ◌∷◌, [], IfOk, All};
+ghost use Rattle.part_read.specs.Figures.{HasReach};
+
+use part_read::{Figure, Spot};
+use std::alloc::{AllocError, Global};
+use std::marker::Model;
+
+/// A line from one spot of the board to another, on the board or off it.
+#[derive(Clone, Copy, Debug, PartialEq, Eq, Drop)]
+pub struct Course {
+    pub a: Spot,
+    pub b: Spot,
+}
+
+/// Contracts see the list.
+#[derive(Drop)]
+pub struct Courses {
+    list: Vec<Course>,
+}
+
+impl Model for Courses {
+    ghost use Rattle.std.specs.Prelude.{List};
+    ghost use Rattle.footprint_read.specs.declared.sides.Course.{Course};
+
+    ghost Value = { List Course };
+
+    ghost view = { λ c. c.list.items };
+}
+
+impl Courses {
+    pub fn new(alloc: Global) -> Courses
+        ensures { result ≡ [] }
+    {
+        Courses {
+            list: Vec::new(alloc),
+        }
+    }
+
+    /// With one more.
+    pub fn with(self, course: Course) -> Result<Courses, AllocError>
+        ensures { IfOk result (λ all. all ≡ self ++ course ∷ []) }
+    {
+        let mut list = self.list;
+        list.push(course)?;
+        Ok(Courses { list })
+    }
+
+    pub fn as_slice(&self) -> &[Course]
+        ensures { result.now ≡ self.now }
+    {
+        &self.list
+    }
+}
+
+/// Figures in nanometres, relative to the footprint. Contracts see the list.
+#[derive(Drop)]
+pub struct Figures {
+    list: Vec<Figure>,
+}
+
+impl Model for Figures {
+    ghost use Rattle.std.specs.Prelude.{List, All};
+    ghost use Rattle.part_read.specs.declared.figures.Figure.{Figure};
+    ghost use Rattle.part_read.specs.Figures.{HasReach};
+
+    ghost Value = { List Figure };
+
+    ghost view = { λ f. f.list.items };
+
+    ghost invariant = { λ f. All HasReach f.list.items };
+}
+
+impl Figures {
+    pub fn new(alloc: Global) -> Figures
+        ensures { result ≡ [] }
+    {
+        Figures {
+            list: Vec::new(alloc),
+        }
+    }
+
+    /// With one more.
+    pub fn with(self, figure: Figure) -> Result<Figures, AllocError>
+        requires { HasReach figure }
+        ensures { IfOk result (λ all. all ≡ self ++ figure ∷ []) }
+    {
+        let mut list = self.list;
+        list.push(figure)?;
+        Ok(Figures { list })
+    }
+
+    pub fn as_slice(&self) -> &[Figure]
+        ensures same { result.now ≡ self.now }
+        ensures reach { All HasReach result.now }
+    {
+        &self.list
+    }
+}
+
+/// What was read of a courtyard.
+#[derive(Drop)]
+pub struct Side {
+    /// It has a curve.
+    pub curved: bool,
+    pub figures: Figures,
+    pub lines: Courses,
+}
+
+impl Side {
+    ghost use Rattle.std.specs.Prelude.{◌≡◌};
+    ghost use Rattle.footprint_read.specs.Courtyards.{empty_side, with_curve};
+
+    pub fn new(alloc: Global) -> Side
+        ensures { result ≡ empty_side }
+    {
+        Side {
+            curved: false,
+            figures: Figures::new(alloc),
+            lines: Courses::new(alloc),
+        }
+    }
+
+    /// With a curve.
+    pub fn with_curve(self) -> Side
+        ensures { result ≡ with_curve self }
+    {
+        Side {
+            curved: true,
+            figures: self.figures,
+            lines: self.lines,
+        }
+    }
+}
