@@ -1,1 +1,4 @@
 pub mod Making
+pub mod Rooming
+pub mod OneReading
+pub mod Parting

@@ -22,7 +22,7 @@ use Rattle.part_read.specs.declared.on_board.Strip.{Strip}
 use Rattle.part_read.specs.OnBoard.{tested, length_in_range, is_strip, strip_shape}
 use Rattle.pcb_read.specs.declared.items.Origin.{Origin}
 use Rattle.pcb_read.specs.declared.items.ViaForm.{ViaForm}
-use Rattle.pcb_read.specs.Tracks.{track_along, disc, is_hole, is_drill, hole_by, hole_through, drill_in_range, is_via, via_at}
+use Rattle.pcb_read.specs.Tracks.{track_along, disc, is_hole, is_drill, hole_by, hole_through, drill_in_range, via_at}
 
 -- ---- a value with what a test shows
 

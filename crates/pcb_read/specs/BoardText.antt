@@ -7,12 +7,12 @@ use Rattle.sexpr_read.specs.Refusals.{refusal_of_one}
 use Rattle.board_items.specs.declared.errors.BoardError.{BoardError}
 use Rattle.board_items.specs.declared.errors.BoardError.TheVariants.{Text}
 use Rattle.board_items.specs.Boards.{PlainBoard}
-use Rattle.pcb_read.specs.BoardOf.{board_of}
+use Rattle.pcb_read.specs.BoardOf.{SaysBoard}
 
 -- a text that is no list is refused as such, and any other says what its tree says
 abbrev pub SaysAfter : List ℕ → Option TextError → Result PlainBoard BoardError → Type 0
 SaysAfter text (Some e) answer = answer ≡ Err (Text e)
-SaysAfter text None answer = (tree : Tree) × Spells text tree × (answer ≡ board_of tree)
+SaysAfter text None answer = (tree : Tree) × Spells text tree × SaysBoard tree answer
 
 -- the text says this: a board, or a refusal
 abbrev pub Says : List ℕ → Result PlainBoard BoardError → Type 0

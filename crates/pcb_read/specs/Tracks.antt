@@ -1,5 +1,5 @@
 -- Tracks and vias: the item that a list of the board gives, in this unit.
-use Rattle.std.specs.Prelude.{◌≡◌, ℕ, ℤ, pos, List, [], ◌∷◌, codes, Bool, true, ◌&&◌, refl, Option, None, Some, unwrap_or, Result, Ok}
+use Rattle.std.specs.Prelude.{◌≡◌, ℕ, ℤ, pos, [], ◌∷◌, codes, Bool, true, ◌&&◌, refl, Option, None, Some, unwrap_or, Result}
 use Rattle.std.proofs.lemmas.Option.{none-some}
 use Rattle.sexpr_read.specs.Tree.{Tree}
 use Rattle.int_algebra.proofs.Tested.{front, back}

@@ -1,16 +1,14 @@
 //! Tracks and vias as items.
 
-ghost use Rattle.std.specs.Prelude.{◌≡◌, ◌∷◌, [], ℤ, true, is_some, IfSome, IsTrue};
+ghost use Rattle.std.specs.Prelude.{◌≡◌, ℤ, true, is_some, IfSome, IsTrue};
 ghost use Rattle.board_items.specs.Layers.{is_within};
 ghost use Rattle.board_items.specs.Boards.{PlainBoard, name_of, is_admitted};
 ghost use Rattle.part_read.specs.OnBoard.{tested};
 ghost use Rattle.pcb_read.specs.Tracks.{track_along, is_hole, hole_through, via_at};
 
-use board_items::{Hole, Item, LayerSet, Nm, Part, Parts, What};
+use board_items::{Hole, Item, LayerSet, Nm, What};
 use drc_io::Name;
-use geo_seg::Shape;
-use part_read::{Spot, Strip, strip_shape};
-use smallvec::SmallVec;
+use part_read::{Spot, Strip, one_part, strip_shape};
 use std::alloc::Global;
 
 /// What an item has besides its place: its name, its unit, its net, and the layers of its copper.
@@ -20,15 +18,6 @@ pub(crate) struct Origin {
     pub(crate) unit: u32,
     pub(crate) net: u32,
     pub(crate) layers: LayerSet,
-}
-
-/// The list of one part.
-fn one_part(alloc: Global, layers: LayerSet, shape: Shape) -> Parts
-    ensures { result ≡ record { layers = layers; shape = shape } ∷ [] }
-{
-    let mut list = SmallVec::new(alloc);
-    list.push_reserved(Part { layers, shape });
-    Parts::of(list)
 }
 
 /// The track along a strip, unless the strip does not lie on a board.

@@ -9,25 +9,30 @@ ghost use Rattle.board_items.specs.declared.errors.BoardError.{BoardError};
 ghost use Rattle.board_items.specs.Boards.{PlainBoard};
 ghost use Rattle.pcb_read.specs.BoardText.{Says};
 
+mod added;
+mod adding;
 mod items;
 pub mod laws;
+mod lists;
 mod nets;
 mod root;
+mod sorts;
 #[cfg(test)]
 mod tests;
 mod tracks;
 
 use crate::laws::one_reading;
 use crate::root::board_of;
+pub use added::read_item;
 use board_items::{Board, BoardError};
 use sexpr_read::{TextError, parse_one};
 use std::alloc::Global;
 
 /// The board of a text of at most 33,554,432 bytes, or the first reason in the text why there is none, with its place.
 ///
-/// All nets and copper layers that the text lists are kept, and its tracks and vias. Graphics, texts, dimensions,
-/// footprints and zones are refused as `NotBuilt`, arcs as `Arc`, and other lists are passed over. The reasons are those
-/// of [`BoardError`], exactly where the board of a tree (`specs/BoardOf`) has them; want of memory alone is free.
+/// All nets and copper layers that the text lists are kept, and the items of its tracks, vias, graphics, texts, dimensions,
+/// zones and footprints (`specs/ItemsOf`); lists with other heads are passed over. The reasons are those of [`BoardError`], exactly where the board of a
+/// tree (`specs/BoardOf`) has them; want of memory alone is free.
 pub fn read_board(alloc: Global, text: &[u8]) -> Result<Board, BoardError>
     requires { length text.now ≤ 33_554_432 }
     ensures says { MatchResult result (λ board. Says text.now (Ok board)) (λ e. (e ≡ BoardError.OutOfMemory) ⊎ Says text.now (Err e)) }

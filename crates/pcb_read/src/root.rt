@@ -1,18 +1,17 @@
 //! The root of a board's text, part by part.
 
-ghost use Rattle.std.specs.Prelude.{◌≡◌, option_map, find, true, false, is_some, Ok, OnOk};
-ghost use Rattle.std.specs.List.{list_any};
+ghost use Rattle.std.specs.Prelude.{◌≡◌, option_map, find, false, OnOk};
 ghost use Rattle.sexpr_read.specs.Tree.{Tree, parts, is_list};
 ghost use Rattle.sexpr_read.specs.Views.{tree_of, trees_left};
-ghost use Rattle.board_items.specs.Boards.{PlainBoard, IsSound, name_of, is_admitted};
-ghost use Rattle.part_read.specs.Elements.{has_head};
-ghost use Rattle.part_read.specs.Nodes.{Gives, Leaves};
-ghost use Rattle.pcb_read.specs.Tracks.{track_of, via_of};
-ghost use Rattle.pcb_read.specs.BoardOf.{Reading, with_layers, has_room, with_one, items_of, not_built, with_other, with_part, with_parts, version_in, unread, board_of};
+ghost use Rattle.part_read.specs.Nodes.{Leaves};
+ghost use Rattle.pcb_read.specs.Answers.{GivesBoard, LeavesSome};
+ghost use Rattle.pcb_read.specs.BoardOf.{Reading, with_layers, with_other, SaysWith, SaysPart, SaysParts, version_in, header_in, unread, SaysBoard};
 
+use crate::adding::add_items;
+use crate::lists::read_list;
 use crate::nets::read_net;
-use crate::tracks::{track_of, via_of};
-use board_items::{Board, BoardError, Item, ItemError, LayerSet};
+use crate::sorts::{Sort, sort_of};
+use board_items::{Board, BoardError, LayerSet};
 use part_read::{first_atom, has_head, layers_listed, place};
 use sexpr_read::Node;
 use std::alloc::Global;
@@ -63,96 +62,6 @@ fn read_layers(board: &mut Board, layered: &mut bool, list: Node<'_, '_>) -> Res
     Ok(())
 }
 
-/// Whether there is room for one more item, an id and a unit number.
-fn has_room(board: &Board) -> bool
-    ensures value { result ≡ has_room board.now board.now.next_unit 1 }
-    ensures sound { IsSound board.now }
-{
-    1 <= board.left() && board.next_unit() < u32::MAX
-}
-
-/// Appends the one item of a list, as a unit of its own, unless the board is full.
-fn add_item(board: &mut Board, node: Node<'_, '_>, item: Item) -> Result<(), BoardError>
-    requires unit { item.unit ≡ board.old.next_unit }
-    requires admitted { is_some (name_of board.old 0) ≡ true → is_admitted board.old item ≡ true }
-    ensures copper { OnOk result (board.new.copper ≡ board.old.copper) }
-    ensures added { Leaves result board.new (with_one board.old (tree_of node.entry) (Ok item)) }
-{
-    if !has_room(board) {
-        return Err(BoardError::TooMany { at: place(node) });
-    }
-    match board.add(item) {
-        Ok(_) => Ok(()),
-        Err(error) => {
-            // What `add` tests has been tested here.
-            prove!(matches!(&error, ItemError::OutOfMemory));
-            Err(BoardError::OutOfMemory)
-        }
-    }
-}
-
-/// Whether it has one of the heads that are not read yet.
-#[tactic(auto, unfolding(crate::specs::BoardOf::not_built))]
-fn is_not_built(node: Node<'_, '_>) -> bool
-    ensures { result ≡ list_any (λ head. has_head head (tree_of node.entry)) not_built }
-{
-    if has_head(node, b"gr_line") {
-        return true;
-    }
-    if has_head(node, b"gr_rect") {
-        return true;
-    }
-    if has_head(node, b"gr_circle") {
-        return true;
-    }
-    if has_head(node, b"gr_poly") {
-        return true;
-    }
-    if has_head(node, b"gr_arc") {
-        return true;
-    }
-    if has_head(node, b"gr_curve") {
-        return true;
-    }
-    if has_head(node, b"bezier") {
-        return true;
-    }
-    if has_head(node, b"gr_text") {
-        return true;
-    }
-    if has_head(node, b"gr_text_box") {
-        return true;
-    }
-    if has_head(node, b"dimension") {
-        return true;
-    }
-    if has_head(node, b"footprint") {
-        return true;
-    }
-    if has_head(node, b"zone") {
-        return true;
-    }
-    false
-}
-
-fn read_track(alloc: Global, board: &mut Board, node: Node<'_, '_>) -> Result<(), BoardError>
-    ensures read { Leaves result board.new (with_one board.old (tree_of node.entry) (track_of board.old board.old.next_unit (tree_of node.entry))) }
-    ensures copper { OnOk result (board.new.copper ≡ board.old.copper) }
-{
-    let unit = board.next_unit();
-    let track = track_of(alloc, board, unit, node)?;
-    add_item(board, node, track)
-}
-
-fn read_via(alloc: Global, board: &mut Board, node: Node<'_, '_>) -> Result<(), BoardError>
-    ensures read { Leaves result board.new (with_one board.old (tree_of node.entry) (via_of board.old board.old.next_unit (tree_of node.entry))) }
-    ensures copper { OnOk result (board.new.copper ≡ board.old.copper) }
-{
-    let unit = board.next_unit();
-    let via = via_of(alloc, board, unit, node)?;
-    add_item(board, node, via)
-}
-
 /// Reads a part that gives no items; what is neither a net nor the layers is passed over.
 #[tactic(auto, unfolding(crate::specs::BoardOf::with_other))]
 fn read_other(
@@ -174,8 +83,22 @@ fn read_other(
     }
 }
 
+/// Appends the items of a list of this sort, as a unit of their own.
+fn read_items(
+    alloc: Global,
+    board: &mut Board,
+    node: Node<'_, '_>,
+    sort: Sort,
+) -> Result<(), BoardError>
+    ensures read { LeavesSome result board.new (SaysWith board.old (tree_of node.entry) sort) }
+    ensures copper { OnOk result (board.new.copper ≡ board.old.copper) }
+{
+    let unit = board.next_unit();
+    let items = read_list(alloc, board, unit, node, sort)?;
+    add_items(board, unit, items)
+}
+
 /// Reads one part of the root.
-#[tactic(auto, unfolding(crate::specs::BoardOf::with_part, crate::specs::BoardOf::items_of))]
 fn read_part(
     alloc: Global,
     board: &mut Board,
@@ -183,19 +106,12 @@ fn read_part(
     node: Node<'_, '_>,
 ) -> Result<(), BoardError>
     requires { layered.old ≡ false → board.old.copper.bits ≡ 0 }
-    ensures read { Leaves result (record { board = board.new; layered = layered.new }) (with_part (record { board = board.old; layered = layered.old }) (tree_of node.entry)) }
+    ensures read { LeavesSome result (record { board = board.new; layered = layered.new }) (SaysPart (record { board = board.old; layered = layered.old }) (tree_of node.entry)) }
     ensures unlisted { OnOk result (layered.new ≡ false → board.new.copper.bits ≡ 0) }
 {
-    if has_head(node, b"segment") {
-        read_track(alloc, board, node)
-    } else if has_head(node, b"via") {
-        read_via(alloc, board, node)
-    } else if has_head(node, b"arc") {
-        Err(BoardError::Arc { at: place(node) })
-    } else if is_not_built(node) {
-        Err(BoardError::NotBuilt { at: place(node) })
-    } else {
-        read_other(alloc, board, layered, node)
+    match sort_of(node) {
+        Some(sort) => read_items(alloc, board, node, sort),
+        None => read_other(alloc, board, layered, node),
     }
 }
 
@@ -210,22 +126,43 @@ fn count_parts(root: Node<'_, '_>) -> usize {
     count
 }
 
-/// The board of the root, or the first reason in the text why there is none.
-#[tactic(auto, unfolding(crate::specs::BoardOf::board_of))]
-pub(crate) fn board_of(alloc: Global, root: Node<'_, '_>) -> Result<Board, BoardError>
-    ensures { Gives result (board_of (tree_of root.entry)) }
+/// Whether the root is that of a board, of a version that is read.
+#[tactic(auto, unfolding(crate::specs::BoardOf::header_in))]
+fn check_header(root: Node<'_, '_>) -> Result<(), BoardError>
+    ensures { result ≡ header_in (tree_of root.entry) }
 {
     if !has_head(root, b"kicad_pcb") {
         return Err(BoardError::NotABoard { at: place(root) });
     }
-    check_version(root)?;
+    check_version(root)
+}
+
+/// Reads all parts of the root.
+fn read_parts(
+    alloc: Global,
+    board: &mut Board,
+    layered: &mut bool,
+    root: Node<'_, '_>,
+) -> Result<(), BoardError>
+    requires { layered.old ≡ false → board.old.copper.bits ≡ 0 }
+    ensures read { LeavesSome result (record { board = board.new; layered = layered.new }) (SaysParts (record { board = board.old; layered = layered.old }) (parts (tree_of root.entry))) }
+{
+    for part in root.children() {
+        read_part(alloc, board, layered, part)?;
+    }
+    Ok(())
+}
+
+/// The board of the root, or the first reason in the text why there is none.
+pub(crate) fn board_of(alloc: Global, root: Node<'_, '_>) -> Result<Board, BoardError>
+    ensures { GivesBoard result (SaysBoard (tree_of root.entry)) }
+{
+    check_header(root)?;
     let mut board = Board::new(alloc, LayerSet { bits: 0 })?;
     // Most parts are items: room for all of them is made once.
     board.reserve(count_parts(root))?;
     let mut layered = false;
-    for part in root.children() {
-        read_part(alloc, &mut board, &mut layered, part)?;
-    }
+    read_parts(alloc, &mut board, &mut layered, root)?;
     if layered {
         Ok(board)
     } else {

@@ -1,9 +1,9 @@
 //! Tracks and vias.
 
-ghost use Rattle.std.specs.Prelude.{◌≡◌, true, is_some, IfOk};
-ghost use Rattle.board_items.specs.Boards.{name_of, is_admitted};
+ghost use Rattle.std.specs.Prelude.{◌≡◌, IfOk};
 ghost use Rattle.sexpr_read.specs.Views.{tree_of};
 ghost use Rattle.part_read.specs.Nodes.{Gives};
+ghost use Rattle.part_read.specs.Ready.{IsReady};
 ghost use Rattle.pcb_read.specs.Tracks.{track_of, via_of};
 
 use crate::items::{Origin, ViaForm, track_along, via_of_form};
@@ -35,9 +35,10 @@ pub(crate) fn track_of(
     node: Node<'_, '_>,
 ) -> Result<Item, BoardError>
     ensures read { Gives result (track_of board.now unit (tree_of node.entry)) }
-    ensures unit { IfOk result (λ item. item.unit ≡ unit) }
-    ensures admitted { is_some (name_of board.now 0) ≡ true → IfOk result (λ item. is_admitted board.now item ≡ true) }
+    ensures ready { IfOk result (IsReady board.now unit) }
 {
+    // Net 0 is there on each board.
+    let _ = board.left();
     let mut found = [None; 6];
     find_elements(node, &SEGMENT, &mut found);
     let a = spot_of(node, pick(&found, 0))?;
@@ -78,9 +79,10 @@ pub(crate) fn via_of(
     node: Node<'_, '_>,
 ) -> Result<Item, BoardError>
     ensures read { Gives result (via_of board.now unit (tree_of node.entry)) }
-    ensures unit { IfOk result (λ item. item.unit ≡ unit) }
-    ensures admitted { is_some (name_of board.now 0) ≡ true → IfOk result (λ item. is_admitted board.now item ≡ true) }
+    ensures ready { IfOk result (IsReady board.now unit) }
 {
+    // Net 0 is there on each board.
+    let _ = board.left();
     let mut found = [None; 6];
     find_elements(node, &VIA, &mut found);
     let at = spot_of(node, pick(&found, 0))?;

@@ -1,8 +1,7 @@
-use Rattle.std.proofs.Common.{◌≡◌, ◌∙◌, sym, ap, None, Some, w64, rules, unwrap_or, pos, ℤ}
+use Rattle.std.proofs.Common.{◌∙◌, ap, w64, rules, ℤ}
 use mir.Val.{SFits, to_z, of_z}
-use Rattle.part_read.specs.OnBoard.{tested, is_strip, strip_shape}
 use Rattle.part_read.proofs.Shapes.{clean}
-use Rattle.pcb_read.proofs.Making.{no_drill, hole_from, no_hole_is}
+use Rattle.pcb_read.proofs.Making.{no_drill, hole_from}
 use Rattle.pcb_read.proofs.items.hole_through.Goals as goal
 
 pub returns-in_default : goal.returns-in_default

@@ -1,9 +1,7 @@
-use Rattle.std.proofs.Common.{◌≡◌, ◌∙◌, sym, ap, None, Some, w64, rules}
+use Rattle.std.proofs.Common.{w64, rules}
 use mir.Val.{SFits}
-use Rattle.part_read.specs.OnBoard.{tested, is_strip, strip_shape}
 use Rattle.part_read.proofs.Shapes.{clean}
-use Rattle.pcb_read.specs.Tracks.{track_along}
-use Rattle.pcb_read.proofs.Making.{no_track, track_from, track_admitted}
+use Rattle.pcb_read.proofs.Making.{track_from, track_admitted}
 use Rattle.pcb_read.proofs.items.track_along.Goals as goal
 
 pub returns-clause-item : goal.returns-clause-item

@@ -1,9 +1,8 @@
-use Rattle.std.proofs.Common.{◌≡◌, ◌∙◌, sym, ap, None, Some, w64, rules, unwrap_or, pos}
+use Rattle.std.proofs.Common.{◌∙◌, w64, rules}
 use mir.Val.{SFits}
-use Rattle.part_read.specs.OnBoard.{tested, is_strip, strip_shape}
 use Rattle.part_read.proofs.Shapes.{clean}
 use Rattle.pcb_read.specs.Tracks.{no_length}
-use Rattle.pcb_read.proofs.Making.{no_disc, no_hole, via_from, via_ranges, via_admitted}
+use Rattle.pcb_read.proofs.Making.{via_from, via_ranges, via_admitted}
 use Rattle.pcb_read.proofs.items.via_of_form.Goals as goal
 
 pub invariant_of-result : goal.invariant_of-result

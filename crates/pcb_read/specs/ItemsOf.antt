@@ -1,0 +1,43 @@
+-- The items that a list of this sort says, in this unit, none or many; or its refusal. Room for them is tested last: of a zone after
+-- each fill, of a footprint after all its parts.
+use Rattle.std.specs.Prelude.{◌≡◌, ℕ, nat_lt, nat_le, List, [], ◌∷◌, length, Bool, true, ◌&&◌, Result, Ok, Err}
+use Rattle.sexpr_read.specs.Tree.{Tree}
+use Rattle.board_items.specs.declared.errors.BoardError.{BoardError}
+use Rattle.board_items.specs.declared.errors.BoardError.TheVariants.{Arc as NoArc, TooMany}
+use Rattle.board_items.specs.declared.item.Item.{Item}
+use Rattle.board_items.specs.Boards.{PlainBoard}
+use Rattle.board_items.specs.Refusals.{room_of}
+use Rattle.part_read.specs.declared.graphics.Ground.{Ground}
+use Rattle.part_read.specs.Elements.{◌>>=◌, check, place}
+use Rattle.part_read.specs.Graphics.{ground_of, one_item, graphic_by, curve_by, text_by}
+use Rattle.zone_read.specs.ZoneOf.{as_it_is, zone_of}
+use Rattle.footprint_read.specs.FootprintOf.{Says as FootprintSays}
+use Rattle.pcb_read.specs.declared.sorts.Sort.{Sort}
+use Rattle.pcb_read.specs.declared.sorts.Sort.TheVariants.{Track, Via, Arc, Graphic, Curve, Text, Zone, Footprint}
+use Rattle.pcb_read.specs.Tracks.{track_of, via_of}
+
+-- there is room for these items of this unit: for each an id and a place, and the unit has a number. None need any
+abbrev pub has_room : PlainBoard → ℕ → List Item → Bool
+has_room board unit [] = true
+has_room board unit (item ∷ items) = nat_le (length (item ∷ items)) (room_of board) && nat_lt unit 4294967295
+
+-- the items of a list, if there is room for them
+abbrev pub in_room : PlainBoard → ℕ → Tree → Result (List Item) BoardError → Result (List Item) BoardError
+in_room board unit tree answer = do
+  items ← answer
+  room ← check (TooMany (place tree)) (has_room board unit items)
+  Ok items
+
+-- what is said by the ground on which a list lies
+abbrev pub on_ground : PlainBoard → Tree → (Ground → Result (List Item) BoardError) → Result (List Item) BoardError
+on_ground board tree given = ground_of board.copper tree >>= given
+
+abbrev pub SaysItems : PlainBoard → ℕ → Tree → Sort → Result (List Item) BoardError → Type 0
+SaysItems board unit tree Track answer = answer ≡ in_room board unit tree (one_item (track_of board unit tree))
+SaysItems board unit tree Via answer = answer ≡ in_room board unit tree (one_item (via_of board unit tree))
+SaysItems board unit tree Arc answer = answer ≡ Err (NoArc (place tree))
+SaysItems board unit tree (Graphic kind) answer = answer ≡ in_room board unit tree (on_ground board tree (graphic_by board unit as_it_is kind tree))
+SaysItems board unit tree Curve answer = answer ≡ on_ground board tree (curve_by tree)
+SaysItems board unit tree (Text about) answer = answer ≡ in_room board unit tree (on_ground board tree (text_by unit about tree))
+SaysItems board unit tree Zone answer = answer ≡ zone_of board unit tree
+SaysItems board unit tree Footprint answer = FootprintSays board unit tree answer

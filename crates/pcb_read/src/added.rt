@@ -1,0 +1,169 @@
+//! Lists that are added to a board, read from their own text.
+
+ghost use Rattle.std.specs.Prelude.{◌≡◌, ◌≤◌, ◌⊎◌, ◌+◌, ℕ, List, length, MatchResult, IfOk, Result, Ok, Err, Some};
+ghost use Rattle.board_items.specs.declared.errors.BoardError.{BoardError};
+ghost use Rattle.board_items.specs.declared.item.Item.{Item};
+ghost use Rattle.board_items.specs.Reasons.{board_place_of};
+ghost use Rattle.sexpr_read.specs.Reasons.{place_of};
+ghost use Rattle.sexpr_read.specs.Tree.{parts};
+ghost use Rattle.sexpr_read.specs.Views.{tree_of, trees_left};
+ghost use Rattle.part_read.specs.Elements.{place};
+ghost use Rattle.part_read.specs.Nodes.{tree_in};
+ghost use Rattle.part_read.specs.Ready.{AreReady};
+ghost use Rattle.pcb_read.specs.Answers.{GivesSome};
+ghost use Rattle.pcb_read.specs.ItemText.{further, text_further, alone, SaysList, SaysAlone, SaysText, SaysItem};
+
+use crate::laws::one_list;
+use crate::lists::read_list;
+use crate::sorts::sort_of;
+use board_items::{Board, BoardError, Item};
+use part_read::place;
+use sexpr_read::{Node, TextError, parse_all};
+use std::alloc::Global;
+
+/// The one form of a text, which must be a list.
+fn alone<'d, 't>(forms: Node<'d, 't>) -> Result<Node<'d, 't>, BoardError>
+    ensures { tree_in result ≡ alone (parts (tree_of forms.entry)) }
+{
+    let mut left = forms.children();
+    let Some(first) = left.next() else {
+        return Err(BoardError::Text(TextError::EmptyText));
+    };
+    if !first.is_list() {
+        return Err(extra(first));
+    }
+    match left.next() {
+        None => Ok(first),
+        Some(second) => Err(extra(second)),
+    }
+}
+
+/// What is too much begins here.
+fn extra(form: Node<'_, '_>) -> BoardError
+    ensures { result ≡ BoardError.Text (TextError.ExtraText (place (tree_of form.entry))) }
+{
+    BoardError::Text(TextError::ExtraText { at: place(form) })
+}
+
+/// The items of a list, whose head must be that of an item.
+fn read_form(
+    alloc: Global,
+    board: &Board,
+    unit: u32,
+    form: Node<'_, '_>,
+) -> Result<Vec<Item>, BoardError>
+    ensures items { GivesSome result (SaysList board.now unit (tree_of form.entry)) }
+    ensures ready { IfOk result (λ items. AreReady board.now unit items.items) }
+{
+    match sort_of(form) {
+        Some(sort) => read_list(alloc, board, unit, form, sort),
+        None => Err(BoardError::NotABoard { at: place(form) }),
+    }
+}
+
+/// The items of a document's one form.
+fn read_alone(
+    alloc: Global,
+    board: &Board,
+    unit: u32,
+    forms: Node<'_, '_>,
+) -> Result<Vec<Item>, BoardError>
+    ensures items { GivesSome result (SaysAlone board.now unit (alone (parts (tree_of forms.entry)))) }
+    ensures ready { IfOk result (λ items. AreReady board.now unit items.items) }
+{
+    let form = alone(forms)?;
+    read_form(alloc, board, unit, form)
+}
+
+/// What a text says that stands alone.
+fn read_text(alloc: Global, text: &[u8], board: &Board, unit: u32) -> Result<Vec<Item>, BoardError>
+    requires { length text.now ≤ 33_554_432 }
+    ensures items { GivesSome result (SaysText board.now unit text.now) }
+    ensures ready { IfOk result (λ items. AreReady board.now unit items.items) }
+{
+    match parse_all(alloc, text) {
+        Ok(doc) => read_alone(alloc, board, unit, doc.root()),
+        Err(TextError::OutOfMemory) => Err(BoardError::OutOfMemory),
+        Err(error) => Err(BoardError::Text(error)),
+    }
+}
+
+// ---- places in a longer text
+
+/// The same refusal of a text, at this place.
+fn text_at(error: TextError, at: u32) -> TextError
+    ensures { (old by : ℕ) → place_of error ≡ Some old → at ≡ old + by → result ≡ text_further by error }
+{
+    match error {
+        TextError::NotUtf8 { .. } => TextError::NotUtf8 { at },
+        TextError::CloseWithoutOpen { .. } => TextError::CloseWithoutOpen { at },
+        TextError::EndInside { .. } => TextError::EndInside { at },
+        TextError::TooDeep { .. } => TextError::TooDeep { at },
+        TextError::ExtraText { .. } => TextError::ExtraText { at },
+        TextError::EmptyText => TextError::EmptyText,
+        TextError::OutOfMemory => TextError::OutOfMemory,
+    }
+}
+
+/// The same refusal, at this place.
+fn error_at(error: BoardError, at: u32) -> BoardError
+    ensures { (old by : ℕ) → board_place_of error ≡ Some old → at ≡ old + by → result ≡ further by error }
+{
+    match error {
+        BoardError::Text(e) => BoardError::Text(text_at(e, at)),
+        BoardError::NotABoard { .. } => BoardError::NotABoard { at },
+        BoardError::Version { .. } => BoardError::Version { at },
+        BoardError::Missing { .. } => BoardError::Missing { at },
+        BoardError::BadNumber { .. } => BoardError::BadNumber { at },
+        BoardError::OutOfBoard { .. } => BoardError::OutOfBoard { at },
+        BoardError::Arc { .. } => BoardError::Arc { at },
+        BoardError::Turned { .. } => BoardError::Turned { at },
+        BoardError::PadShape { .. } => BoardError::PadShape { at },
+        BoardError::Ring { .. } => BoardError::Ring { at },
+        BoardError::UnknownNet { .. } => BoardError::UnknownNet { at },
+        BoardError::UnknownLayer { .. } => BoardError::UnknownLayer { at },
+        BoardError::ThickFill { .. } => BoardError::ThickFill { at },
+        BoardError::TooMany { .. } => BoardError::TooMany { at },
+        BoardError::OutOfMemory => BoardError::OutOfMemory,
+    }
+}
+
+/// The same refusal, so much further on. No text is so long that the sum has no room.
+fn further(error: BoardError, by: u32) -> BoardError
+    ensures { (result ≡ BoardError.OutOfMemory) ⊎ (result ≡ further by error) }
+{
+    let Some(old) = error.place() else {
+        return BoardError::OutOfMemory;
+    };
+    match old.checked_add(by) {
+        Some(at) => error_at(error, at),
+        None => BoardError::OutOfMemory,
+    }
+}
+
+/// The items of a list that is added to a board, in this unit, read from the text of that list alone; or the first reason
+/// in the text why there are none. The board takes the items.
+///
+/// The text stands at `at` in a longer one, in which places are counted. Both have at most 33,554,432 bytes. The reasons are
+/// those of [`BoardError`], exactly where the text of a list (`specs/ItemText`) has them: what is no form, or not one list
+/// alone, is refused as `Text`, a list whose head is that of no item as `NotABoard`, and `TooMany` comes also where the unit is
+/// 4,294,967,295 and there is an item. Want of memory alone is free.
+pub fn read_item(
+    alloc: Global,
+    text: &[u8],
+    at: u32,
+    board: &Board,
+    unit: u32,
+) -> Result<Vec<Item>, BoardError>
+    requires text { length text.now ≤ 33_554_432 }
+    requires at { at ≤ 33_554_432 }
+    ensures says { MatchResult result (λ items. SaysItem board.now unit text.now at (Ok items.items)) (λ e. (e ≡ BoardError.OutOfMemory) ⊎ SaysItem board.now unit text.now at (Err e)) }
+    ensures only { (answer : Result (List Item) BoardError) → SaysItem board.now unit text.now at answer → MatchResult result (λ items. answer ≡ Ok items.items) (λ e. (e ≡ BoardError.OutOfMemory) ⊎ (answer ≡ Err e)) }
+    ensures ready { IfOk result (λ items. AreReady board.now unit items.items) }
+{
+    one_list();
+    match read_text(alloc, text, board, unit) {
+        Ok(items) => Ok(items),
+        Err(error) => Err(further(error, at)),
+    }
+}
