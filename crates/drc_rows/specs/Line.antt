@@ -1,5 +1,5 @@
 -- A line that is put together before it goes out.
-use Rattle.std.specs.Prelude.{◌≡◌, ◌≤◌, ◌==◌, ℕ, List, [], ◌∷◌, ◌++◌, Option, Result, MatchResult, OnErr, if◌then◌else◌}
+use Rattle.std.specs.Prelude.{◌≡◌, ◌≤◌, ◌==◌, ℕ, List, [], ◌∷◌, ◌++◌, Option, Result, MatchResult, OnErr, if◌then◌else◌, codes}
 use Rattle.std.specs.List.{flat_map}
 use Rattle.std.specs.Io.KnownBytes.{Appends}
 use Rattle.drc_io.specs.Causes.{Rose}
@@ -29,3 +29,7 @@ escaped_byte byte =
 -- a name between quotes: a quote and a backslash have a backslash before them, line feed and carriage return are \n and \r
 abbrev pub escaped : List ℕ → List ℕ
 escaped name = flat_map escaped_byte name
+
+-- a word and a name
+abbrev pub named : List ℕ → List ℕ → List ℕ
+named word name = word ++ codes " \"" ++ escaped name ++ codes "\""

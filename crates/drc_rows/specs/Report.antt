@@ -10,11 +10,10 @@ use Rattle.board_items.specs.Boards.{PlainBoard, item_at}
 use Rattle.row_check.specs.declared.rows.Kind.{Kind}
 use Rattle.row_check.specs.declared.rows.Kind.TheVariants.{Short, Clearance}
 use Rattle.row_check.specs.declared.rows.Row.{Row}
-use Rattle.drc_rows.specs.Line.{escaped}
-
--- a word and a name
-abbrev pub named : List ℕ → List ℕ → List ℕ
-named word name = word ++ codes " \"" ++ escaped name ++ codes "\""
+use Rattle.row_check.specs.declared.picked.Source.{Source}
+use Rattle.row_check.specs.declared.picked.Source.TheVariants.{Default, Local}
+use Rattle.drc_rows.specs.Line.{named}
+use Rattle.drc_rows.specs.Notes.{note_lines, note_count}
 
 -- what an item is called: by its own name, a rule area by its title, a footprint by its reference, and a pad by its number
 -- and the reference of its footprint. No row names a note
@@ -54,10 +53,15 @@ head_text row = codes "error " ++ kind_word row.kind ++ codes " " ++ layer_text 
 abbrev pub pair_text : PlainBoard → Row → List ℕ
 pair_text board row = text_of (item_at board.items row.first) ++ codes " | " ++ text_of (item_at board.items row.second)
 
--- what was asked for and what there is
+-- what asks for a distance
+abbrev pub source_word : Source → List ℕ
+source_word Default = codes "default"
+source_word Local = codes "local"
+
+-- what was asked for, what there is, and what asks for it
 abbrev pub measures : Kind → Row → List ℕ
 measures Short row = codes "\n"
-measures Clearance row = codes " | needs " ++ mm_text row.value ++ codes " | has " ++ mm_text row.gap ++ codes " | default\n"
+measures Clearance row = codes " | needs " ++ mm_text row.value ++ codes " | has " ++ mm_text row.gap ++ codes " | " ++ source_word row.source ++ codes "\n"
 
 unfoldable pub row_line : PlainBoard → Row → List ℕ
 row_line board row = head_text row ++ pair_text board row ++ measures row.kind row
@@ -66,7 +70,14 @@ row_line board row = head_text row ++ pair_text board row ++ measures row.kind r
 unfoldable pub number_line : List ℕ → ℕ → List ℕ → List ℕ
 number_line before number after = before ++ decimal number ++ after ++ codes "\n"
 
--- the report of a board as it stands in its text: its rows, and how many they are
+-- the rows, and how many they are
+abbrev pub rows_text : PlainBoard → List Row → List ℕ
+rows_text board rows = flat_map (row_line board) rows ++ number_line (codes "rows ") (length rows) []
+
+-- the notes, and how many they are
+abbrev pub notes_text : PlainBoard → List ℕ
+notes_text board = note_lines board ++ number_line (codes "not checked ") (note_count board) []
+
+-- the report of a board as it stands in its text: its rows and its notes
 unfoldable pub report : PlainBoard → List Row → List ℕ
-report board rows =
-    number_line (codes "report ") 0 [] ++ flat_map (row_line board) rows ++ number_line (codes "rows ") (length rows) []
+report board rows = number_line (codes "report ") 0 [] ++ rows_text board rows ++ notes_text board

@@ -2,12 +2,12 @@
 
 ghost use Rattle.std.specs.Prelude.{◌≡◌, ◌++◌, ℕ, List, IsSome, codes, true};
 ghost use Rattle.board_items.specs.Boards.{item_at, is_on_board};
-ghost use Rattle.drc_rows.specs.Line.{Puts};
-ghost use Rattle.drc_rows.specs.Report.{named, title_of, item_text, text_of};
+ghost use Rattle.drc_rows.specs.Line.{Puts, named};
+ghost use Rattle.drc_rows.specs.Report.{title_of, item_text, text_of};
 
 use crate::line::Line;
 use crate::millimetres::Millimetres;
-use crate::pieces::{push_all, push_escaped};
+use crate::pieces::{push_all, push_quoted};
 use board_items::{Board, Item, What};
 use drc_io::{Failed, Name, Sink};
 
@@ -15,9 +15,7 @@ use drc_io::{Failed, Name, Sink};
 fn push_named<W: Sink>(line: &mut Line, out: &mut W, word: &[u8], name: &Name) -> Result<(), Failed>
     ensures { Puts (W.written out.old) (W.written out.new) (W.faults out.old) (W.faults out.new) line.old (named word.now name.now) line.new result }
 {
-    push_all(line, out, &[word, b" \""])?;
-    push_escaped(line, out, name.bytes())?;
-    line.push(out, b"\"")
+    push_quoted(line, out, word, name.bytes())
 }
 
 /// Puts what a pad is called into the line.

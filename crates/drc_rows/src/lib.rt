@@ -4,7 +4,9 @@
 mod items;
 mod line;
 mod millimetres;
+mod notes;
 mod pieces;
 mod report;
 
+pub use notes::{count_notes, write_notes};
 pub use report::{write_line, write_pieces, write_rows};

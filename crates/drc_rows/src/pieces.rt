@@ -2,7 +2,7 @@
 
 ghost use Rattle.std.specs.Prelude.{◌≡◌, ◌++◌, ℕ, List, [], ◌∷◌, MatchOption};
 ghost use Rattle.std.specs.List.{flat_map};
-ghost use Rattle.drc_rows.specs.Line.{Puts, escaped, escaped_byte};
+ghost use Rattle.drc_rows.specs.Line.{Puts, escaped, escaped_byte, named};
 
 use crate::line::Line;
 use drc_io::{Failed, Sink};
@@ -21,8 +21,22 @@ pub(crate) fn push_all<W: Sink>(
     Ok(())
 }
 
+/// Puts a word and a name in quotes into the line.
+pub(crate) fn push_quoted<W: Sink>(
+    line: &mut Line,
+    out: &mut W,
+    word: &[u8],
+    name: &[u8],
+) -> Result<(), Failed>
+    ensures { Puts (W.written out.old) (W.written out.new) (W.faults out.old) (W.faults out.new) line.old (named word.now name.now) line.new result }
+{
+    push_all(line, out, &[word, b" \""])?;
+    push_escaped(line, out, name)?;
+    line.push(out, b"\"")
+}
+
 /// Puts a name into the line as it stands between quotes.
-pub(crate) fn push_escaped<W: Sink>(line: &mut Line, out: &mut W, name: &[u8]) -> Result<(), Failed>
+fn push_escaped<W: Sink>(line: &mut Line, out: &mut W, name: &[u8]) -> Result<(), Failed>
     ensures { Puts (W.written out.old) (W.written out.new) (W.faults out.old) (W.faults out.new) line.old (escaped name.now) line.new result }
 {
     for byte in name {

@@ -5,7 +5,7 @@ ghost use Rattle.std.specs.List.{flat_map};
 ghost use Rattle.drc_io.specs.Sinks.{Writes};
 ghost use Rattle.row_check.specs.Rows.{HasItems};
 ghost use Rattle.drc_rows.specs.Line.{Puts};
-ghost use Rattle.drc_rows.specs.Report.{kind_word, head_text, pair_text, measures, row_line, number_line};
+ghost use Rattle.drc_rows.specs.Report.{kind_word, source_word, head_text, pair_text, measures, row_line, number_line};
 
 use crate::items::push_item_of;
 use crate::line::Line;
@@ -14,7 +14,7 @@ use crate::pieces::push_all;
 use board_items::{Board, layer_name};
 use drc_io::{Failed, Sink};
 use itoa::Buffer;
-use row_check::{Kind, Row};
+use row_check::{Kind, Row, Source};
 
 /// Puts the kind and the layer of a row into the line.
 fn push_head<W: Sink>(line: &mut Line, out: &mut W, row: &Row) -> Result<(), Failed>
@@ -34,7 +34,16 @@ fn kind_word(kind: Kind) -> &'static [u8]
     }
 }
 
-/// Puts what was asked for and what there is into the line.
+fn source_word(source: Source) -> &'static [u8]
+    ensures { result.now ≡ source_word source }
+{
+    match source {
+        Source::Default => b"default",
+        Source::Local => b"local",
+    }
+}
+
+/// Puts what was asked for, what there is and what asks for it into the line.
 fn push_measures<W: Sink>(line: &mut Line, out: &mut W, row: &Row) -> Result<(), Failed>
     ensures { Puts (W.written out.old) (W.written out.new) (W.faults out.old) (W.faults out.new) line.old (measures row.now.kind row.now) line.new result }
 {
@@ -51,7 +60,9 @@ fn push_measures<W: Sink>(line: &mut Line, out: &mut W, row: &Row) -> Result<(),
                     needs.as_bytes(),
                     b" | has ",
                     has.as_bytes(),
-                    b" | default\n",
+                    b" | ",
+                    source_word(row.source()),
+                    b"\n",
                 ],
             )
         }

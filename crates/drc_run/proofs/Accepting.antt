@@ -1,19 +1,18 @@
 -- From the texts one by one to the output of all.
-use Rattle.std.proofs.Common.{◌≡◌, ◌⊎◌, ℕ, ◌+◌, ◌<◌, ◌≤◌, List, [], ◌∷◌, ◌++◌, length, Option, Some, None, Result, Ok, Err, IfErr, MatchResult, inl, inr, refl, sym, ap, subst, ◌∙◌, arith}
-use Rattle.std.proofs.Common.{Bor}
+use Rattle.std.proofs.Common.{◌≡◌, ℕ, ◌+◌, ◌<◌, ◌≤◌, List, [], ◌∷◌, length, Option, Some, None, Result, Ok, Err, IfErr, MatchResult, inl, inr, refl, sym, subst, arith}
 use Rattle.std.specs.Prelude.{replicate}
 use Rattle.std.proofs.Math.ListN.{length-replicate}
 use Rattle.drc_io.specs.Causes.{Rose}
 use Rattle.drc_io.specs.Files.{IsLonger, IsWhole, HasMore, file_of}
 use Rattle.board_items.specs.Boards.{PlainBoard}
-use Rattle.net_class.specs.Classes.{PlainClasses, plain_classes}
+use Rattle.net_class.specs.Classes.{PlainClasses}
 use Rattle.drc_run.specs.declared.texts.Which.{Which}
 use Rattle.drc_run.specs.declared.texts.Which.TheVariants.{Board, Project}
 use Rattle.drc_run.specs.declared.texts.Stop.{Stop}
 use Rattle.drc_run.specs.declared.texts.Stop.TheVariants.{Refused, Unread, OutOfMemory}
 use Rattle.drc_run.specs.Words.{Reading}
-use Rattle.drc_run.specs.Texts.{Named, optional, texts_of, a_board, a_project, Said, accepted, refused, at_place, ReaderSays, TextSays, longer, read, too_long}
-use Rattle.drc_run.specs.Output.{Output, FileSays, IsReached, ReadFails, IsOutputOf, IsOutputFor, HasReadFault, stopped, reported, refusal, IsReportOf}
+use Rattle.drc_run.specs.Texts.{Named, optional, texts_of, a_board, a_project, Said, accepted, refused, at_place, ReaderSays, longer, read, too_long}
+use Rattle.drc_run.specs.Output.{Output, FileSays, IsReached, IsOutputFor, HasReadFault, stopped, reported, IsReportOf}
 use Rattle.drc_run.specs.Refusing.{reason, StopsReading, StopsText, StopsTexts, GivesClasses, StopsProject, AreChecked, IsLineOf}
 
 module _ (told : Option (List (List ℕ × List ℕ))) where

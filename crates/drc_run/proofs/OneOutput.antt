@@ -1,5 +1,5 @@
 -- The words and the files have one output.
-use Rattle.std.proofs.Common.{◌≡◌, ◌≤◌, ℕ, ◌<◌, List, [], ◌∷◌, ◌++◌, length, Option, Some, None, Result, Ok, Err, sym, ap, subst, ◌∙◌, refl, arith}
+use Rattle.std.proofs.Common.{◌≡◌, ℕ, List, [], ◌∷◌, ◌++◌, Option, Some, None, Result, Ok, Err, sym, ap, subst, ◌∙◌, refl, arith}
 use Rattle.board_items.specs.declared.errors.BoardError.{BoardError}
 use Rattle.board_items.specs.Boards.{PlainBoard}
 use Rattle.pcb_read.specs.BoardText.{Says}
@@ -14,7 +14,7 @@ use Rattle.board_items.specs.Reasons.{board_reason_of, board_place_of}
 use Rattle.drc_run.specs.declared.texts.Which.{Which}
 use Rattle.drc_run.specs.declared.texts.Which.TheVariants.{Board, Project}
 use Rattle.drc_run.specs.Words.{Reading}
-use Rattle.drc_run.specs.Texts.{Named, texts_of, Value, a_board, a_project, Said, accepted, refused, at_place, IsWritten, ReaderSays, TextSays, longer, read, too_long}
+use Rattle.drc_run.specs.Texts.{Named, texts_of, Value, a_board, a_project, Said, accepted, refused, at_place, IsWritten, ReaderSays, TextSays, longer, read}
 use Rattle.drc_run.specs.Output.{Output, IsReportOf, FileSays, AreAccepted, IsReached, IsReported, IsOutputOf, IsOutputFor, stopped, reported, refusal, status_of}
 use Rattle.drc_run.proofs.OneProject.{one_project}
 

@@ -1,6 +1,6 @@
 -- The text of a project says one thing.
-use Rattle.std.proofs.Common.{◌≡◌, ◌⊎◌, ℕ, List, Result, Ok, Err, inl, inr, refl, sym, ap, ◌∙◌}
-use Rattle.json_exact.specs.Refusals.{depth_limit, IsRefused}
+use Rattle.std.proofs.Common.{◌≡◌, ◌⊎◌, ℕ, List, Result, Err, inl, inr, sym, ap, ◌∙◌}
+use Rattle.json_exact.specs.Refusals.{depth_limit}
 use Rattle.json_exact.specs.declared.error.JsonError.{JsonError}
 use Rattle.json_exact.specs.declared.error.JsonError.TheVariants.{OutOfMemory as NoMemoryForText}
 use Rattle.json_exact.proofs.OneValue.{one_value}

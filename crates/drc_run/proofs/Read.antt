@@ -1,6 +1,6 @@
 -- What `clap` answers is the reading of the words.
-use Rattle.std.proofs.Common.{◌≡◌, ◌⊎◌, inl, inr, ℕ, List, [], ◌∷◌, Option, None, true, ap, sym, refl, ◌∙◌, codes, map}
-use Rattle.clap.specs.Words.{App, Row, Kinds, IsAmong, fault_of, is_simple, is_simple_and_free, first_of, matches_of}
+use Rattle.std.proofs.Common.{◌≡◌, ◌⊎◌, inl, inr, ℕ, List, [], ◌∷◌, Option, None, true, ap, sym, refl, ◌∙◌, codes}
+use Rattle.clap.specs.Words.{Row, Kinds, IsAmong, fault_of, is_simple, is_simple_and_free, first_of, matches_of}
 use Rattle.clap.specs.declared.error.kind.ErrorKind.{ErrorKind}
 use Rattle.clap.specs.declared.error.kind.ErrorKind.TheVariants.{OutOfMemory}
 use Rattle.clap.proofs.OnLiterals.{clap_on_literals}

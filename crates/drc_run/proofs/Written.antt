@@ -1,25 +1,12 @@
 -- How a run ends once its last text was written, or broke off.
-use Rattle.std.proofs.Common.{◌≡◌, ◌⊎◌, ℕ, ◌+◌, ◌<◌, ◌≤◌, List, [], ◌∷◌, length, Option, Some, None, Result, Ok, Err, MatchResult, inl, inr, refl, sym, ap, subst, ◌∙◌, arith}
-use Rattle.std.specs.Prelude.{replicate}
-use Rattle.std.proofs.Math.ListN.{length-replicate}
+use Rattle.std.proofs.Common.{◌≡◌, ℕ, List, [], ◌∷◌, Option, Result, Ok, Err, MatchResult, inl, inr, refl, sym, subst, arith}
 use Rattle.drc_io.specs.declared.Failed.{Failed}
-use Rattle.drc_io.specs.Causes.{Rose}
-use Rattle.drc_io.specs.Files.{IsLonger, IsWhole, HasMore, file_of}
 use Rattle.drc_io.specs.Sinks.{Writes}
-use Rattle.board_items.specs.declared.errors.BoardError.{BoardError}
-use Rattle.board_items.specs.declared.errors.BoardError.TheVariants.{OutOfMemory as WantOfMemory}
-use Rattle.board_items.specs.Boards.{PlainBoard}
-use Rattle.pcb_read.specs.BoardText.{Says}
 use Rattle.row_check.specs.declared.rows.Row.{Row}
-use Rattle.row_check.specs.Rows.{AreRows}
-use Rattle.drc_rows.specs.Report.{report}
-use Rattle.board_items.specs.Reasons.{board_reason_of, board_place_of}
 use Rattle.drc_run.specs.declared.status.Status.{Status}
 use Rattle.drc_run.specs.declared.status.Status.TheVariants.{Clean, Rows, Usage, Refused, ReadFault, WriteFault, OutOfMemory}
 use Rattle.drc_run.specs.declared.texts.Which.{Which}
-use Rattle.drc_run.specs.declared.texts.Which.TheVariants.{Board}
-use Rattle.drc_run.specs.Texts.{Named, a_board, Said, refused, IsWritten, TextSays, longer, read, too_long}
-use Rattle.drc_run.specs.Output.{Output, FileSays, IsReached, IsOutputOf, IsOutputFor, stopped, reported, refusal, cannot_read, status_of, HasReadFault}
+use Rattle.drc_run.specs.Output.{Output, cannot_read, status_of}
 use Rattle.drc_run.specs.Endings.{Whole, Front, Ends, number_of}
 
 -- an output was written, and then the status is a given one

@@ -1,5 +1,4 @@
 -- The files of a reading, as the program holds them.
-use Rattle.std.specs.Prelude.{Option}
 use Rattle.std.specs.Option.{option_map}
 use Rattle.drc_run.specs.declared.words.Names.{Names}
 use Rattle.drc_run.specs.Words.{Reading}

@@ -1,15 +1,14 @@
 -- What the parts of a run find, and what they write.
-use Rattle.std.specs.Prelude.{◌≡◌, ℕ, ◌≤◌, List, [], ◌∷◌, ◌++◌, length, codes, Option, None, Some}
+use Rattle.std.specs.Prelude.{◌≡◌, ℕ, List, ◌++◌, codes, Option, None, Some}
 use Rattle.std.proofs.Common.{Bor}
 use Rattle.drc_io.specs.Causes.{Rose}
-use Rattle.drc_io.specs.Files.{IsWhole}
 use Rattle.board_items.specs.Boards.{PlainBoard}
 use Rattle.net_class.specs.Classes.{PlainClasses, plain_classes}
 use Rattle.drc_run.specs.declared.texts.Which.{Which}
-use Rattle.drc_run.specs.declared.texts.Which.TheVariants.{Board, Project}
+use Rattle.drc_run.specs.declared.texts.Which.TheVariants.{Project}
 use Rattle.drc_run.specs.declared.texts.Stop.{Stop}
 use Rattle.drc_run.specs.declared.texts.Stop.TheVariants.{Refused, Unread, OutOfMemory}
-use Rattle.drc_run.specs.Texts.{Named, Value, a_board, a_project, accepted, refused, at_place, ReaderSays}
+use Rattle.drc_run.specs.Texts.{Named, Value, a_project, accepted, refused, at_place, ReaderSays}
 use Rattle.drc_run.specs.Output.{Output, refusal, FileSays, AreAccepted, IsReached, ReadFails, IsReportOf, IsReported}
 
 -- the name and the number of a reason, as they are written

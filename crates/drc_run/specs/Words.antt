@@ -1,6 +1,5 @@
 -- What the words of the command line say: what `clap` makes of them, by the program's command.
 use Rattle.std.specs.Prelude.{ℕ, List, [], ◌∷◌, Option, None, Some, true, map, codes}
-use Rattle.std.specs.Option.{option_map}
 use Rattle.std.proofs.Common.{Bor}
 use Rattle.clap.specs.Words.{App, Rule, Row, Kinds, new_app, new_rule, with_rule, fault_of, matches_of, first_of}
 use Rattle.clap.specs.Simple.{Shape, on_top}

@@ -6,7 +6,7 @@ use Rattle.board_items.specs.declared.item.Item.{Item}
 use Rattle.board_items.specs.Boards.{PlainBoard, item_at}
 use Rattle.net_class.specs.Classes.{PlainClasses}
 use Rattle.row_check.specs.declared.rows.Row.{Row}
-use Rattle.row_check.specs.Defaults.{asked}
+use Rattle.row_check.specs.Deciding.{picks}
 use Rattle.row_check.specs.Rows.{IsRow, Before}
 use Rattle.row_check.specs.RowsBelow.{IsBelow, AreRowsBelow}
 use Rattle.row_check.specs.Violations.{IsViolation}
@@ -112,17 +112,17 @@ rows_more classes board i j rows row is first second once r = record {
 
 -- what the items of a pair break
 module _ (classes : PlainClasses) (board : PlainBoard) (i j : ℕ) (a b : Item) (first : item_at board.items i ≡ Some a) (second : item_at board.items j ≡ Some b) where
-  its_violation : (row : Row) → IsRow classes board row → row.first ≡ i → row.second ≡ j → IsViolation board.copper (asked classes board a b) a b row
+  its_violation : (row : Row) → IsRow classes board row → row.first ≡ i → row.second ≡ j → IsViolation board.copper (picks classes board a b) a b row
   its_violation row is p q =
       let same : is.a ≡ a = some_once (sym is.first ∙ (ap (item_at board.items) p ∙ first)) in
       let other : is.b ≡ b = some_once (sym is.second ∙ (ap (item_at board.items) q ∙ second)) in
-      subst (λ (x : Item). IsViolation board.copper (asked classes board x b) x b row) same (subst (λ (y : Item). IsViolation board.copper (asked classes board is.a y) is.a y row) other is.violation)
+      subst (λ (x : Item). IsViolation board.copper (picks classes board x b) x b row) same (subst (λ (y : Item). IsViolation board.copper (picks classes board is.a y) is.a y row) other is.violation)
     where
       some_once : {x y : Item} → Some x ≡ Some y → x ≡ y
       some_once e = cc
 
-  pub rows_with : (rows : List Row) (row : Row) → i < j → IsViolation board.copper (asked classes board a b) a b row × (row.first ≡ i) × (row.second ≡ j)
-      → ((other : Row) → other.first ≡ i → other.second ≡ j → IsViolation board.copper (asked classes board a b) a b other → Some row ≡ Some other)
+  pub rows_with : (rows : List Row) (row : Row) → i < j → IsViolation board.copper (picks classes board a b) a b row × (row.first ≡ i) × (row.second ≡ j)
+      → ((other : Row) → other.first ≡ i → other.second ≡ j → IsViolation board.copper (picks classes board a b) a b other → Some row ≡ Some other)
       → AreRowsBelow classes board i j rows → AreRowsBelow classes board i (j + 1) (rows ++ row ∷ [])
   rows_with rows row lt found only r =
       rows_more classes board i j rows row is found.1 found.2 (λ other o p q. let same = only other p q (its_violation other o p q) in cc) r
@@ -130,6 +130,6 @@ module _ (classes : PlainClasses) (board : PlainBoard) (i j : ℕ) (a b : Item) 
       is : IsRow classes board row
       is = record { a = a; b = b; first = ap (item_at board.items) found.1 ∙ first; second = ap (item_at board.items) found.2 ∙ second; ordered = omega (arith, found.1, found.2); violation = found.0 }
 
-  pub rows_without : (rows : List Row) → ((other : Row) → other.first ≡ i → other.second ≡ j → IsViolation board.copper (asked classes board a b) a b other → None ≡ Some other)
+  pub rows_without : (rows : List Row) → ((other : Row) → other.first ≡ i → other.second ≡ j → IsViolation board.copper (picks classes board a b) a b other → None ≡ Some other)
       → AreRowsBelow classes board i j rows → AreRowsBelow classes board i (j + 1) rows
   rows_without rows only r = rows_skip classes board i j rows (λ other o p q. let same = only other p q (its_violation other o p q) in cc) r

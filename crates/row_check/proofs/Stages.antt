@@ -1,12 +1,13 @@
 -- How far the rows of a board are found.
-use Rattle.std.proofs.Common.{◌≡◌, ℕ, ℤ, ◌+◌, ◌<◌, List, [], ◌∷◌, ◌++◌, Some, None, sym, ap, subst, ◌∙◌, arith}
+use Rattle.std.proofs.Common.{◌≡◌, ℕ, ◌+◌, ◌<◌, List, [], ◌∷◌, ◌++◌, Some, None, sym, ap, subst, ◌∙◌, arith}
 use Rattle.board_items.specs.declared.layers.LayerSet.{LayerSet}
 use Rattle.board_items.specs.declared.item.Item.{Item}
 use Rattle.board_items.specs.Boards.{PlainBoard, item_at}
 use Rattle.net_class.specs.Classes.{PlainClasses}
 use Rattle.row_check.specs.declared.distance.Distance.{Distance}
 use Rattle.row_check.specs.declared.rows.Row.{Row}
-use Rattle.row_check.specs.Defaults.{class_clearance, asked}
+use Rattle.row_check.specs.Defaults.{class_clearance}
+use Rattle.row_check.specs.Deciding.{Pick, pair_pick}
 use Rattle.row_check.specs.Found.{clearances_of, distances}
 use Rattle.row_check.specs.RowsBelow.{AreRowsBelow, AreFrom}
 use Rattle.row_check.specs.Violations.{IsViolation}
@@ -72,20 +73,20 @@ module _ (classes : PlainClasses) (board : PlainBoard) (rows : List Row) where
     so_far = rows_along classes board first u.id second rows (next_after u.id board.items (second, b) rest from) (none_between u.id board.items (second, b) rest from) u.so_far
 
     -- one pair more, with its row or without one
-    pub upto_with : (copper : LayerSet) → copper ≡ board.copper → (v : ℤ) → v ≡ asked classes board a b → (row : Row) → IsViolation copper v a b row × (row.first ≡ first) × (row.second ≡ second)
-        → ((other : Row) → other.first ≡ first → other.second ≡ second → IsViolation copper v a b other → Some row ≡ Some other) → AreRowsUpTo classes board first rest (rows ++ row ∷ [])
-    upto_with copper e v f row is only = record {
+    pub upto_with : (copper : LayerSet) → copper ≡ board.copper → (pick : Pick) → pick ≡ pair_pick classes board a b → (row : Row) → IsViolation copper (λ layer. pick) a b row × (row.first ≡ first) × (row.second ≡ second)
+        → ((other : Row) → other.first ≡ first → other.second ≡ second → IsViolation copper (λ layer. pick) a b other → Some row ≡ Some other) → AreRowsUpTo classes board first rest (rows ++ row ∷ [])
+    upto_with copper e pick f row is only = record {
       id = second + 1;
       after = let lt = later in omega arith;
       from = from_next u.id board.items (second, b) rest from;
-      so_far = rows_with classes board first second a b is_first found rows row later (subst (λ (n : ℤ). IsViolation board.copper n a b row × (row.first ≡ first) × (row.second ≡ second)) f (subst (λ (c : LayerSet). IsViolation c v a b row × (row.first ≡ first) × (row.second ≡ second)) e is))
-          (λ other p q h. only other p q (subst (λ (c : LayerSet). IsViolation c v a b other) (sym e) (subst (λ (n : ℤ). IsViolation board.copper n a b other) (sym f) h))) so_far;
+      so_far = rows_with classes board first second a b is_first found rows row later (subst (λ (n : Pick). IsViolation board.copper (λ layer. n) a b row × (row.first ≡ first) × (row.second ≡ second)) f (subst (λ (c : LayerSet). IsViolation c (λ layer. pick) a b row × (row.first ≡ first) × (row.second ≡ second)) e is))
+          (λ other p q h. only other p q (subst (λ (c : LayerSet). IsViolation c (λ layer. pick) a b other) (sym e) (subst (λ (n : Pick). IsViolation board.copper (λ layer. n) a b other) (sym f) h))) so_far;
     }
 
-    pub upto_without : (copper : LayerSet) → copper ≡ board.copper → (v : ℤ) → v ≡ asked classes board a b → ((other : Row) → other.first ≡ first → other.second ≡ second → IsViolation copper v a b other → None ≡ Some other) → AreRowsUpTo classes board first rest rows
-    upto_without copper e v f only = record {
+    pub upto_without : (copper : LayerSet) → copper ≡ board.copper → (pick : Pick) → pick ≡ pair_pick classes board a b → ((other : Row) → other.first ≡ first → other.second ≡ second → IsViolation copper (λ layer. pick) a b other → None ≡ Some other) → AreRowsUpTo classes board first rest rows
+    upto_without copper e pick f only = record {
       id = second + 1;
       after = let lt = later in omega arith;
       from = from_next u.id board.items (second, b) rest from;
-      so_far = rows_without classes board first second a b is_first found rows (λ other p q h. only other p q (subst (λ (c : LayerSet). IsViolation c v a b other) (sym e) (subst (λ (n : ℤ). IsViolation board.copper n a b other) (sym f) h))) so_far;
+      so_far = rows_without classes board first second a b is_first found rows (λ other p q h. only other p q (subst (λ (c : LayerSet). IsViolation c (λ layer. pick) a b other) (sym e) (subst (λ (n : Pick). IsViolation board.copper (λ layer. n) a b other) (sym f) h))) so_far;
     }

@@ -19,6 +19,6 @@ abbrev pub class_clearance : PlainClasses → PlainBoard → Item → ℤ
 class_clearance classes board item = (class_of_net classes board item.net).clearance
 
 -- the greatest of both items' class clearances and the least clearance of the board, in nanometres
-unfoldable pub asked : PlainClasses → PlainBoard → Item → Item → ℤ
-asked classes board a b =
+unfoldable pub default_clearance : PlainClasses → PlainBoard → Item → Item → ℤ
+default_clearance classes board a b =
     int_max (int_max (class_clearance classes board a) (class_clearance classes board b)) classes.mins.min_clearance

@@ -7,17 +7,17 @@ use Rattle.row_check.specs.declared.rows.Row.{Row}
 use Rattle.row_check.specs.declared.rows.Kind.{Kind}
 use Rattle.row_check.specs.declared.rows.Kind.TheVariants.{Short, Clearance}
 use Rattle.net_class.specs.Classes.{PlainClasses}
-use Rattle.row_check.specs.Defaults.{asked}
+use Rattle.row_check.specs.Deciding.{picks}
 use Rattle.row_check.specs.Violations.{IsViolation}
 
--- the row says what two items of the board break, the one with the lesser id first, where the default of the pair is asked for
+-- the row says what two items of the board break, the one with the lesser id first, under the decision on the pair
 pub record IsRow (classes : PlainClasses) (board : PlainBoard) (row : Row) : Type 0 where
   pub a : Item
   pub b : Item
   pub first : item_at board.items row.first ≡ Some a
   pub second : item_at board.items row.second ≡ Some b
   pub ordered : row.first < row.second
-  pub violation : IsViolation board.copper (asked classes board a b) a b row
+  pub violation : IsViolation board.copper (picks classes board a b) a b row
 
 -- the kinds in their order
 abbrev pub kind_number : Kind → ℕ

@@ -1,15 +1,17 @@
--- What two items break: the short and the clearance of KiCad's board rules. Only items whose nets differ are compared; a
--- short needs two nets that are there, and where there is a short there is no row for the clearance. So it is said for tracks,
--- vias and fills; what graphics and pads are spared, and clearances that an item has of its own, come with their readers.
--- The clearance v is what is asked for between the two, in nanometres; where it is 0 nothing has to be kept.
-use Rattle.std.specs.Prelude.{◌≡◌, ◌≢◌, ℕ, ℤ, pos, ◌<◌, IsTrue, ◌⊎◌}
+-- What two items break: the short and the clearance of KiCad's board rules. Only pairs that are compared break anything; a short
+-- needs two nets that are there, and where there is a short there is no row for the clearance. What has to be kept is decided for
+-- each layer, in nanometres; where that is 0 nothing has to be kept.
+use Rattle.std.specs.Prelude.{◌≡◌, ◌≢◌, ℕ, pos, ◌<◌, IsTrue, ◌⊎◌}
 use Rattle.geo_seg.specs.Distances.{IsGap}
 use Rattle.board_items.specs.declared.layers.LayerSet.{LayerSet}
 use Rattle.board_items.specs.declared.item.Item.{Item}
 use Rattle.board_items.specs.Layers.{has_layer}
 use Rattle.row_check.specs.declared.rows.Row.{Row}
 use Rattle.row_check.specs.declared.rows.Kind.TheVariants.{Short, Clearance}
+use Rattle.row_check.specs.declared.picked.Source.TheVariants.{Default}
 use Rattle.board_items.specs.Copper.{MeetOn, KeepOn}
+use Rattle.row_check.specs.Compared.{is_compared}
+use Rattle.row_check.specs.Deciding.{Pick}
 
 -- the layer is one of the copper layers, of which a board has at most 32
 pub record IsAmong (copper : LayerSet) (layer : ℕ) : Type 0 where
@@ -22,15 +24,15 @@ pub record IsFirstLayer (copper : LayerSet) (P : ℕ → Type 0) (layer : ℕ) :
   pub holds : P layer
   pub none_before : (earlier : ℕ) → earlier < layer → IsAmong copper earlier → ¬ (P earlier)
 
--- both nets are there, and they differ
+-- the pair is compared, and both are on nets
 pub record CanShort (a b : Item) : Type 0 where
-  pub differ : a.net ≢ b.net
+  pub compared : IsTrue (is_compared a b)
   pub first : a.net ≢ 0
   pub second : b.net ≢ 0
 
 -- copper of two nets meets on some layer
 pub record DoShort (copper : LayerSet) (a b : Item) : Type 0 where
-  pub nets : CanShort a b
+  pub can : CanShort a b
   pub layer : ℕ
   pub among : IsAmong copper layer
   pub meet : MeetOn layer a b
@@ -38,20 +40,23 @@ pub record DoShort (copper : LayerSet) (a b : Item) : Type 0 where
 -- the row says a short, on the first layer on which the copper meets
 pub record IsShort (copper : LayerSet) (a b : Item) (row : Row) : Type 0 where
   pub kind : row.kind ≡ Short
-  pub nets : CanShort a b
+  pub can : CanShort a b
   pub where_first : IsFirstLayer copper (λ layer. MeetOn layer a b) row.layer
   pub value : row.value ≡ pos 0
   pub gap : row.gap ≡ pos 0
+  pub source : row.source ≡ Default
 
--- the clearance is not kept and there is no short; the row says the first layer on which it is not kept, and the gap there
-pub record IsTooNear (copper : LayerSet) (v : ℤ) (a b : Item) (row : Row) : Type 0 where
+-- the pair is compared, has no short, and does not keep what was decided; the row says the first layer on which it does not, what it
+-- had to keep there, the gap there, and what asked for it
+pub record IsTooNear (copper : LayerSet) (pick : ℕ → Pick) (a b : Item) (row : Row) : Type 0 where
   pub kind : row.kind ≡ Clearance
-  pub nets : a.net ≢ b.net
+  pub compared : IsTrue (is_compared a b)
   pub no_short : ¬ (DoShort copper a b)
-  pub value : row.value ≡ v
-  pub where_first : IsFirstLayer copper (λ layer. ¬ (KeepOn layer a b v)) row.layer
-  pub gap : IsGap (KeepOn row.layer a b) v row.gap
+  pub where_first : IsFirstLayer copper (λ layer. ¬ (KeepOn layer a b (pick layer).least)) row.layer
+  pub value : row.value ≡ (pick row.layer).least
+  pub gap : IsGap (KeepOn row.layer a b) (pick row.layer).least row.gap
+  pub source : row.source ≡ (pick row.layer).source
 
--- on a board with these copper layers, where the clearance v is asked for, the row says what the two items break
-abbrev pub IsViolation : LayerSet → ℤ → Item → Item → Row → Type 0
-IsViolation copper v a b row = IsShort copper a b row ⊎ IsTooNear copper v a b row
+-- on a board with these copper layers, where this is decided, the row says what the two items break
+abbrev pub IsViolation : LayerSet → (ℕ → Pick) → Item → Item → Row → Type 0
+IsViolation copper pick a b row = IsShort copper a b row ⊎ IsTooNear copper pick a b row

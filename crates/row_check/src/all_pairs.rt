@@ -8,7 +8,7 @@ ghost use Rattle.row_check.specs.Found.{clearances_of, distances};
 ghost use Rattle.row_check.specs.Rows.{AreRows};
 ghost use Rattle.row_check.specs.RowsBelow.{AreRowsBelow, AreFrom};
 
-use crate::defaults::{asked_between, clearances_of};
+use crate::defaults::{clearances_of, pick_between};
 use crate::distance::Distance;
 use crate::pair::row_of;
 use crate::rows::Row;
@@ -18,11 +18,14 @@ use std::alloc::{AllocError, Global};
 
 /// All rows of the board, by the first id, then by the second.
 ///
-/// Two items of different nets have a row where their copper is nearer than the clearance on some layer. It is a short
+/// Two items that are compared have a row where their copper is nearer than the clearance on some layer. It is a short
 /// where both nets are there (net 0 is no net) and the copper meets, also by touching; else it is a clearance, with the
-/// gap on the first layer that breaks it. The clearance is the greatest of those of both items' classes and of the
-/// board's least one, and where that is 0 nothing has to be kept. An item has the class of its net's name, and with no
-/// net Default. The call fails only where memory runs out.
+/// gap on the first layer that breaks it. Not compared are two items on one net or on none, two graphics, a graphic and a
+/// pad of one footprint, and two of its pads with one number that is not empty.
+///
+/// The clearance is the greater of those that the items have of their own, or else the greatest of those of their classes;
+/// each is raised to the board's least one, and where it is 0 nothing has to be kept. An item has the class of its net's
+/// name, and with no net Default. The call fails only where memory runs out.
 pub fn rows_of(alloc: Global, board: &Board, classes: &Classes) -> Result<Vec<Row>, AllocError>
     ensures { IfOk result (λ rows. AreRows classes.now board.now rows.items) }
 {
@@ -76,8 +79,8 @@ fn push_rows(
             break;
         };
         left = later;
-        let asked = asked_between(classes, own.clearance, *clearance);
-        if let Some(row) = row_of(copper, asked, own.first, own.item, second, other) {
+        let picked = pick_between(classes, own.item, own.clearance, other, *clearance);
+        if let Some(row) = row_of(copper, picked, own.first, own.item, second, other) {
             rows.push(row)?;
         }
     }

@@ -4,11 +4,14 @@
 #![tactic(auto)]
 
 mod all_pairs;
+mod compared;
 mod defaults;
 mod distance;
 pub mod laws;
 mod pair;
+mod picked;
 mod rows;
 
 pub use all_pairs::rows_of;
+pub use picked::Source;
 pub use rows::{Kind, Row};

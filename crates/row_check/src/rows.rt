@@ -3,7 +3,9 @@
 ghost use Rattle.std.specs.Prelude.{◌≡◌, ◌<◌, pos};
 ghost use Rattle.drc_io.specs.Lengths.{IsLength};
 ghost use Rattle.row_check.specs.declared.rows.Kind.TheVariants.{Short, Clearance};
+ghost use Rattle.row_check.specs.declared.picked.Source.TheVariants.{Default};
 
+use crate::picked::{Picked, Source};
 use board_items::Nm;
 use std::marker::Model;
 
@@ -25,6 +27,7 @@ pub struct Row {
     layer: u32,
     value: Nm,
     gap: Nm,
+    source: Source,
 }
 
 impl Model for Row {
@@ -32,11 +35,11 @@ impl Model for Row {
 
     ghost Value = { PlainRow };
 
-    ghost view = { λ r. record { first = r.first; second = r.second; kind = r.kind; layer = r.layer; value = r.value; gap = r.gap } };
+    ghost view = { λ r. record { first = r.first; second = r.second; kind = r.kind; layer = r.layer; value = r.value; gap = r.gap; source = r.source } };
 
-    ghost invariant = { λ r. HasRanges (record { first = r.first; second = r.second; kind = r.kind; layer = r.layer; value = r.value; gap = r.gap }) };
+    ghost invariant = { λ r. HasRanges (record { first = r.first; second = r.second; kind = r.kind; layer = r.layer; value = r.value; gap = r.gap; source = r.source }) };
 
-    ghost inverse = { λ p. record { first = p.first; second = p.second; kind = p.kind; layer = p.layer; value = p.value; gap = p.gap } };
+    ghost inverse = { λ p. record { first = p.first; second = p.second; kind = p.kind; layer = p.layer; value = p.value; gap = p.gap; source = p.source } };
 }
 
 impl Row {
@@ -44,7 +47,7 @@ impl Row {
     pub(crate) fn short(first: u32, second: u32, layer: u32) -> Row
         requires ordered { first < second }
         requires layer { layer < 32 }
-        ensures { result ≡ record { first = first; second = second; kind = Short; layer = layer; value = pos 0; gap = pos 0 } }
+        ensures { result ≡ record { first = first; second = second; kind = Short; layer = layer; value = pos 0; gap = pos 0; source = Default } }
     {
         Row {
             first,
@@ -53,24 +56,25 @@ impl Row {
             layer,
             value: 0,
             gap: 0,
+            source: Source::Default,
         }
     }
 
-    /// The row of a clearance of `value` that is not kept.
-    pub(crate) fn clearance(first: u32, second: u32, layer: u32, value: Nm, gap: Nm) -> Row
+    /// The row of a clearance that is not kept.
+    pub(crate) fn clearance(first: u32, second: u32, layer: u32, picked: Picked, gap: Nm) -> Row
         requires ordered { first < second }
         requires layer { layer < 32 }
-        requires value { IsLength value }
         requires gap { IsLength gap }
-        ensures { result ≡ record { first = first; second = second; kind = Clearance; layer = layer; value = value; gap = gap } }
+        ensures { result ≡ record { first = first; second = second; kind = Clearance; layer = layer; value = picked.least.nm; gap = gap; source = picked.source } }
     {
         Row {
             first,
             second,
             kind: Kind::Clearance,
             layer,
-            value,
+            value: picked.least.nm,
             gap,
+            source: picked.source,
         }
     }
 
@@ -118,5 +122,12 @@ impl Row {
         ensures range { IsLength self.now.gap }
     {
         self.gap
+    }
+
+    /// What asks for the distance; of a short the default.
+    pub fn source(&self) -> Source
+        ensures { result ≡ self.now.source }
+    {
+        self.source
     }
 }

@@ -1,6 +1,6 @@
-use Rattle.std.proofs.Common.{◌≡◌, ◌∙◌, ap, sym, Some, Option, option_map}
+use Rattle.std.proofs.Common.{◌≡◌, ◌∙◌, ap, sym, Some, option_map}
 use Rattle.drc_run.specs.Names.{reading_in}
-use Rattle.drc_run.specs.Words.{Reading, reading_of, words_of}
+use Rattle.drc_run.specs.Words.{reading_of, words_of}
 use Rattle.drc_run.proofs.Promised.{promised_for}
 use Rattle.drc_run.proofs.run.Goals as goal
 

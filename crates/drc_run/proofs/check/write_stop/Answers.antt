@@ -4,7 +4,7 @@ use Rattle.drc_run.specs.declared.texts.Stop.{Stop}
 use Rattle.drc_run.specs.Texts.{at_place}
 use Rattle.drc_run.specs.Output.{refusal}
 use Rattle.drc_run.specs.Refusing.{IsLineOf, reason}
-use Rattle.drc_run.proofs.Written.{written, faulted}
+use Rattle.drc_run.proofs.Written.{written}
 use Rattle.drc_run.proofs.check.write_stop.Goals as goal
 
 pub returns-in-Refused-clause-ends : goal.returns-in-Refused-clause-ends

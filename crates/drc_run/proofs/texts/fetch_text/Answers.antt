@@ -1,4 +1,4 @@
-use Rattle.std.proofs.Common.{refl, ap, Err, ◌∙◌}
+use Rattle.std.proofs.Common.{refl, ap, Err}
 use Rattle.drc_run.proofs.Accepting.{longer_says}
 use Rattle.drc_run.proofs.texts.fetch_text.Goals as goal
 

@@ -1,4 +1,4 @@
-use Rattle.std.proofs.Common.{option_map, subst, sym}
+use Rattle.std.proofs.Common.{option_map, subst}
 use Rattle.drc_run.proofs.Accepting.{board_stops, are_checked, project_stops}
 use Rattle.drc_run.specs.Refusing.{GivesClasses, StopsProject}
 use Rattle.drc_run.proofs.texts.texts_of.Goals as goal

@@ -1,4 +1,4 @@
-use Rattle.std.proofs.Common.{◌≡◌, ◌⊎◌, Option, List, map, ap, sym, subst, ◌∙◌, codes}
+use Rattle.std.proofs.Common.{◌≡◌, ◌⊎◌, Option, ap, sym, subst, ◌∙◌, codes}
 use Rattle.clap.specs.Words.{App, Text, IsAmong, kind_of, app_of, fault_of, is_simple, is_simple_and_free, first_of, matches_of, rows_of, found_of, first_value}
 use Rattle.clap.specs.declared.error.kind.ErrorKind.TheVariants.{OutOfMemory}
 use Rattle.clap.proofs.WalkLemmas.{first_value-rows}

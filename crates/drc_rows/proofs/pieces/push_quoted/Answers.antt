@@ -1,8 +1,8 @@
-use Rattle.std.proofs.Common.{◌≡◌, ap, refl, ◌++◌, append_assoc, codes}
+use Rattle.std.proofs.Common.{refl, ◌++◌, append_assoc, codes}
 use Rattle.std.proofs.lemmas.Result.{err_from_is_err_and}
 use Rattle.drc_rows.specs.Line.{escaped}
-use Rattle.drc_rows.proofs.Lines.{Puts-then, Puts-cut, Puts-text}
-use Rattle.drc_rows.proofs.items.push_named.Goals as goal
+use Rattle.drc_rows.proofs.Lines.{Puts-then, Puts-cut}
+use Rattle.drc_rows.proofs.pieces.push_quoted.Goals as goal
 
 pub returns-in_err-push_all : goal.returns-in_err-push_all
 returns-in_err-push_all g c =
@@ -17,11 +17,9 @@ returns-in_err-push_escaped g c =
     let p = err_from_is_err_and c.from_residual-in_err-push_escaped.result c.from_residual-in_err-push_escaped.ensures.1 in
     let word = c.args.word.now in
     let name = c.args.name.now in
-    let same : escaped c.bytes.result.now ≡ escaped name = ap escaped c.bytes.ensures.value in
     Puts-cut _ _ _ _ _ (word ++ codes " \"" ++ escaped name) (codes "\"") _ _ _ _ _ _ p.1 refl
-    (Puts-then _ _ _ _ _ _ _ _ _ _ _ _ _ c.in_ok-push_all.ensures (Puts-text _ _ _ _ _ _ _ _ _ same c.in_err-push_escaped.ensures))
+    (Puts-then _ _ _ _ _ _ _ _ _ _ _ _ _ c.in_ok-push_all.ensures c.in_err-push_escaped.ensures)
 
 pub returns : goal.returns
 returns g c =
-    let same : escaped c.bytes.result.now ≡ escaped c.args.name.now = ap escaped c.bytes.ensures.value in
-    Puts-then _ _ _ _ _ _ _ _ _ _ _ _ _ (Puts-then _ _ _ _ _ _ _ _ _ _ _ _ _ c.in_ok-push_all.ensures (Puts-text _ _ _ _ _ _ _ _ _ same c.in_ok-push_escaped.ensures)) c.push.ensures
+    Puts-then _ _ _ _ _ _ _ _ _ _ _ _ _ (Puts-then _ _ _ _ _ _ _ _ _ _ _ _ _ c.in_ok-push_all.ensures c.in_ok-push_escaped.ensures) c.push.ensures

@@ -1,0 +1,10 @@
+use Rattle.std.proofs.Common.{arith}
+use Rattle.drc_rows.proofs.NoteLists.{at_most}
+use Rattle.drc_rows.proofs.notes.count_notes.Goals as goal
+
+pub overflow_add-count : goal.overflow_add-count
+overflow_add-count c =
+    let so_far = c.loop-item.invariant in
+    let most = at_most c.args.board.now.items in
+    let few = c.iter-item-items.ensures.sound.few in
+    omega (arith, so_far, most, few)
