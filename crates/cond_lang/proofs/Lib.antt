@@ -1,0 +1,10 @@
+pub mod Accepted
+pub mod Atoms
+pub mod Blanks
+pub mod Complete
+pub mod Links
+pub mod Shrinking
+pub mod Spelled
+pub mod Steps
+pub mod Turns
+pub mod Utf8

@@ -1,0 +1,11 @@
+pub mod Atoms
+pub mod Conditions
+pub mod Found
+pub mod Grammar
+pub mod Kinds
+pub mod Numbers
+pub mod Reasons
+pub mod Rules
+pub mod Signs
+pub mod Trees
+pub mod Values

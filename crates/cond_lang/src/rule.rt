@@ -1,0 +1,38 @@
+//! Which layers a rule acts on, how much a broken one weighs, and which items it bans.
+
+/// On which layers a rule acts. Layers are numbered from front to back, as their bits are: 0 is F.Cu, 31 is B.Cu, and
+/// the inner ones lie between.
+#[derive(Clone, Copy, Debug, Drop, PartialEq, Eq)]
+pub enum RuleLayer {
+    /// The rule has no layer: it acts on all, and also where no layer is asked.
+    Any,
+    /// F.Cu and B.Cu.
+    Outer,
+    /// The layers between them.
+    Inner,
+    One(u32),
+}
+
+/// How much a broken rule weighs. The last two give no row.
+#[derive(Clone, Copy, Debug, Drop, PartialEq, Eq)]
+pub enum Severity {
+    Error,
+    Warning,
+    Ignore,
+    Exclusion,
+}
+
+/// Which items a rule bans.
+#[derive(Clone, Copy, Debug, Drop, PartialEq, Eq)]
+pub struct Disallow {
+    pub tracks: bool,
+    pub vias: bool,
+    pub micro_vias: bool,
+    pub buried_vias: bool,
+    pub pads: bool,
+    pub zones: bool,
+    pub graphics: bool,
+    pub holes: bool,
+    pub footprints: bool,
+    pub texts: bool,
+}

@@ -1,0 +1,5 @@
+pub mod LayerNames
+pub mod Moved
+pub mod Places
+pub mod Shortness
+pub mod TextPlaces

@@ -1,0 +1,31 @@
+use Rattle.std.proofs.Common.{◌≡◌, ◌∙◌, sym, ap, arith, cond, Bool, Some, ◌+◌, drop}
+use Rattle.sexpr_read.specs.Views.{tree_of}
+use Rattle.rule_text.specs.LayersOf.{layer_names}
+use Rattle.rule_text.specs.LayersOf.{layer_number}
+use Rattle.std.specs.List.{position_from}
+use Rattle.rule_text.specs.Forms.{is_text}
+use Rattle.rule_text.proofs.LayerNames.{number_step, none_left, text_is}
+use Rattle.rule_text.proofs.layers.seek_layer.Goals as goal
+
+pub returns-then-is : goal.returns-then-is
+unfolding layer_number
+returns-then-is c =
+    let atom = tree_of c.args.atom in
+    let layer = c.loop-layer.layer in
+    let step = number_step layer layer layer_names atom c.layer_name.result.now c.layer_name.ensures in
+    let named = text_is atom c.layer_name.result.now c.is.result c.is.ensures ∙ c.if-is.true in
+    sym (ap (λ (b : Bool). cond b (Some layer) (position_from (is_text atom) (layer + 1) (drop (layer + 1) layer_names))) named) ∙ sym step ∙ c.loop-layer.invariant
+
+pub loop-layer-preserved : goal.loop-layer-preserved
+loop-layer-preserved c =
+    let atom = tree_of c.args.atom in
+    let layer = c.loop-layer.layer in
+    let step = number_step layer layer layer_names atom c.layer_name.result.now c.layer_name.ensures in
+    let named = text_is atom c.layer_name.result.now c.is.result c.is.ensures ∙ c.if-is.false in
+    sym (ap (λ (b : Bool). cond b (Some layer) (position_from (is_text atom) (layer + 1) (drop (layer + 1) layer_names))) named) ∙ sym step ∙ c.loop-layer.invariant
+
+pub returns : goal.returns
+unfolding layer_number
+returns c =
+    let all : c.loop-layer.layer ≡ 32 = omega (arith, c.loop-layer.auto.layer-end) in
+    sym (none_left c.loop-layer.layer (tree_of c.args.atom) all) ∙ c.loop-layer.invariant

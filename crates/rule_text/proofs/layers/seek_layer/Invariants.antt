@@ -1,0 +1,10 @@
+use Rattle.std.proofs.Common.{◌≡◌, drop}
+use Rattle.sexpr_read.specs.Views.{tree_of}
+use Rattle.rule_text.specs.LayersOf.{layer_names}
+use Rattle.std.specs.List.{position_from}
+use Rattle.rule_text.specs.Forms.{is_text}
+use Rattle.rule_text.proofs.layers.seek_layer.Given as goal
+
+-- the name is sought among the names that are left
+abbrev pub invariant-loop-layer : goal.invariant-loop-layer
+invariant-loop-layer l = position_from (is_text (tree_of l.atom)) l.layer (drop l.layer layer_names) ≡ position_from (is_text (tree_of l.atom)) 0 layer_names

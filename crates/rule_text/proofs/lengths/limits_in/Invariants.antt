@@ -1,0 +1,10 @@
+use Rattle.std.proofs.Common.{◌≡◌}
+use Rattle.sexpr_read.specs.Views.{tree_of, trees_left}
+use Rattle.rule_text.specs.Forms.{clauses}
+use Rattle.rule_text.specs.Limits.{with_limits, unlimited}
+use Rattle.rule_text.specs.Views.{plain_limits}
+use Rattle.rule_text.proofs.lengths.limits_in.Given as goal
+
+-- the limits so far, and what is left, give what all gives
+abbrev pub invariant-loop-part : goal.invariant-loop-part
+invariant-loop-part l = with_limits (plain_limits l.limits) (trees_left l.part-iterator) ≡ with_limits unlimited (clauses (tree_of l.clause))

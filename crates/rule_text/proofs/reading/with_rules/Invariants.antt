@@ -1,0 +1,14 @@
+use Rattle.std.proofs.Common.{◌≡◌, ◌≤◌, ◌+◌, length}
+use Rattle.sexpr_read.specs.Views.{tree_of, trees_left}
+use Rattle.rule_text.specs.RulesOf.{no_rules, with_rules}
+use Rattle.rule_text.specs.Short.{AllShort, IsShort}
+use Rattle.rule_text.specs.Views.{plain_lists}
+use Rattle.rule_text.proofs.reading.with_rules.Given as goal
+
+-- the rules so far, and what is left, give what all gives
+abbrev pub invariant-loop-form : goal.invariant-loop-form
+invariant-loop-form l = record {
+  read : with_rules (plain_lists l.lists) (trees_left l.form-iterator) ≡ with_rules no_rules (trees_left l.fn.forms);
+  short : AllShort (trees_left l.form-iterator);
+  few : length l.lists.rules.items + length (trees_left l.form-iterator) ≤ 33554432;
+}

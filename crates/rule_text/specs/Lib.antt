@@ -1,0 +1,10 @@
+pub mod Forms
+pub mod LayersOf
+pub mod Limits
+pub mod ListText
+pub mod Near
+pub mod Reasons
+pub mod RulesOf
+pub mod RuleText
+pub mod Short
+pub mod Views

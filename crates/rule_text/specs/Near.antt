@@ -1,0 +1,28 @@
+-- Places of a text of at most 33,554,432 bytes.
+use Rattle.std.specs.Prelude.{ℕ, ◌≤◌, Result, Ok, Err}
+use Rattle.sexpr_read.specs.declared.place.TextError.{TextError}
+use Rattle.sexpr_read.specs.declared.place.TextError.TheVariants.{NotUtf8, CloseWithoutOpen, EndInside, TooDeep, ExtraText, EmptyText, OutOfMemory as NoMemory}
+use Rattle.rule_text.specs.declared.error.RuleError.{RuleError}
+use Rattle.rule_text.specs.declared.error.RuleError.TheVariants.{Text, Version, Bad, Cond, BadNumber, OutOfMemory}
+
+abbrev pub IsNearText : TextError → Type 0
+IsNearText (NotUtf8 at) = at ≤ 33554432
+IsNearText (CloseWithoutOpen at) = at ≤ 33554432
+IsNearText (EndInside at) = at ≤ 33554432
+IsNearText (TooDeep at) = at ≤ 33554432
+IsNearText (ExtraText at) = at ≤ 33554432
+IsNearText EmptyText = Unit {0}
+IsNearText NoMemory = Unit {0}
+
+-- the refusal has such a place, or none
+abbrev pub IsNear : RuleError → Type 0
+IsNear (Text e) = IsNearText e
+IsNear (Version at) = at ≤ 33554432
+IsNear (Bad at) = at ≤ 33554432
+IsNear (Cond at inner) = at ≤ 33554432
+IsNear (BadNumber at) = at ≤ 33554432
+IsNear OutOfMemory = Unit {0}
+
+abbrev pub NearIfErr : {A : Type 0} → Result A RuleError → Type 0
+NearIfErr (Ok x) = Unit {0}
+NearIfErr (Err e) = IsNear e

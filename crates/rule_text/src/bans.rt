@@ -1,0 +1,69 @@
+//! The words of what is banned.
+
+ghost use Rattle.std.specs.Prelude.{◌≡◌};
+ghost use Rattle.sexpr_read.specs.Views.{tree_of, trees_left};
+ghost use Rattle.rule_text.specs.Forms.{clauses};
+ghost use Rattle.rule_text.specs.Limits.{bans_nothing, with_ban, with_bans};
+
+use crate::error::RuleError;
+use crate::forms::{bad, clauses};
+use cond_lang::Disallow;
+use sexpr_read::Node;
+
+/// What bans nothing.
+pub(crate) const NOTHING: Disallow = Disallow {
+    tracks: false,
+    vias: false,
+    micro_vias: false,
+    buried_vias: false,
+    pads: false,
+    zones: false,
+    graphics: false,
+    holes: false,
+    footprints: false,
+    texts: false,
+};
+
+/// What a word bans beside.
+#[tactic(auto, unfolding(crate::specs::Limits::with_ban))]
+fn with_ban(bans: Disallow, word: Node<'_, '_>) -> Result<Disallow, RuleError>
+    ensures { result ≡ with_ban bans (tree_of word.entry) }
+{
+    let mut bans = bans;
+    if word.is(b"track") {
+        bans.tracks = true;
+    } else if word.is(b"via") {
+        bans.vias = true;
+    } else if word.is(b"micro_via") {
+        bans.micro_vias = true;
+    } else if word.is(b"buried_via") {
+        bans.buried_vias = true;
+    } else if word.is(b"pad") {
+        bans.pads = true;
+    } else if word.is(b"zone") {
+        bans.zones = true;
+    } else if word.is(b"graphic") {
+        bans.graphics = true;
+    } else if word.is(b"hole") {
+        bans.holes = true;
+    } else if word.is(b"footprint") {
+        bans.footprints = true;
+    } else if word.is(b"text") {
+        bans.texts = true;
+    } else {
+        return Err(bad(word));
+    }
+    Ok(bans)
+}
+
+/// What the words of `(constraint disallow ..)` ban; without words nothing.
+#[tactic(auto, unfolding(crate::specs::Limits::with_bans))]
+pub(crate) fn bans_in(clause: Node<'_, '_>) -> Result<Disallow, RuleError>
+    ensures { result ≡ with_bans bans_nothing (clauses (tree_of clause.entry)) }
+{
+    let mut bans = NOTHING;
+    for word in clauses(clause) {
+        bans = with_ban(bans, word)?;
+    }
+    Ok(bans)
+}

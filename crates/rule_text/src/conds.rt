@@ -1,0 +1,66 @@
+//! The texts of conditions.
+
+ghost use Rattle.std.specs.Prelude.{◌≡◌, ◌≤◌, length};
+ghost use Rattle.sexpr_read.specs.Views.{tree_of, trees_left};
+ghost use Rattle.cond_lang.specs.Conditions.{reading};
+ghost use Rattle.cond_lang.specs.Trees.{tree_of as cond_tree_of};
+ghost use Rattle.rule_text.specs.Forms.{clauses};
+ghost use Rattle.rule_text.specs.Limits.{cond_from, cond_in};
+ghost use Rattle.rule_text.specs.RulesOf.{claim_among};
+ghost use Rattle.rule_text.specs.Short.{IsShort};
+ghost use Rattle.rule_text.specs.Views.{tree_in, Gives};
+
+use crate::error::RuleError;
+use crate::forms::{as_atom, bad, clauses, place};
+use cond_lang::{Cond, CondError, parse_cond};
+use sexpr_read::Node;
+use std::alloc::Global;
+
+/// The condition of this text, which stands at `at`.
+fn parsed(alloc: Global, at: u32, text: &[u8]) -> Result<Cond, RuleError>
+    requires { length text.now ≤ 33554432 }
+    ensures { Gives cond_tree_of result (cond_from at (reading text.now)) }
+{
+    match parse_cond(alloc, text) {
+        Ok(cond) => Ok(cond),
+        Err(CondError::OutOfMemory) => Err(RuleError::OutOfMemory),
+        Err(inner) => Err(RuleError::Cond { at, inner }),
+    }
+}
+
+/// The condition that an atom stands for.
+#[tactic(auto, using(crate::proofs::Shortness::short_text), unfolding(crate::specs::Limits::cond_in))]
+pub(crate) fn cond_in(alloc: Global, atom: Node<'_, '_>) -> Result<Cond, RuleError>
+    requires { IsShort (tree_of atom) }
+    ensures { Gives cond_tree_of result (cond_in (tree_of atom.entry)) }
+{
+    match atom.word() {
+        Some(word) => parsed(alloc, place(atom), word),
+        None => cond_decoded(alloc, atom),
+    }
+}
+
+/// The same, with escapes read.
+#[tactic(auto, using(crate::proofs::Shortness::short_text), unfolding(crate::specs::Limits::cond_in))]
+fn cond_decoded(alloc: Global, atom: Node<'_, '_>) -> Result<Cond, RuleError>
+    requires { IsShort (tree_of atom) }
+    ensures { Gives cond_tree_of result (cond_in (tree_of atom.entry)) }
+{
+    let mut bytes = Vec::new(alloc);
+    atom.value(&mut bytes)?;
+    parsed(alloc, place(atom), &bytes)
+}
+
+/// The one part of `(constraint assertion CONDITION)`.
+pub(crate) fn claim_at<'d, 't>(clause: Node<'d, 't>) -> Result<Node<'d, 't>, RuleError>
+    ensures { tree_in result ≡ claim_among (tree_of clause.entry) (clauses (tree_of clause.entry)) }
+{
+    let mut parts = clauses(clause);
+    let Some(atom) = parts.next() else {
+        return Err(bad(clause));
+    };
+    match parts.next() {
+        Some(_) => Err(bad(clause)),
+        None => as_atom(atom),
+    }
+}

@@ -1,0 +1,175 @@
+//! The constraints of a rule.
+
+ghost use Rattle.std.specs.Prelude.{◌≡◌, false, map};
+ghost use Rattle.sexpr_read.specs.Views.{tree_of, trees_left};
+ghost use Rattle.cond_lang.specs.Kinds.{is_assertion};
+ghost use Rattle.cond_lang.specs.Rules.{plain_constraint};
+ghost use Rattle.rule_text.specs.Limits.{kind_named};
+ghost use Rattle.rule_text.specs.RulesOf.{limited, banned, claimed, constraint_in, has_kind, is_other, is_constraint, is_asked};
+ghost use Rattle.rule_text.specs.Forms.{clauses};
+ghost use Rattle.rule_text.specs.Short.{IsShort};
+ghost use Rattle.rule_text.specs.Views.{Gives};
+
+use crate::bans::{NOTHING, bans_in};
+use crate::conds::{claim_at, cond_in};
+use crate::error::RuleError;
+use crate::forms::{clauses, has_head, name_at};
+use crate::lengths::{limits_in, nm_of};
+use cond_lang::{Constraint, Kind};
+use sexpr_read::Node;
+use std::alloc::Global;
+
+/// The kind that an atom names, if a rule may limit it.
+#[tactic(auto, unfolding(crate::specs::Limits::kind_named))]
+pub(crate) fn kind_named(atom: Node<'_, '_>) -> Option<Kind>
+    ensures { result ≡ kind_named (tree_of atom.entry) }
+{
+    if atom.is(b"clearance") {
+        Some(Kind::Clearance)
+    } else if atom.is(b"hole_clearance") {
+        Some(Kind::HoleClearance)
+    } else if atom.is(b"hole_to_hole") {
+        Some(Kind::HoleToHole)
+    } else if atom.is(b"edge_clearance") {
+        Some(Kind::EdgeClearance)
+    } else if atom.is(b"courtyard_clearance") {
+        Some(Kind::CourtyardClearance)
+    } else if atom.is(b"track_width") {
+        Some(Kind::TrackWidth)
+    } else if atom.is(b"via_diameter") {
+        Some(Kind::ViaDiameter)
+    } else if atom.is(b"hole_size") {
+        Some(Kind::HoleSize)
+    } else if atom.is(b"annular_width") {
+        Some(Kind::AnnularWidth)
+    } else if atom.is(b"disallow") {
+        Some(Kind::Disallow)
+    } else if atom.is(b"physical_clearance") {
+        Some(Kind::PhysicalClearance)
+    } else if atom.is(b"physical_hole_clearance") {
+        Some(Kind::PhysicalHoleClearance)
+    } else if atom.is(b"assertion") {
+        Some(Kind::Assertion)
+    } else {
+        None
+    }
+}
+
+/// A constraint with the lengths of its clause.
+fn limited(kind: Kind, clause: Node<'_, '_>) -> Result<Constraint, RuleError>
+    requires { is_assertion kind ≡ false }
+    ensures { Gives plain_constraint result (limited kind (tree_of clause.entry)) }
+{
+    let limits = limits_in(clause)?;
+    Ok(Constraint {
+        kind,
+        least: nm_of(limits.least),
+        most: nm_of(limits.most),
+        bans: NOTHING,
+        claim: None,
+    })
+}
+
+/// A constraint that bans what its words say.
+fn banned(clause: Node<'_, '_>) -> Result<Constraint, RuleError>
+    ensures { Gives plain_constraint result (banned (tree_of clause.entry)) }
+{
+    let bans = bans_in(clause)?;
+    Ok(Constraint {
+        kind: Kind::Disallow,
+        least: None,
+        most: None,
+        bans,
+        claim: None,
+    })
+}
+
+/// An assertion of its one part.
+fn claimed(alloc: Global, clause: Node<'_, '_>) -> Result<Constraint, RuleError>
+    requires { IsShort (tree_of clause) }
+    ensures { Gives plain_constraint result (claimed (tree_of clause.entry)) }
+{
+    let atom = claim_at(clause)?;
+    let claim = cond_in(alloc, atom)?;
+    Ok(Constraint {
+        kind: Kind::Assertion,
+        least: None,
+        most: None,
+        bans: NOTHING,
+        claim: Some(claim),
+    })
+}
+
+/// What `(constraint NAME ..)` asks of its kind.
+#[tactic(auto, unfolding(crate::specs::RulesOf::constraint_in))]
+pub(crate) fn constraint_in(
+    alloc: Global,
+    kind: Kind,
+    clause: Node<'_, '_>,
+) -> Result<Constraint, RuleError>
+    requires { IsShort (tree_of clause) }
+    ensures { Gives plain_constraint result (constraint_in kind (tree_of clause.entry)) }
+{
+    match kind {
+        Kind::Disallow => banned(clause),
+        Kind::Assertion => claimed(alloc, clause),
+        Kind::Short
+        | Kind::Clearance
+        | Kind::HoleClearance
+        | Kind::HoleToHole
+        | Kind::EdgeClearance
+        | Kind::CourtyardClearance
+        | Kind::Keepout
+        | Kind::TrackWidth
+        | Kind::ViaDiameter
+        | Kind::HoleSize
+        | Kind::AnnularWidth
+        | Kind::PhysicalClearance
+        | Kind::PhysicalHoleClearance => limited(kind, clause),
+    }
+}
+
+/// Whether a constraint of this kind is among them.
+pub(crate) fn has_kind(kind: Kind, constraints: &[Constraint]) -> bool
+    ensures { result ≡ has_kind kind (map plain_constraint constraints.now) }
+{
+    for constraint in constraints {
+        if constraint.kind.number() == kind.number() {
+            return true;
+        }
+    }
+    false
+}
+
+/// Whether it is a constraint of a name that no rule may have.
+#[tactic(auto, unfolding(crate::specs::RulesOf::is_other))]
+fn is_other(clause: Node<'_, '_>) -> bool
+    ensures { result ≡ is_other (tree_of clause.entry) }
+{
+    match name_at(clause) {
+        Ok(name) => kind_named(name).is_none(),
+        Err(_) => false,
+    }
+}
+
+fn is_constraint(clause: Node<'_, '_>) -> bool
+    ensures { result ≡ is_constraint (tree_of clause.entry) }
+{
+    has_head(clause, b"constraint")
+}
+
+/// Whether a rule's condition is asked: it has no constraints, or not all of them have other names.
+pub(crate) fn is_asked(form: Node<'_, '_>) -> bool
+    ensures { result ≡ is_asked (clauses (tree_of form.entry)) }
+{
+    let mut constrained = false;
+    for clause in clauses(form) {
+        if is_constraint(clause) {
+            if !is_other(clause) {
+                return true;
+            }
+            constrained = true;
+        }
+    }
+    !constrained
+}

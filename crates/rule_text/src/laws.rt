@@ -1,0 +1,30 @@
+//! Laws of what texts say. The functions do nothing: each clause holds for all texts.
+
+ghost use Rattle.std.specs.Prelude.{◌≡◌, ℕ, List, Result};
+ghost use Rattle.rule_text.specs.declared.error.RuleError.{RuleError};
+ghost use Rattle.rule_text.specs.RulesOf.{PlainRules};
+ghost use Rattle.rule_text.specs.ListText.{SaysHere, SaysList};
+ghost use Rattle.rule_text.specs.RuleText.{Says};
+
+use sexpr_read::laws::one_tree;
+
+/// No text says two things.
+pub fn one_reading()
+    ensures { (text : List ℕ) (a b : Result PlainRules RuleError) → Says text a → Says text b → a ≡ b }
+{
+    one_tree();
+}
+
+/// The same of a list of rules, by its own places.
+fn one_reading_here()
+    ensures { (text : List ℕ) (a b : Result PlainRules RuleError) → SaysHere text a → SaysHere text b → a ≡ b }
+{
+    one_tree();
+}
+
+/// No list of rules says two things.
+pub fn one_list_reading()
+    ensures { (text : List ℕ) (by : ℕ) (a b : Result PlainRules RuleError) → SaysList text by a → SaysList text by b → a ≡ b }
+{
+    one_reading_here();
+}

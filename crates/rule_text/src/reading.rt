@@ -1,0 +1,268 @@
+//! The rules of a file, form by form.
+
+ghost use Rattle.std.specs.Prelude.{◌≡◌, ◌<◌, ◌≤◌, ◌+◌, length, IfOk, Ok};
+ghost use Rattle.sexpr_read.specs.Views.{tree_of, trees_left};
+ghost use Rattle.cond_lang.specs.Rules.{plain_rule};
+ghost use Rattle.rule_text.specs.Forms.{clauses, place};
+ghost use Rattle.rule_text.specs.RulesOf.{severity_in, severity_named, with_layer, with_severity, with_cond, noted, with_constraint, with_clause, with_clauses, is_asked, rule_by, with_rule, with_rules, is_version, no_rules, rules_of};
+ghost use Rattle.rule_text.specs.Short.{AllShort, IsShort};
+ghost use Rattle.rule_text.specs.Views.{plain_draft, plain_lists, plain_rules, Gives};
+
+use crate::conds::cond_in;
+use crate::constraints::{constraint_in, has_kind, is_asked, kind_named};
+use crate::draft::Draft;
+use crate::error::RuleError;
+use crate::forms::{atom_at, bad, clauses, has_head, name_at, name_from, place};
+use crate::layers::layer_in;
+use crate::lists::Lists;
+use crate::notes::{RuleNote, RuleNotes};
+use crate::rules::{RuleList, Rules};
+use cond_lang::{Constraints, Rule, RuleLayer, Severity};
+use drc_io::Name;
+use sexpr_read::{Children, Node};
+use std::alloc::Global;
+
+// ---- clauses
+
+fn severity_named(atom: Node<'_, '_>) -> Option<Severity>
+    ensures { result ≡ severity_named (tree_of atom.entry) }
+{
+    if atom.is(b"error") {
+        Some(Severity::Error)
+    } else if atom.is(b"warning") {
+        Some(Severity::Warning)
+    } else if atom.is(b"ignore") {
+        Some(Severity::Ignore)
+    } else if atom.is(b"exclusion") {
+        Some(Severity::Exclusion)
+    } else {
+        None
+    }
+}
+
+/// The severity of `(severity WORD)`.
+#[tactic(auto, unfolding(crate::specs::RulesOf::severity_in))]
+fn severity_in(clause: Node<'_, '_>) -> Result<Severity, RuleError>
+    ensures { result ≡ severity_in (tree_of clause.entry) }
+{
+    let atom = atom_at(clause)?;
+    match severity_named(atom) {
+        Some(severity) => Ok(severity),
+        None => Err(bad(atom)),
+    }
+}
+
+#[tactic(auto, unfolding(crate::specs::RulesOf::with_layer))]
+fn with_layer(draft: Draft, clause: Node<'_, '_>) -> Result<Draft, RuleError>
+    ensures { Gives plain_draft result (with_layer (plain_draft draft) (tree_of clause.entry)) }
+{
+    if draft.layer.is_some() {
+        return Ok(draft);
+    }
+    let mut draft = draft;
+    draft.layer = Some(layer_in(clause)?);
+    Ok(draft)
+}
+
+#[tactic(auto, unfolding(crate::specs::RulesOf::with_severity))]
+fn with_severity(draft: Draft, clause: Node<'_, '_>) -> Result<Draft, RuleError>
+    ensures { Gives plain_draft result (with_severity (plain_draft draft) (tree_of clause.entry)) }
+{
+    if draft.severity.is_some() {
+        return Ok(draft);
+    }
+    let mut draft = draft;
+    draft.severity = Some(severity_in(clause)?);
+    Ok(draft)
+}
+
+/// Where no condition is asked, it is passed over.
+#[tactic(auto, unfolding(crate::specs::RulesOf::with_cond))]
+fn with_cond(
+    alloc: Global,
+    asked: bool,
+    draft: Draft,
+    clause: Node<'_, '_>,
+) -> Result<Draft, RuleError>
+    requires { IsShort (tree_of clause) }
+    ensures { Gives plain_draft result (with_cond asked (plain_draft draft) (tree_of clause.entry)) }
+{
+    if !asked || draft.cond.is_some() {
+        return Ok(draft);
+    }
+    let mut draft = draft;
+    let atom = atom_at(clause)?;
+    draft.cond = Some(cond_in(alloc, atom)?);
+    Ok(draft)
+}
+
+/// Notes a constraint that no rule may have.
+fn with_note(alloc: Global, draft: Draft, name: Node<'_, '_>) -> Result<Draft, RuleError>
+    ensures { Gives plain_draft result (Ok (noted (plain_draft draft) (tree_of name.entry))) }
+{
+    let mut draft = draft;
+    let constraint = name_from(alloc, name)?;
+    draft.notes.push(RuleNote {
+        rule: draft.number,
+        constraint,
+    })?;
+    Ok(draft)
+}
+
+/// Of two constraints of one kind the first counts.
+#[tactic(auto, unfolding(crate::specs::RulesOf::with_constraint))]
+fn with_constraint(alloc: Global, draft: Draft, clause: Node<'_, '_>) -> Result<Draft, RuleError>
+    requires { IsShort (tree_of clause) }
+    ensures { Gives plain_draft result (with_constraint (plain_draft draft) (tree_of clause.entry)) }
+{
+    let name = name_at(clause)?;
+    let Some(kind) = kind_named(name) else {
+        return with_note(alloc, draft, name);
+    };
+    if has_kind(kind, &draft.constraints) {
+        return Ok(draft);
+    }
+    let mut draft = draft;
+    let constraint = constraint_in(alloc, kind, clause)?;
+    draft.constraints.push(constraint)?;
+    Ok(draft)
+}
+
+#[tactic(auto, unfolding(crate::specs::RulesOf::with_clause))]
+fn with_clause(
+    alloc: Global,
+    asked: bool,
+    draft: Draft,
+    clause: Node<'_, '_>,
+) -> Result<Draft, RuleError>
+    requires { IsShort (tree_of clause) }
+    ensures { Gives plain_draft result (with_clause asked (plain_draft draft) (tree_of clause.entry)) }
+{
+    if has_head(clause, b"layer") {
+        with_layer(draft, clause)
+    } else if has_head(clause, b"severity") {
+        with_severity(draft, clause)
+    } else if has_head(clause, b"condition") {
+        with_cond(alloc, asked, draft, clause)
+    } else if has_head(clause, b"constraint") {
+        with_constraint(alloc, draft, clause)
+    } else {
+        Err(bad(clause))
+    }
+}
+
+/// What all clauses of a rule say.
+#[tactic(auto, using(crate::proofs::Shortness::clauses_short, crate::proofs::Shortness::first_short, crate::proofs::Shortness::rest_short), unfolding(crate::specs::RulesOf::with_clauses))]
+fn with_clauses(alloc: Global, draft: Draft, form: Node<'_, '_>) -> Result<Draft, RuleError>
+    requires { IsShort (tree_of form) }
+    ensures { Gives plain_draft result (with_clauses (is_asked (clauses (tree_of form.entry))) (plain_draft draft) (clauses (tree_of form.entry))) }
+{
+    let asked = is_asked(form);
+    let mut draft = draft;
+    for clause in clauses(form) {
+        draft = with_clause(alloc, asked, draft, clause)?;
+    }
+    Ok(draft)
+}
+
+// ---- forms
+
+/// The rule of a draft, and the notes up to here.
+fn rule_by(name: Name, draft: Draft) -> (Rule, Vec<RuleNote>)
+    ensures rule { plain_rule result.0 ≡ rule_by name (plain_draft draft) }
+    ensures notes { result.1 ≡ draft.notes }
+{
+    let layer = draft.layer.unwrap_or(RuleLayer::Any);
+    let severity = draft.severity.unwrap_or(Severity::Error);
+    let rule = Rule {
+        name,
+        layer,
+        severity,
+        cond: draft.cond,
+        constraints: Constraints::of(draft.constraints),
+    };
+    (rule, draft.notes)
+}
+
+/// `(rule NAME CLAUSE ..)`.
+#[tactic(auto, unfolding(crate::specs::RulesOf::with_rule))]
+fn with_rule(alloc: Global, lists: Lists, form: Node<'_, '_>) -> Result<Lists, RuleError>
+    requires short { IsShort (tree_of form) }
+    requires few { length lists.rules.items < 33554432 }
+    ensures read { Gives plain_lists result (with_rule (plain_lists lists) (tree_of form.entry)) }
+    ensures grown { IfOk result (λ more. length more.rules.items ≡ length lists.rules.items + 1) }
+{
+    if !has_head(form, b"rule") {
+        return Err(bad(form));
+    }
+    let name = name_from(alloc, name_at(form)?)?;
+    let draft = Draft {
+        number: lists.rules.len() as u32,
+        layer: None,
+        severity: None,
+        cond: None,
+        constraints: Vec::new(alloc),
+        notes: lists.notes,
+    };
+    let draft = with_clauses(alloc, draft, form)?;
+    let (rule, notes) = rule_by(name, draft);
+    let mut rules = lists.rules;
+    rules.push(rule)?;
+    Ok(Lists { rules, notes })
+}
+
+/// The rules of the forms that are left.
+#[tactic(auto, using(crate::proofs::Shortness::first_short, crate::proofs::Shortness::rest_short), unfolding(crate::specs::RulesOf::with_rules))]
+fn with_rules(alloc: Global, forms: Children<'_, '_>) -> Result<Lists, RuleError>
+    requires short { AllShort (trees_left forms) }
+    requires few { length (trees_left forms) ≤ 33554432 }
+    ensures { Gives plain_lists result (with_rules no_rules (trees_left forms.entry)) }
+{
+    let mut lists = Lists {
+        rules: Vec::new(alloc),
+        notes: Vec::new(alloc),
+    };
+    for form in forms {
+        lists = with_rule(alloc, lists, form)?;
+    }
+    Ok(lists)
+}
+
+/// Whether it is `(version 1)`.
+#[tactic(auto, unfolding(crate::specs::RulesOf::is_version))]
+fn is_version(form: Node<'_, '_>) -> bool
+    ensures { result ≡ is_version (tree_of form.entry) }
+{
+    if !has_head(form, b"version") {
+        return false;
+    }
+    match atom_at(form) {
+        Ok(atom) => atom.is(b"1"),
+        Err(_) => false,
+    }
+}
+
+/// The rules of these forms, or the refusal where there is none.
+#[tactic(auto, using(crate::proofs::Shortness::first_short, crate::proofs::Shortness::rest_short), unfolding(crate::specs::RulesOf::rules_of))]
+pub(crate) fn rules_of(
+    alloc: Global,
+    none: RuleError,
+    forms: Children<'_, '_>,
+) -> Result<Rules, RuleError>
+    requires short { AllShort (trees_left forms) }
+    requires few { length (trees_left forms) ≤ 33554432 }
+    ensures { Gives plain_rules result (rules_of none (trees_left forms.entry)) }
+{
+    let mut forms = forms;
+    let Some(first) = forms.next() else {
+        return Err(none);
+    };
+    if !is_version(first) {
+        return Err(RuleError::Version { at: place(first) });
+    }
+    let lists = with_rules(alloc, forms)?;
+    Ok(Rules {
+        rules: RuleList::of(lists.rules),
+        notes: RuleNotes::of(lists.notes),
+    })
+}
