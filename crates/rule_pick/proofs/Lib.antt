@@ -1,0 +1,2 @@
+pub mod LayerNames
+pub mod Later

@@ -1,0 +1,6 @@
+pub mod Meaning
+pub mod Shown
+pub mod Picks
+pub mod Deciding
+pub mod FactsOf
+pub mod Reach

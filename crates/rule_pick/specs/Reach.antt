@@ -1,0 +1,57 @@
+-- How far checks reach: the greatest distance that a rule, a class, the board or an item asks for, in nanometres.
+use Rattle.std.specs.Prelude.{ℕ, ℤ, ◌≤ℤ◌, Bool, true, false, List, [], ◌∷◌, ◌++◌, map, All, Contains, Option, None, Some, if◌then◌else◌}
+use Rattle.std.specs.List.{flat_map}
+use Rattle.board_items.specs.declared.item.Item.{Item}
+use Rattle.board_items.specs.Boards.{PlainBoard}
+use Rattle.net_class.specs.Classes.{PlainMins, PlainClasses}
+use Rattle.cond_lang.specs.declared.kind.Kind.{Kind}
+use Rattle.cond_lang.specs.declared.kind.Kind.TheVariants.{Clearance, HoleClearance, HoleToHole, EdgeClearance, CourtyardClearance, PhysicalClearance, PhysicalHoleClearance}
+use Rattle.cond_lang.specs.Rules.{PlainConstraint, PlainRule}
+use Rattle.rule_pick.specs.Deciding.{asked_least}
+
+-- the kinds that ask two items to keep a distance
+abbrev pub is_between_two : Kind → Bool
+is_between_two Clearance = true
+is_between_two HoleClearance = true
+is_between_two HoleToHole = true
+is_between_two EdgeClearance = true
+is_between_two CourtyardClearance = true
+is_between_two PhysicalClearance = true
+is_between_two PhysicalHoleClearance = true
+is_between_two _ = false
+
+-- the least value, where the kind is such a one
+abbrev pub distance_asked : PlainConstraint → List ℤ
+distance_asked c = if is_between_two c.kind then asked_least c ∷ [] else []
+
+abbrev pub distances_of : PlainRule → List ℤ
+distances_of rule = flat_map distance_asked rule.constraints
+
+-- the clearances of all classes
+abbrev pub clearances_of : PlainClasses → List ℤ
+clearances_of classes = map (λ c. c.clearance) (classes.default ∷ classes.named)
+
+-- the least distances of the board
+abbrev pub least_distances : PlainMins → List ℤ
+least_distances mins = mins.min_clearance ∷ mins.min_hole_clearance ∷ mins.min_hole_to_hole ∷ mins.min_copper_edge_clearance ∷ []
+
+abbrev pub one_if : Option ℤ → List ℤ
+one_if None = []
+one_if (Some nm) = nm ∷ []
+
+-- the clearances that items have of their own
+abbrev pub local_clearances : List (ℕ × Item) → List ℤ
+local_clearances items = flat_map (λ entry. one_if entry.1.local) items
+
+-- all distances that are asked for
+abbrev pub distances_asked : PlainBoard → PlainClasses → List PlainRule → List ℤ
+distances_asked board classes rules =
+    flat_map distances_of rules ++ (clearances_of classes ++ (least_distances classes.mins ++ local_clearances board.items))
+
+-- one of the values, and none is greater
+pub record IsGreatestOf (values : List ℤ) (n : ℤ) : Type 0 where
+  pub most : All (λ v. v ≤ℤ n) values
+  pub one : Contains values n
+
+abbrev pub IsReach : PlainBoard → PlainClasses → List PlainRule → ℤ → Type 0
+IsReach board classes rules n = IsGreatestOf (distances_asked board classes rules) n

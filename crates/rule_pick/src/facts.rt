@@ -1,0 +1,47 @@
+//! What rules may ask of an item.
+
+ghost use Rattle.drc_io.specs.Lengths.{IsLength, IsLengthIfSome};
+
+use crate::kinds::ItemKind;
+use crate::names::Names;
+use board_items::{LayerSet, Nm};
+use drc_io::Name;
+
+/// What rules may ask of an item. Lengths are in nanometres, from 0 to 500 mm. Which facts an item of a board has is defined
+/// in `specs/FactsOf`.
+#[derive(Debug, Drop)]
+pub struct Facts {
+    pub kind: ItemKind,
+    /// The class of its net.
+    pub class: Name,
+    pub net_name: Name,
+    /// Of a track.
+    pub width: Option<Nm>,
+    /// Of a via.
+    pub diameter: Option<Nm>,
+    /// The smaller size of the hole of a via.
+    pub hole: Option<Nm>,
+    /// The copper layers on which it lies.
+    pub layers: LayerSet,
+    /// Whether it lies on Edge.Cuts.
+    pub on_edge: bool,
+    /// Whether it has a plated hole.
+    pub plated: bool,
+    /// A via of the kind `micro`.
+    pub micro: bool,
+    /// A via of the kind `blind`.
+    pub blind: bool,
+    /// A clearance of its own.
+    pub local: Option<Nm>,
+    /// The clearance of the class of its net.
+    pub class_clearance: Nm,
+    /// The titles of the rule areas that it meets.
+    pub areas: Names,
+    /// The references of the footprints whose courtyards it meets.
+    pub courtyards: Names,
+    pub ghost width_in_range: { IsLengthIfSome width },
+    pub ghost diameter_in_range: { IsLengthIfSome diameter },
+    pub ghost hole_in_range: { IsLengthIfSome hole },
+    pub ghost local_in_range: { IsLengthIfSome local },
+    pub ghost class_clearance_in_range: { IsLength class_clearance },
+}

@@ -1,0 +1,12 @@
+//! Lengths.
+
+ghost use Rattle.drc_io.specs.Lengths.{IsLength};
+
+use board_items::Nm;
+
+/// A length in nanometres, from 0 to 500 mm.
+#[derive(Clone, Copy, Drop)]
+pub(crate) struct Length {
+    pub(crate) nm: Nm,
+    pub(crate) ghost in_range: { IsLength nm },
+}

@@ -1,0 +1,32 @@
+//! Which rule decides.
+//!
+//! The facts of items are what rules may ask of them. [`holds`] says whether a condition holds of them, and [`pick`] which
+//! value a kind of check has between two items or of one: a value of their own, that of a rule, or the default of the board.
+//! The facts of an item of a board, and how far checks reach, are defined here too. No call takes memory.
+#![tactic(auto)]
+
+mod deciding;
+mod facts;
+mod kinds;
+mod lengths;
+mod meaning;
+mod minimums;
+mod names;
+mod picked;
+mod picking;
+mod values;
+
+pub use facts::Facts;
+pub use kinds::{ItemKind, Source};
+pub use meaning::holds;
+pub use names::Names;
+pub use picked::Picked;
+pub use picking::pick;
+
+// Each type may go to another thread and be shared by threads.
+fn crosses<T: Send + Sync>() {}
+
+fn all_cross() {
+    crosses::<Facts>();
+    crosses::<Picked>();
+}
