@@ -1,0 +1,6 @@
+pub mod TileLemmas
+pub mod EntryLists
+pub mod Buckets
+pub mod Numbers
+pub mod RisingIds
+pub mod KeptLemmas

@@ -1,0 +1,5 @@
+pub mod Tiles
+pub mod Areas
+pub mod Cuts
+pub mod Walks
+pub mod Kept

@@ -1,0 +1,207 @@
+//! The index.
+
+ghost use Rattle.std.specs.Prelude.{◌≡◌, ◌<◌, ◌≤ℤ◌, pos, ◌&&◌, false, [], ℕ, length, slice_index_or, filter, All, IfOk, OnOk, OnErr};
+ghost use Rattle.geo_seg.specs.Boxes.{FitsWithin, widened, are_near};
+ghost use Rattle.box_index.specs.declared.entry.Entry.{Entry};
+ghost use Rattle.box_index.specs.Areas.{has_tile};
+ghost use Rattle.box_index.specs.Walks.{AreEmpty, AreMarks};
+ghost use Rattle.box_index.specs.Tiles.{PlainIndex, IsSound, IsComplete, IsAbsent, OwnsBoth, meets_tile, near_of, owner_of, margin, placed, without, held_of, is_held, dirty_of, numbers_below, tile_count};
+
+use crate::area::Area;
+use crate::entry::Entry;
+use crate::kept::KeptBoxes;
+use crate::lanes::{TILES, are_near, owner};
+use crate::walks::{mark_boxes, put_each, reserve_each, take_out_each};
+use geo_seg::Bounds;
+use std::alloc::{AllocError, Global};
+use std::marker::Model;
+
+/// A length in nanometres.
+pub type Nm = i64;
+
+/// The boxes of items, found by tiles of 8 mm. Contracts see the plain list of entries by rising id, and the reach.
+///
+/// It takes boxes that are not empty and reach no farther than 2,000,000,000 half nanometres from the axes, and widens
+/// them by the reach on each side.
+#[derive(Drop)]
+pub struct TileIndex {
+    reach: Nm,
+    // the box of each id
+    boxes: KeptBoxes,
+    // of each tile the entries that meet it, by rising id
+    tiles: Vec<Vec<Entry>>,
+}
+
+impl Model for TileIndex {
+    ghost use Rattle.box_index.specs.Walks.{AreEmpty, AreMarks};
+    ghost use Rattle.box_index.specs.Tiles.{PlainIndex, IsSound};
+    ghost use Rattle.box_index.specs.Walks.{AreBuckets};
+
+    ghost Value = { PlainIndex };
+
+    ghost view = { λ t. record { reach = t.reach; entries = t.boxes } };
+
+    ghost invariant = { λ t. IsSound (record { reach = t.reach; entries = t.boxes }) × AreBuckets (record { reach = t.reach; entries = t.boxes }) t.tiles.items };
+}
+
+impl TileIndex {
+    /// An index without entries. The reach is from 0 to 500,000,000 nanometres. Only want of memory refuses it.
+    pub fn new(alloc: Global, reach: Nm) -> Result<TileIndex, AllocError>
+        requires from { pos 0 ≤ℤ reach }
+        requires to { reach ≤ℤ pos 500000000 }
+        ensures { IfOk result (λ index. index ≡ record { reach = reach; entries = [] }) }
+    {
+        Ok(TileIndex {
+            reach,
+            boxes: KeptBoxes::new(alloc),
+            tiles: empty_tiles(alloc, TILES)?,
+        })
+    }
+
+    /// Puts an entry into each tile that is met by the bounds, where they are widened by the reach. No entry has the id
+    /// yet. Only want of memory refuses it, and the index is then as it was.
+    pub fn insert(&mut self, id: u32, bounds: Bounds) -> Result<(), AllocError>
+        requires bounds { FitsWithin (pos 2000000000) bounds }
+        requires absent { IsAbsent id self.old.entries }
+        ensures ok { OnOk result (self.new ≡ record self.old { entries = placed (record { id = id; bounds = bounds }) self.old.entries }) }
+        ensures unchanged { OnErr result (self.new ≡ self.old) }
+    {
+        let entry = Entry { id, bounds };
+        let area = Area::around(2 * self.reach, bounds);
+        reserve_each(&mut self.tiles, area)?;
+        self.boxes.put(entry)?;
+        put_each(&mut self.tiles, area, entry);
+        Ok(())
+    }
+
+    /// Takes out the entry of this id, if there is one. It takes no memory.
+    pub fn remove(&mut self, id: u32)
+        ensures { self.new ≡ record self.old { entries = without id self.old.entries } }
+    {
+        if let Some(entry) = self.boxes.take_out(id) {
+            let area = Area::around(2 * self.reach, entry.bounds);
+            take_out_each(&mut self.tiles, area, id);
+        }
+    }
+
+    /// The entries that meet a tile where they are widened by the reach, by rising id, lent; none at a tile past the last. The
+    /// tile that answers for two near entries lends both. It takes no memory.
+    pub fn near(&self, tile: u32) -> &[Entry]
+        ensures entries { result.now ≡ near_of self.now tile }
+        ensures complete { IsComplete self.now }
+        ensures sound { IsSound self.now }
+    {
+        match self.tiles.get(tile as usize) {
+            Some(entries) => entries,
+            None => &[],
+        }
+    }
+
+    /// The tile that answers for a pair, the box of the lesser id first: that of the left top corner of what the first,
+    /// widened by the reach, shares with the second. Where the two meet so, it is met by both widened boxes, whether they
+    /// are in the index or not. It takes no memory.
+    pub fn owner(&self, first: Bounds, second: Bounds) -> u32
+        requires first { FitsWithin (pos 2000000000) first }
+        requires second { FitsWithin (pos 2000000000) second }
+        ensures value { result ≡ owner_of (margin self.now) first second }
+        ensures within { result < tile_count }
+        ensures both { OwnsBoth (margin self.now) first second result }
+    {
+        owner(2 * self.reach, first, second) as u32
+    }
+
+    /// Whether the boxes meet, also by touching, where the first is widened by the reach. It takes no memory.
+    pub fn are_near(&self, first: Bounds, second: Bounds) -> bool
+        requires first { FitsWithin (pos 2000000000) first }
+        ensures { result ≡ are_near (margin self.now) first second }
+    {
+        are_near(2 * self.reach, first, second)
+    }
+
+    /// The tiles that the box meets where it is widened by the reach: those that lend the box's entry, where it is in the
+    /// index. It takes no memory.
+    pub fn area(&self, bounds: Bounds) -> Area
+        requires { FitsWithin (pos 2000000000) bounds }
+        ensures { (tile : ℕ) → has_tile result tile ≡ meets_tile (widened bounds (margin self.now)) tile }
+    {
+        Area::around(2 * self.reach, bounds)
+    }
+
+    // Whether the tile holds an entry.
+    fn holds(&self, tile: usize) -> bool
+        requires { tile < tile_count }
+        ensures { result ≡ is_held self.now tile }
+    {
+        !self.tiles[tile].is_empty()
+    }
+
+    /// How many tiles hold an entry. It takes no memory.
+    pub fn held(&self) -> u32
+        ensures { result ≡ length (held_of self.now) }
+    {
+        let mut count = 0;
+        for tile in 0..TILES {
+            if self.holds(tile) {
+                count += 1;
+            }
+        }
+        count
+    }
+
+    /// The numbers, rising, of the tiles with an entry that one of the boxes meets once it is widened by the reach; with
+    /// `all`, of all tiles with an entry. Only want of memory refuses it.
+    pub fn dirty(&self, boxes: &[Bounds], all: bool) -> Result<Vec<u32>, AllocError>
+        requires { All (λ b. FitsWithin (pos 2000000000) b) boxes.now }
+        ensures { IfOk result (λ tiles. tiles.items ≡ dirty_of self.now boxes.now all) }
+    {
+        let alloc = *self.tiles.allocator();
+        let mut marks = new_marks(alloc, TILES, all)?;
+        mark_boxes(&mut marks, 2 * self.reach, boxes);
+        self.marked(alloc, &marks)
+    }
+
+    // Whether the tile holds an entry and is marked.
+    fn holds_marked(&self, marks: &[bool], tile: usize) -> bool
+        requires marks { length marks.now ≡ tile_count }
+        requires within { tile < tile_count }
+        ensures { result ≡ (is_held self.now tile && slice_index_or marks.now tile false) }
+    {
+        self.holds(tile) && marks[tile]
+    }
+
+    // The marked tiles that hold an entry.
+    fn marked(&self, alloc: Global, marks: &[bool]) -> Result<Vec<u32>, AllocError>
+        requires { length marks.now ≡ tile_count }
+        ensures { IfOk result (λ tiles. tiles.items ≡ filter (λ tile. is_held self.now tile && slice_index_or marks.now tile false) (numbers_below tile_count)) }
+    {
+        let mut tiles = Vec::new(alloc);
+        for tile in 0..TILES {
+            if self.holds_marked(marks, tile) {
+                tiles.push(tile as u32)?;
+            }
+        }
+        Ok(tiles)
+    }
+}
+
+// So many tiles without entries.
+fn empty_tiles(alloc: Global, count: usize) -> Result<Vec<Vec<Entry>>, AllocError>
+    ensures { IfOk result (AreEmpty count) }
+{
+    let mut tiles = Vec::with_capacity(alloc, count)?;
+    for _ in 0..count {
+        tiles.push(Vec::new(alloc))?;
+    }
+    Ok(tiles)
+}
+
+// So many marks, all alike.
+fn new_marks(alloc: Global, count: usize, mark: bool) -> Result<Vec<bool>, AllocError>
+    ensures { IfOk result (AreMarks count mark) }
+{
+    let mut marks = Vec::with_capacity(alloc, count)?;
+    for _ in 0..count {
+        marks.push(mark)?;
+    }
+    Ok(marks)
+}

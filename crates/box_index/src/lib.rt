@@ -1,0 +1,22 @@
+//! An index of boxes over the tiles of a board: which items are near a tile, which tile answers for a pair of items, and
+//! which tiles a change reaches.
+//!
+//! The board is cut into 125 by 125 tiles of 8 mm, numbered row by row from the top left. Boxes are in half nanometres; the reach is
+//! nanometres, so each side of a box is moved out by twice the reach.
+#![tactic(auto)]
+
+mod area;
+mod boxes;
+mod entry;
+mod index;
+mod kept;
+mod lanes;
+mod lists;
+#[cfg(test)]
+mod tests;
+mod walks;
+
+pub use area::Area;
+pub use boxes::do_boxes_meet;
+pub use entry::Entry;
+pub use index::{Nm, TileIndex};

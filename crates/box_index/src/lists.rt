@@ -1,0 +1,39 @@
+//! Lists of entries by rising id.
+
+ghost use Rattle.std.specs.Prelude.{◌≡◌, ◌<◌, ◌≤◌, length, vec_len, vec_capacity};
+ghost use Rattle.std.specs.List.{AllWithin};
+ghost use Rattle.box_index.specs.Tiles.{IsRising, IsAbsent, placed, without};
+
+use crate::entry::Entry;
+
+// How many entries have lesser ids.
+fn place_of(entries: &[Entry], id: u32) -> usize
+    requires { IsRising entries.now }
+    ensures within { result ≤ length entries.now }
+    ensures below { AllWithin (λ e. e.id < id) entries.now 0 result }
+    ensures from { AllWithin (λ e. id ≤ e.id) entries.now result (length entries.now) }
+{
+    entries.partition_point(|e| e.id < id)
+}
+
+/// Puts an entry into its place. There is room for it.
+pub(crate) fn put(entries: &mut Vec<Entry>, entry: Entry)
+    requires rising { IsRising entries.old.items }
+    requires absent { IsAbsent entry.id entries.old.items }
+    requires room { vec_len entries.old < vec_capacity entries.old }
+    ensures { entries.new.items ≡ placed entry entries.old.items }
+{
+    let place = place_of(entries, entry.id);
+    let _ = entries.insert(place, entry);
+}
+
+/// Takes out the entry of this id, if there is one.
+pub(crate) fn take_out(entries: &mut Vec<Entry>, id: u32)
+    requires { IsRising entries.old.items }
+    ensures { entries.new.items ≡ without id entries.old.items }
+{
+    let place = place_of(entries, id);
+    if place < entries.len() && entries[place].id == id {
+        let _ = entries.remove(place);
+    }
+}
