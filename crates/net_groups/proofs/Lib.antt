@@ -1,0 +1,14 @@
+pub mod Chains
+pub mod Marks
+pub mod Visits
+pub mod Spreads
+pub mod Asked
+pub mod Covers
+pub mod Walks
+pub mod Owns
+pub mod Placed
+pub mod Conductors
+pub mod Gathering
+pub mod Whole
+pub mod Once
+pub mod Nets

@@ -1,0 +1,136 @@
+-- A visit of a place, one of the others at a time.
+use Rattle.std.proofs.Common.{◌≡◌, ◌⊎◌, ℕ, ◌+◌, ◌<◌, ◌≤◌, take, List, [], ◌∷◌, ◌++◌, length, get_or, set, Contains, Option, None, Some, inl, inr, refl, sym, subst, ap, ◌∙◌, arith}
+use Rattle.std.specs.List.{concat}
+use Rattle.std.proofs.lemmas.List.{length-set, length_push, take_more, take_all, append-nil, append_assoc}
+use Rattle.std.proofs.lemmas.List.Elements.{Contains-push, Contains-push_cases, Contains-append_left, Contains-append_cases}
+use Rattle.net_groups.specs.Classes.{Rises}
+use Rattle.net_groups.specs.Labels.{label_at, IsLabelled, IsPassedOver, IsNew, IsVisited}
+use Rattle.net_groups.proofs.Marks.{distinct, unlabelled_set, set_here, set_kept, set_cases}
+
+pub visited_none : (Step : ℕ → ℕ → Type 0) (ids : List ℕ) (place label : ℕ) (labels : List (Option ℕ)) (stack : List ℕ) → IsVisited Step ids [] place label labels labels stack stack
+visited_none Step ids place label labels stack = record {
+  places = refl;
+  balance = refl;
+  kept = λ i x e. e;
+  fresh = λ i x e. inl e;
+  stacked = λ i c. c;
+  pushed = λ i c. inl c;
+  reached = λ j lt c s. let past = c.1 in absurd (omega arith);
+}
+
+module _ (Step : ℕ → ℕ → Type 0) (ids others : List ℕ) (place label : ℕ) (before labels : List (Option ℕ)) (first stack : List ℕ) (v : IsVisited Step ids others place label before labels first stack) (id : ℕ) where
+  -- the id is none of the ids, or has a label, or is not touched
+  pub visited_skip : ((j : ℕ) → j < length ids → get_or ids j 0 ≡ id → Step (get_or ids place 0) id → IsLabelled labels j) → IsVisited Step ids (others ++ id ∷ []) place label before labels first stack
+  visited_skip skipped = record {
+    places = v.places;
+    balance = v.balance;
+    kept = v.kept;
+    fresh = v.fresh;
+    stacked = v.stacked;
+    pushed = v.pushed;
+    reached = λ j lt c s. elim (Contains-push_cases others id (get_or ids j 0) c) [
+      | inl h ↦ v.reached j lt h s
+      | inr e ↦ skipped j lt (sym e) (subst (Step (get_or ids place 0)) (sym e) s)
+    ];
+  }
+
+  module _ (rises : Rises ids) (q : ℕ) (lt : q < length ids) (many : length labels ≡ length ids) (is : get_or ids q 0 ≡ id) (touch : Step (get_or ids place 0) id) (free : label_at labels q ≡ None) where
+    inside : q < length labels
+    inside = omega arith
+
+    pub visited_push : IsVisited Step ids (others ++ id ∷ []) place label before (set labels q (Some label)) first (stack ++ q ∷ [])
+    visited_push = record {
+      places = length-set labels q (Some label) ∙ v.places;
+      balance = omega (arith, unlabelled_set labels q label inside free, length_push stack q, v.balance);
+      kept = λ i x e. set_kept labels q label inside free i x (v.kept i x e);
+      fresh = fresh;
+      stacked = λ i c. Contains-append_left stack (q ∷ []) i (v.stacked i c);
+      pushed = pushed;
+      reached = reached;
+    }
+      where
+        fresh : (i x : ℕ) → label_at (set labels q (Some label)) i ≡ Some x
+            → (label_at before i ≡ Some x) ⊎ ((x ≡ label) × Contains (stack ++ q ∷ []) i × Step (get_or ids place 0) (get_or ids i 0))
+        fresh i x e = elim (set_cases labels q label inside free i x e) [
+          | inl old ↦ elim (v.fresh i x old) [
+            | inl was ↦ inl was
+            | inr new ↦ inr (new.0, Contains-append_left stack (q ∷ []) i new.1, new.2)
+          ]
+          | inr here ↦ inr (
+            here.1,
+            subst (Contains (stack ++ q ∷ [])) (sym here.0) (Contains-push stack q),
+            subst (λ (k : ℕ). Step (get_or ids place 0) (get_or ids k 0)) (sym here.0) (subst (Step (get_or ids place 0)) (sym is) touch),
+          )
+        ]
+
+        pushed : (i : ℕ) → Contains (stack ++ q ∷ []) i → Contains first i ⊎ (label_at (set labels q (Some label)) i ≡ Some label)
+        pushed i c = elim (Contains-push_cases stack q i c) [
+          | inl h ↦ elim (v.pushed i h) [ inl old ↦ inl old | inr e ↦ inr (set_kept labels q label inside free i label e) ]
+          | inr e ↦ inr (subst (λ (k : ℕ). label_at (set labels q (Some label)) k ≡ Some label) e (set_here labels q label inside free))
+        ]
+
+        reached : (j : ℕ) → j < length ids → Contains (others ++ id ∷ []) (get_or ids j 0) → Step (get_or ids place 0) (get_or ids j 0) → IsLabelled (set labels q (Some label)) j
+        reached j jt c s = elim (Contains-push_cases others id (get_or ids j 0) c) [
+          | inl h ↦ let l = v.reached j jt h s in (l.0, set_kept labels q label inside free j l.0 l.1)
+          | inr e ↦ (label, subst (λ (k : ℕ). label_at (set labels q (Some label)) k ≡ Some label) (distinct ids rises q j lt jt (is ∙ e)) (set_here labels q label inside free))
+        ]
+
+-- ---- the same along a list
+module _ (Step : ℕ → ℕ → Type 0) (ids others : List ℕ) (place label : ℕ) (before labels : List (Option ℕ)) (first stack : List ℕ) (i : ℕ) (lt : i < length others)
+    (v : IsVisited Step ids (take i others) place label before labels first stack) where
+  along : (new_labels : List (Option ℕ)) (new_stack : List ℕ) → IsVisited Step ids (take i others ++ get_or others i 0 ∷ []) place label before new_labels first new_stack → IsVisited Step ids (take (i + 1) others) place label before new_labels first new_stack
+  along new_labels new_stack w = subst (λ (seen : List ℕ). IsVisited Step ids seen place label before new_labels first new_stack) (sym (take_more others i 0 lt)) w
+
+  pub next_skip : IsPassedOver Step ids labels (get_or ids place 0) (get_or others i 0) → IsVisited Step ids (take (i + 1) others) place label before labels first stack
+  next_skip over = along labels stack (visited_skip Step ids (take i others) place label before labels first stack v (get_or others i 0) over)
+
+  pub next_push : Rises ids → length labels ≡ length ids → (q : ℕ) → IsNew Step ids labels (get_or ids place 0) (get_or others i 0) q
+      → IsVisited Step ids (take (i + 1) others) place label before (set labels q (Some label)) first (stack ++ q ∷ [])
+  next_push rises many q n = along (set labels q (Some label)) (stack ++ q ∷ []) (visited_push Step ids (take i others) place label before labels first stack v (get_or others i 0) rises q n.inside many n.is n.touch n.free)
+
+-- all of a list were asked
+pub visited_all : (Step : ℕ → ℕ → Type 0) (ids others : List ℕ) (place label : ℕ) (before labels : List (Option ℕ)) (first stack : List ℕ) (i : ℕ) → length others ≤ i
+    → IsVisited Step ids (take i others) place label before labels first stack → IsVisited Step ids others place label before labels first stack
+visited_all Step ids others place label before labels first stack i le v = subst (λ (seen : List ℕ). IsVisited Step ids seen place label before labels first stack) (take_all i others le) v
+
+-- ---- one list after another
+pub visited_join : (Step : ℕ → ℕ → Type 0) (ids others more : List ℕ) (place label : ℕ) (first second third : List (Option ℕ)) (one two three : List ℕ) → IsVisited Step ids others place label first second one two
+    → IsVisited Step ids more place label second third two three → IsVisited Step ids (others ++ more) place label first third one three
+visited_join Step ids others more place label first second third one two three v w = record {
+  places = w.places ∙ v.places;
+  balance = w.balance ∙ v.balance;
+  kept = λ i x e. w.kept i x (v.kept i x e);
+  fresh = fresh;
+  stacked = λ i c. w.stacked i (v.stacked i c);
+  pushed = pushed;
+  reached = reached;
+}
+  where
+    fresh : (i x : ℕ) → label_at third i ≡ Some x → (label_at first i ≡ Some x) ⊎ ((x ≡ label) × Contains three i × Step (get_or ids place 0) (get_or ids i 0))
+    fresh i x e = elim (w.fresh i x e) [
+      | inl old ↦ elim (v.fresh i x old) [
+        | inl was ↦ inl was
+        | inr new ↦ inr (new.0, w.stacked i new.1, new.2)
+      ]
+      | inr new ↦ inr new
+    ]
+
+    pushed : (i : ℕ) → Contains three i → Contains one i ⊎ (label_at third i ≡ Some label)
+    pushed i c = elim (w.pushed i c) [
+      | inl old ↦ elim (v.pushed i old) [ inl was ↦ inl was | inr e ↦ inr (w.kept i label e) ]
+      | inr e ↦ inr e
+    ]
+
+    reached : (j : ℕ) → j < length ids → Contains (others ++ more) (get_or ids j 0) → Step (get_or ids place 0) (get_or ids j 0) → IsLabelled third j
+    reached j lt c s = elim (Contains-append_cases others more (get_or ids j 0) c) [
+      | inl h ↦ let l = v.reached j lt h s in (l.0, w.kept j l.0 l.1)
+      | inr h ↦ w.reached j lt h s
+    ]
+
+-- one list more of several
+pub concat_more : (lists : List (List ℕ)) (k : ℕ) → k < length lists → concat (take (k + 1) lists) ≡ concat (take k lists) ++ get_or lists k []
+concat_more lists k lt = ap concat (take_more lists k [] lt) ∙ concat_push (take k lists) (get_or lists k [])
+  where
+    concat_push : (xs : List (List ℕ)) (x : List ℕ) → concat (xs ++ x ∷ []) ≡ concat xs ++ x
+    concat_push [] x = append-nil x
+    concat_push (y ∷ xs) x = ap (λ (zs : List ℕ). y ++ zs) (concat_push xs x) ∙ sym (append_assoc y (concat xs) x)

@@ -1,0 +1,62 @@
+//! The groups of a net.
+
+ghost use Rattle.std.specs.Prelude.{◌≡◌, IfOk};
+ghost use Rattle.board_items.specs.Boards.{IsSound, item_at};
+ghost use Rattle.net_groups.specs.Groups.{AreGroups};
+ghost use Rattle.net_groups.specs.Holding.{HoldsItems};
+ghost use Rattle.net_groups.specs.Labels.{AreConductors, is_copper};
+
+use crate::gather::gather;
+use crate::group::Group;
+use crate::labels::label_all;
+use board_items::Board;
+use box_index::TileIndex;
+use std::alloc::{AllocError, Global};
+
+// Whether there is an item of the id and it has copper.
+fn has_copper(board: &Board, id: u32) -> bool
+    ensures { result ≡ is_copper (item_at board.now.items id) }
+{
+    match board.get(id) {
+        Some(item) => !item.copper.as_slice().is_empty(),
+        None => false,
+    }
+}
+
+// The ids of all items of the net with copper, rising.
+fn conductors(alloc: Global, board: &Board, net: u32) -> Result<Vec<u32>, AllocError>
+    ensures sound { IsSound board.now }
+    ensures ids { IfOk result (λ ids. AreConductors board.now net ids.items) }
+{
+    let mut ids = Vec::new(alloc);
+    // the board says here that its ids rise
+    let _ = board.left();
+    if net == 0 {
+        return Ok(ids);
+    }
+    for id in board.of_net(net) {
+        if has_copper(board, *id) {
+            ids.push(*id)?;
+        }
+    }
+    Ok(ids)
+}
+
+/// The groups of a net: all its items with copper, two in one group exactly where a chain of touches joins them.
+///
+/// Items of one net touch where their copper meets on a layer, and net 0 is no net: it has no groups. Members rise, and
+/// groups stand by their least member. The index holds all items of the board that have
+/// bounds; its reach is of no matter. Only want of memory refuses it.
+pub fn groups(
+    alloc: Global,
+    board: &Board,
+    net: u32,
+    index: &TileIndex,
+) -> Result<Vec<Group>, AllocError>
+    requires { HoldsItems board.now index.now }
+    ensures { IfOk result (λ groups. AreGroups board.now net groups.items) }
+{
+    let ids = conductors(alloc, board, net)?;
+    let found = label_all(alloc, board, &ids, index)?;
+    gather(alloc, &ids, &found.labels, found.count)
+}

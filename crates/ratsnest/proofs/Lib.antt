@@ -1,0 +1,10 @@
+pub mod Members
+pub mod Climbing
+pub mod Theory
+pub mod Squares
+pub mod Order
+pub mod Grown
+pub mod Whole
+pub mod Pairs
+pub mod Sorting
+pub mod Joining

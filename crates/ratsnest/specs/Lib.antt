@@ -1,0 +1,5 @@
+pub mod Reach
+pub mod Mem
+pub mod Chains
+pub mod NestOf
+pub mod Grow

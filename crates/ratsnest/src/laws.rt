@@ -1,0 +1,16 @@
+//! Laws of nests. The functions do nothing: each clause holds for all anchors and links.
+
+ghost use Rattle.std.specs.Prelude.{◌≡◌, ◌<◌, ◌^◌, List, length};
+ghost use Rattle.ratsnest.specs.declared.anchor.Anchor.{Anchor};
+ghost use Rattle.ratsnest.specs.declared.link.Link.{Link};
+ghost use Rattle.ratsnest.specs.NestOf.{Rise, IsNest, IsLeast};
+
+/// Anchors have one nest.
+pub fn one_nest()
+    ensures { (anchors : List Anchor) → Rise anchors → length anchors < 2 ^ 32 → (a b : List Link) → IsNest anchors a → IsNest anchors b → a ≡ b }
+{}
+
+/// No list of links that joins all groups has a lesser sum of squares than a nest, whoever made it.
+pub fn nests_are_least()
+    ensures { (anchors : List Anchor) → Rise anchors → length anchors < 2 ^ 32 → (links : List Link) → IsNest anchors links → IsLeast anchors links }
+{}

@@ -1,0 +1,19 @@
+//! Links that join the groups of a net at the least sum of squared distances, and a check of such links.
+//!
+//! Coordinates are nanometres, and squares are square nanometres.
+#![tactic(auto)]
+
+mod anchor;
+mod checking;
+mod growing;
+mod laws;
+mod link;
+mod links;
+mod places;
+
+pub use anchor::Anchor;
+pub use checking::check_nest;
+pub use growing::nest;
+pub use laws::{nests_are_least, one_nest};
+pub use link::Link;
+pub use links::{Links, Nest};
