@@ -1,2 +1,4 @@
 pub mod LayerNames
 pub mod Later
+pub mod OneFacts
+pub mod OnePick

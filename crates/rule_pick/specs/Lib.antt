@@ -4,3 +4,4 @@ pub mod Picks
 pub mod Deciding
 pub mod FactsOf
 pub mod Reach
+pub mod AllFacts

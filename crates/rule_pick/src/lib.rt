@@ -8,6 +8,7 @@
 mod deciding;
 mod facts;
 mod kinds;
+pub mod laws;
 mod lengths;
 mod meaning;
 mod minimums;

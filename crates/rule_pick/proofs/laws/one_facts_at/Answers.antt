@@ -1,0 +1,5 @@
+use Rattle.rule_pick.proofs.OneFacts as once
+use Rattle.rule_pick.proofs.laws.one_facts_at.Goals as goal
+
+pub returns : goal.returns
+returns c = once.one_facts_at
