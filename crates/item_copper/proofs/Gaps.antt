@@ -8,7 +8,7 @@ use Rattle.geo_seg.specs.declared.shapes.Shape.{Shape}
 use Rattle.geo_seg.specs.Distances.{Apart, IsGap}
 use Rattle.geo_shape.proofs.Numbers.{apart_at_less, double_le, double_from}
 use Rattle.board_items.specs.declared.parts.Part.{Part}
-use Rattle.board_items.specs.Copper.{on_layer, Keeps}
+use Rattle.board_items.specs.Copper.{Keeps}
 
 pub int_cases : (g : ℤ) → (pos 1 ≤ℤ g) ⊎ (g ≤ℤ pos 0)
 int_cases (pos zero) = inr (omega (arith, ints))
@@ -16,7 +16,7 @@ int_cases (pos (suc n)) = inl (omega (arith, ints))
 int_cases (negsuc n) = inr (omega (arith, ints))
 
 -- a gap stays where what is kept says the same
-gap_as : (K L : ℤ → Type 0) (v gap : ℤ) → ((g : ℤ) → K g → L g) → ((g : ℤ) → pos 1 ≤ℤ g → L g → K g) → IsGap K v gap → IsGap L v gap
+pub gap_as : (K L : ℤ → Type 0) (v gap : ℤ) → ((g : ℤ) → K g → L g) → ((g : ℤ) → pos 1 ≤ℤ g → L g → K g) → IsGap K v gap → IsGap L v gap
 gap_as K L v gap to from is = record { from = is.from; to = is.to; kept = kept is.kept; greatest = λ g least most h. is.greatest g least most (from g least h) }
   where
     kept : (gap ≡ pos 0) ⊎ K gap → (gap ≡ pos 0) ⊎ L gap
@@ -38,7 +38,7 @@ All-last P (y ∷ ys) x a = All-last P ys x (All-tail P y (ys ++ x ∷ []) a)
 pub record IsFalling {X : Type 0} (K : X → ℤ → Type 0) : Type 0 where
   pub lesser : (x : X) (g h : ℤ) → pos 1 ≤ℤ g → g ≤ℤ h → K x h → K x g
 
-gap_both : {X : Type 0} {K : X → ℤ → Type 0} → IsFalling K → (xs : List X) (x : X) (most low gap : ℤ) → IsGap (λ g. All (λ y. K y g) xs) most low → IsGap (K x) low gap → IsGap (λ g. All (λ y. K y g) (xs ++ x ∷ [])) most gap
+pub gap_both : {X : Type 0} {K : X → ℤ → Type 0} → IsFalling K → (xs : List X) (x : X) (most low gap : ℤ) → IsGap (λ g. All (λ y. K y g) xs) most low → IsGap (K x) low gap → IsGap (λ g. All (λ y. K y g) (xs ++ x ∷ [])) most gap
 gap_both {X} {K} falls xs x most low gap is own = record { from = own.from; to = less own.to is.to; kept = by_own own.kept; greatest = greatest }
   where
     less : {a b c : ℤ} → a ≤ℤ b → b ≤ℤ c → a ≤ℤ c
@@ -97,11 +97,11 @@ module _ {X : Type 0} (K : X → ℤ → Type 0) (test : X → Bool) (xs : List 
 shapes_fall : (a b : Shape) (g h : ℤ) → pos 1 ≤ℤ g → g ≤ℤ h → Apart a b (pos 2 *ℤ h) → Apart a b (pos 2 *ℤ g)
 shapes_fall a b g h some to far = apart_at_less a b (pos 2 *ℤ g) (pos 2 *ℤ h) (double_from g (omega (arith, ints))) (double_le g h to) far
 
-pub other_falls : (part : Part) → IsFalling (λ (other : Part) g. Apart part.shape other.shape (pos 2 *ℤ g))
-other_falls part = record { lesser = λ other g h some to far. shapes_fall part.shape other.shape g h some to far }
+pub other_falls : (shape : Shape) → IsFalling (λ (other : Part) g. Apart shape other.shape (pos 2 *ℤ g))
+other_falls shape = record { lesser = λ other g h some to far. shapes_fall shape other.shape g h some to far }
 
-pub part_falls : (layer : ℕ) (others : List Part) → IsFalling (λ (part : Part) g. All (λ other. Apart part.shape other.shape (pos 2 *ℤ g)) (on_layer layer others))
-part_falls layer others = record { lesser = λ part g h some to far k d lt. shapes_fall part.shape (get_or (on_layer layer others) k d).shape g h some to (far k d lt) }
+pub part_falls : (others : List Part) → IsFalling (λ (part : Part) g. All (λ other. Apart part.shape other.shape (pos 2 *ℤ g)) others)
+part_falls others = record { lesser = λ part g h some to far k d lt. shapes_fall part.shape (get_or others k d).shape g h some to (far k d lt) }
 
 -- the gap of two lists
 pub gap_of_lists : (parts others : List Part) (most gap : ℤ) → IsGap (λ g. All (λ part. All (λ other. Apart part.shape other.shape (pos 2 *ℤ g)) others) parts) most gap → IsGap (Keeps parts others) most gap

@@ -1,6 +1,8 @@
 pub mod Chosen
 pub mod ClearLists
+pub mod Far
 pub mod Gaps
 pub mod Meeting
 pub mod Rooms
+pub mod SideLists
 pub mod Symmetry

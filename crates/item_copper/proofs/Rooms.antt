@@ -1,5 +1,5 @@
 -- Where copper meets, the bounds of the items meet.
-use Rattle.std.proofs.Common.{◌≡◌, ◌⊎◌, ℕ, zero, suc, ◌<◌, ℤ, pos, negsuc, ◌+ℤ◌, ◌-ℤ◌, ◌≤ℤ◌, List, [], ◌∷◌, ◌++◌, length, get_or, Some, inl, inr, sym, subst, arith}
+use Rattle.std.proofs.Common.{◌≡◌, ◌⊎◌, ℕ, zero, suc, ◌<◌, ℤ, pos, negsuc, ◌+ℤ◌, ◌-ℤ◌, ◌≤ℤ◌, List, [], ◌∷◌, ◌++◌, length, get_or, Contains, Some, inl, inr, sym, subst, arith}
 use Rattle.std.proofs.lemmas.Int.{ints}
 use Rattle.std.specs.List.{Any}
 use Rattle.geo_seg.specs.declared.shapes.Shape.{Shape}
@@ -22,7 +22,7 @@ int_cases (pos (suc n)) = inl (omega (arith, ints))
 int_cases (negsuc n) = inr (omega (arith, ints))
 
 -- of two numbers the first is not past the second, unless it is refuted
-le_unless : (m n : ℤ) → ((n +ℤ pos 1) ≤ℤ m → ⊥) → m ≤ℤ n
+pub le_unless : (m n : ℤ) → ((n +ℤ pos 1) ≤ℤ m → ⊥) → m ≤ℤ n
 le_unless m n none = elim (int_cases (m -ℤ n)) [
   | inl more ↦ absurd (none (omega (arith, ints)))
   | inr le ↦ omega (arith, ints)
@@ -66,7 +66,7 @@ lies_at box [] k d h lt = absurd (omega arith)
 lies_at box (p ∷ ps) zero d h lt = h.0
 lies_at box (p ∷ ps) (suc k) d h lt = lies_at box ps k d h.1 (omega arith)
 
-all_lie : (ps : List Part) (box : Bounds) → AreBoundsOf ps (Some box) → AllLieIn box ps
+pub all_lie : (ps : List Part) (box : Bounds) → AreBoundsOf ps (Some box) → AllLieIn box ps
 all_lie [] box e = tt
 all_lie (p ∷ ps) box h = h.holds
 
@@ -82,3 +82,13 @@ rooms_meet a b box other ha hb c =
     let p : LiesIn box some.1 = copper_lies a box ha some.0 some.1 some.2 some.3 in
     let q : LiesIn other one.1 = copper_lies b other hb one.0 one.1 one.2 one.3 in
     around_meet p.bounds q.bounds box other (shapes_meet some.1.shape one.1.shape p.bounds q.bounds p.own q.own one.4.meet) p.inside q.inside
+
+-- ---- parts of two lists that meet
+one_lies : (ps : List Part) (box : Bounds) (part : Part) → AreBoundsOf ps (Some box) → Contains ps part → LiesIn box part
+one_lies ps box part bounds c = subst (LiesIn box) c.2 (lies_at box ps c.0 part (all_lie ps box bounds) c.1)
+
+pub parts_meet : (ps qs : List Part) (box other : Bounds) → AreBoundsOf ps (Some box) → AreBoundsOf qs (Some other) → (p q : Part) → Contains ps p → Contains qs q → Meet p.shape q.shape → BoxesMeet box other
+parts_meet ps qs box other hb ho p q c d meet =
+    let l : LiesIn box p = one_lies ps box p hb c in
+    let m : LiesIn other q = one_lies qs other q ho d in
+    around_meet l.bounds m.bounds box other (shapes_meet p.shape q.shape l.bounds m.bounds l.own m.own meet) l.inside m.inside

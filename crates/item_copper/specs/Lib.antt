@@ -1,1 +1,3 @@
 pub mod Clear
+pub mod Stack
+pub mod Sides

@@ -5,8 +5,8 @@ ghost use Rattle.board_items.specs.Layers.{has_layer};
 
 use board_items::LayerSet;
 
-// Whether some layer is in both sets.
-pub(crate) fn share_layer(a: LayerSet, b: LayerSet) -> bool
+/// Whether some layer is in both sets. It takes no memory.
+pub fn share_layer(a: LayerSet, b: LayerSet) -> bool
     ensures { IsTrue result ↔ ((layer : ℕ) × IsTrue (has_layer a layer) × IsTrue (has_layer b layer)) }
 {
     a.bits & b.bits != 0

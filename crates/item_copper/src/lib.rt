@@ -1,11 +1,17 @@
-//! The copper of items: lists of parts, and whether they meet and how near they are to each other, on a layer and on all.
+//! The copper of items: lists of parts, and whether they meet and how near they are to each other, on a layer and
+//! on all; and their other parts in the same way.
 //!
 //! Shapes are in half nanometres; the distances that are kept are nanometres. No call takes memory.
 #![tactic(auto)]
 
 mod copper;
+mod facing;
 mod layers;
+mod side;
 mod touch;
 
-pub use copper::{are_clear, gap_on, meet_on};
-pub use touch::copper_meets;
+pub use copper::are_clear;
+pub use facing::{is_empty, sides_gap, sides_meet};
+pub use layers::share_layer;
+pub use side::{ListedParts, Side, SinglePart};
+pub use touch::{copper_meets, touches};

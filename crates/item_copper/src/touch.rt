@@ -7,8 +7,8 @@ ghost use Rattle.board_items.specs.Copper.{PartsMeet, CopperMeets};
 use crate::layers::share_layer;
 use board_items::{Item, Part};
 
-// Whether the two lie on a layer together and meet.
-fn touches(part: &Part, other: &Part) -> bool
+/// Whether the two lie on a layer together and meet there. It takes no memory.
+pub fn touches(part: &Part, other: &Part) -> bool
     ensures { IsTrue result ↔ PartsMeet part.now other.now }
 {
     share_layer(part.layers, other.layers) && geo_shape::meet(&part.shape, &other.shape)
