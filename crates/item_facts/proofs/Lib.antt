@@ -1,0 +1,11 @@
+pub mod Raising
+pub mod Named
+pub mod Placed
+pub mod OnLayers
+pub mod MarkBoxes
+pub mod NearIds
+pub mod NearTiles
+pub mod LeftItems
+pub mod Picked
+pub mod Marked
+pub mod SoFar

@@ -1,0 +1,27 @@
+-- Classes of nets that were found, and facts of items that were.
+use Rattle.std.specs.Prelude.{◌≡◌, ◌⊎◌, ℕ, List, Some, IsSome}
+use Rattle.std.specs.Ordering.{nat_cmp}
+use Rattle.std.specs.BTreeMap as tree
+use Rattle.std.specs.BTreeMap.{BTreeMap}
+use denote.Ref.{Bor}
+use Rattle.board_items.specs.declared.item.Item.{Item}
+use Rattle.board_items.specs.Boards.{PlainBoard, IsRising, item_at}
+use Rattle.net_class.specs.declared.lengths.Class.{Class}
+use Rattle.net_class.specs.Classes.{PlainClasses}
+use Rattle.net_class.specs.Views.{plain_class}
+use Rattle.rule_pick.specs.FactsOf.{class_of_net, AreFacts}
+use Rattle.rule_pick.specs.declared.facts.Facts.{Facts}
+
+-- each net that is there has its class
+pub record AreKnown (classes : PlainClasses) (board : PlainBoard) (known : BTreeMap ℕ (Bor Class)) : Type 0 where
+  pub right : (net : ℕ) (c : Bor Class) → tree.get nat_cmp known net ≡ Some c → plain_class c.now ≡ class_of_net classes board net
+
+-- the items that are left, of these
+pub record AreLeft (items left : List (ℕ × Item)) : Type 0 where
+  pub rising : IsRising left
+  pub same : (id : ℕ) (item : Item) → item_at left id ≡ Some item → item_at items id ≡ Some item
+
+-- all entries are right, and each item that is not left has one
+pub record HasFactsSoFar (board : PlainBoard) (classes : PlainClasses) (left : List (ℕ × Item)) (facts : BTreeMap ℕ Facts) : Type 0 where
+  pub right : (id : ℕ) (f : Facts) → tree.get nat_cmp facts id ≡ Some f → AreFacts board classes id f
+  pub all : (id : ℕ) (item : Item) → item_at board.items id ≡ Some item → (item_at left id ≡ Some item) ⊎ IsSome (tree.get nat_cmp facts id)

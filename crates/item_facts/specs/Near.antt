@@ -1,0 +1,75 @@
+-- The areas and bodies near an item, as an index finds them.
+use Rattle.std.specs.Prelude.{◌≡◌, ◌≢◌, ℕ, ◌+◌, ◌<◌, ◌≤◌, true, List, [], ◌∷◌, Contains, Option, None, Some}
+use Rattle.geo_seg.specs.declared.boxes.Bounds.{Bounds}
+use Rattle.geo_seg.specs.Boxes.{do_boxes_meet}
+use Rattle.board_items.specs.declared.item.Item.{Item}
+use Rattle.board_items.specs.Boards.{item_at, is_mark}
+use Rattle.board_items.specs.Parts.{parts_of}
+use Rattle.board_items.specs.Extents.{AreBoundsOf}
+use Rattle.box_index.specs.declared.area.Area.{Area}
+use Rattle.box_index.specs.declared.entry.Entry.{Entry}
+use Rattle.box_index.specs.Areas.{has_tile, end_of}
+use Rattle.box_index.specs.Tiles.{PlainIndex, near_of}
+use Rattle.rule_pick.specs.FactsOf.{MeetsArea, MeetsCourtyard}
+
+-- ---- ids
+
+-- the ids rise along the list, from `low` on
+abbrev pub DoRise : ℕ → List ℕ → Type 0
+DoRise low [] = Unit {0}
+DoRise low (id ∷ ids) = (low ≤ id) × DoRise (id + 1) ids
+
+-- the ids still rise, none is gone, and this one is among them
+pub record IsWith (id : ℕ) (old new : List ℕ) : Type 0 where
+  pub rises : DoRise 0 new
+  pub kept : (other : ℕ) → Contains old other → Contains new other
+  pub has : Contains new id
+
+-- the ids still rise, none is gone, and among them is that of each entry whose box meets this one
+pub record HasMet (box : Bounds) (entries : List Entry) (old new : List ℕ) : Type 0 where
+  pub rises : DoRise 0 new
+  pub kept : (other : ℕ) → Contains old other → Contains new other
+  pub met : (e : Entry) → Contains entries e → do_boxes_meet box e.bounds ≡ true → Contains new e.id
+
+-- ---- tiles
+
+-- what holds when the tiles of an area before this one were asked
+pub record IsWalked (index : PlainIndex) (area : Area) (box : Bounds) (ids : List ℕ) (here : ℕ) : Type 0 where
+  pub next : here < end_of area → has_tile area here ≡ true
+  pub rises : DoRise 0 ids
+  pub met : (tile : ℕ) → tile < here → has_tile area tile ≡ true → (e : Entry) → Contains (near_of index tile) e → do_boxes_meet box e.bounds ≡ true → Contains ids e.id
+
+-- ---- items
+
+-- the index has an entry of the item, under its bounds
+pub record HasMark (index : PlainIndex) (id : ℕ) (item : Item) : Type 0 where
+  pub box : Bounds
+  pub own : AreBoundsOf (parts_of item) (Some box)
+  pub entry : Contains index.entries (record { id = id; bounds = box })
+
+-- the index has each area and body of the board that has bounds
+pub record HoldsMarks (items : List (ℕ × Item)) (index : PlainIndex) : Type 0 where
+  pub each : (id : ℕ) (item : Item) → item_at items id ≡ Some item → is_mark item.what ≡ true → parts_of item ≢ [] → HasMark index id item
+
+-- an index with the item, where that is an area or a body
+pub record IsMarked (id : ℕ) (item : Item) (old new : PlainIndex) : Type 0 where
+  pub kept : (e : Entry) → Contains old.entries e → Contains new.entries e
+  pub only : (e : Entry) → Contains new.entries e → e.id ≢ id → Contains old.entries e
+  pub has : is_mark item.what ≡ true → parts_of item ≢ [] → HasMark new id item
+
+-- the ids rise, and among them is each area and body that the item meets
+pub record AreEnough (item : Item) (items : List (ℕ × Item)) (ids : List ℕ) : Type 0 where
+  pub rises : DoRise 0 ids
+  pub areas : (id : ℕ) (other : Item) → item_at items id ≡ Some other → (name : List ℕ) → MeetsArea item other.what name → Contains ids id
+  pub courtyards : (id : ℕ) (other : Item) → item_at items id ≡ Some other → (name : List ℕ) → MeetsCourtyard item other.what name → Contains ids id
+
+-- ---- walks over the items
+
+-- the items of these ids, in their order
+abbrev pub entry_if : ℕ → Option Item → List (ℕ × Item) → List (ℕ × Item)
+entry_if id None entries = entries
+entry_if id (Some item) entries = (id, item) ∷ entries
+
+abbrev pub picked : List (ℕ × Item) → List ℕ → List (ℕ × Item)
+picked items [] = []
+picked items (id ∷ ids) = entry_if id (item_at items id) (picked items ids)

@@ -1,0 +1,86 @@
+//! The facts of an item.
+
+ghost use Rattle.std.specs.Prelude.{◌≡◌, [], unwrap_or, IfOk, IsSome};
+ghost use Rattle.board_items.specs.Boards.{item_at, name_of};
+ghost use Rattle.net_class.specs.Classes.{PlainClasses};
+ghost use Rattle.net_class.specs.Views.{plain_class};
+ghost use Rattle.rule_pick.specs.FactsOf.{MeetsArea, MeetsCourtyard, AreNamesOf, class_of_net, AreFactsOf, AreFacts};
+
+use crate::classes::class_of_net;
+use crate::kinds::{
+    diameter_of, hole_of, is_blind, is_edge, is_micro, is_plated, kind_of, local_of, width_of,
+};
+use crate::layers::layers_of;
+use crate::names::{areas_of, courtyards_of};
+use board_items::{Board, Item};
+use drc_io::Name;
+use net_class::{Class, Classes};
+use rule_pick::{Facts, Names};
+use std::alloc::{AllocError, Global};
+
+// The name of a net; empty where it was not declared.
+fn net_name(alloc: Global, board: &Board, net: u32) -> Result<Name, AllocError>
+    ensures { IfOk result (λ name. name ≡ unwrap_or (name_of board.now net) []) }
+{
+    match board.net_name(net) {
+        None => Ok(Name::of(Vec::new(alloc))),
+        Some(name) => Ok(name.copy()?),
+    }
+}
+
+// The facts of an item of this class that meets these areas and courtyards.
+pub(crate) fn facts_with(
+    alloc: Global,
+    board: &Board,
+    class: &Class,
+    item: &Item,
+    areas: Names,
+    courtyards: Names,
+) -> Result<Facts, AllocError>
+    requires areas { AreNamesOf (MeetsArea item.now) board.now.items areas }
+    requires courtyards { AreNamesOf (MeetsCourtyard item.now) board.now.items courtyards }
+    ensures { (classes : PlainClasses) → plain_class class.now ≡ class_of_net classes board.now item.now.net → IfOk result (λ facts. AreFactsOf board.now classes item.now facts) }
+{
+    Ok(Facts {
+        kind: kind_of(&item.what),
+        class: class.name.copy()?,
+        net_name: net_name(alloc, board, item.net)?,
+        width: width_of(item).nm,
+        diameter: diameter_of(item).nm,
+        hole: hole_of(item).nm,
+        layers: layers_of(item),
+        on_edge: is_edge(&item.what),
+        plated: is_plated(&item.hole),
+        micro: is_micro(&item.what),
+        blind: is_blind(&item.what),
+        local: local_of(item).nm,
+        class_clearance: class.clearance,
+        areas,
+        courtyards,
+    })
+}
+
+// The facts of an item of the board.
+fn facts_of(
+    alloc: Global,
+    board: &Board,
+    classes: &Classes,
+    item: &Item,
+) -> Result<Facts, AllocError>
+    ensures { IfOk result (λ facts. AreFactsOf board.now classes.now item.now facts) }
+{
+    let class = class_of_net(board, classes, item.net);
+    let areas = areas_of(alloc, board, item)?;
+    let courtyards = courtyards_of(alloc, board, item)?;
+    facts_with(alloc, board, class, item, areas, courtyards)
+}
+
+/// The facts of the item of this id, which is one of the board's: what rules may ask of it. The titles of the rule areas that
+/// it meets, and the references of the footprints whose courtyards it meets, stand in the order of the items. Only want of
+/// memory refuses it.
+pub fn facts(alloc: Global, board: &Board, classes: &Classes, id: u32) -> Result<Facts, AllocError>
+    requires { IsSome (item_at board.now.items id) }
+    ensures { IfOk result (λ facts. AreFacts board.now classes.now id facts) }
+{
+    facts_of(alloc, board, classes, board.get(id).unwrap())
+}
