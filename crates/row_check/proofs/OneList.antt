@@ -1,14 +1,27 @@
--- A board has one list of rows, and their items are on it.
-use Rattle.std.proofs.Common.{◌≡◌, ◌⊎◌, ℕ, zero, suc, ◌<◌, List, [], ◌∷◌, length, get_or, All, Contains, Option, Some, IsSome, inl, inr, refl, sym, ap, subst, ◌∙◌, arith}
-use Rattle.std.specs.List.{AllPairs}
+-- A board has one list of rows; their items are on it, and their rules among those that are checked.
+use Rattle.std.proofs.Common.{◌≡◌, ◌⊎◌, ℕ, suc, ◌<◌, List, [], ◌∷◌, length, get_or, All, Contains, Option, Some, None, IsSome, inl, inr, refl, sym, ap, subst, ◌∙◌, arith}
+use Rattle.std.specs.List.{AllPairs, slice_get}
+use Rattle.std.proofs.lemmas.List.Elements.{All-weaker, All-contains}
+use Rattle.std.proofs.lemmas.Option.{slice_get_within}
 use Rattle.board_items.specs.declared.item.Item.{Item}
-use Rattle.board_items.specs.Boards.{PlainBoard}
-use Rattle.net_class.specs.Classes.{PlainClasses}
-use Rattle.row_check.specs.declared.rows.Row.{Row}
-use Rattle.row_check.specs.Rows.{Before, AreRows, IsRow, HasItems}
+use Rattle.board_items.specs.Boards.{item_at}
+use Rattle.cond_lang.specs.Rules.{PlainRule}
+use Rattle.cond_lang.specs.declared.kind.Kind.{Kind}
+use Rattle.cond_lang.specs.declared.kind.Kind.TheVariants.{Short, Clearance, HoleClearance, HoleToHole, EdgeClearance, CourtyardClearance, Keepout, TrackWidth, ViaDiameter, HoleSize, AnnularWidth, Disallow, PhysicalClearance, PhysicalHoleClearance, Assertion}
+use Rattle.net_class.specs.Classes.{PlainMins}
+use Rattle.rule_pick.specs.declared.facts.Facts.{Facts}
+use Rattle.rule_pick.specs.declared.kinds.Source.{Source}
+use Rattle.rule_pick.specs.declared.kinds.Source.TheVariants.{Default, Local, Rule}
+use Rattle.rule_pick.specs.Deciding.{IsPick}
+use Rattle.rule_pick.specs.Picks.{Pick}
+use Rattle.row_check.specs.PlainRow.{PlainRow}
+use Rattle.row_check.specs.Pairs.{Deciders, Pair, Breaks, SaysMeeting, SaysNear}
+use Rattle.row_check.specs.Singles.{BreaksAlone, SaysLimit, SaysForbidden}
+use Rattle.row_check.specs.Rows.{Checked, deciders, Before, AreRowsWhere, AreRows, IsRow, IsRowOfTwo, IsRowOfOne, HasItems, HasSource}
+use Rattle.row_check.proofs.RowLists.{here, behind, nothing, cons_case}
 
 -- of two rows not both come before the other
-before_once : (r s : Row) → Before r s → Before s r → ⊥
+before_once : (r s : PlainRow) → Before r s → Before s r → ⊥
 before_once r s (inl h) (inl k) = omega arith
 before_once r s (inl h) (inr (inl k)) = let p = k.0 in omega arith
 before_once r s (inl h) (inr (inr k)) = let p = k.0 in omega arith
@@ -19,72 +32,125 @@ before_once r s (inr (inr h)) (inl k) = let p = h.0 in omega arith
 before_once r s (inr (inr h)) (inr (inl k)) = let p = h.1 in let q = k.1 in omega arith
 before_once r s (inr (inr h)) (inr (inr k)) = let p = h.2 in let q = k.2 in omega arith
 
-here : (r : Row) (rows : List Row) → Contains (r ∷ rows) r
-here r rows = (0, omega arith, refl)
-
-nothing : (r : Row) → Contains [] r → ⊥
-nothing r c = let h = c.1 in omega arith
-
-cons_case : (r s : Row) (rows : List Row) → Contains (r ∷ rows) s → (r ≡ s) ⊎ Contains rows s
-cons_case r s rows c = by_place c.0 c.1 c.2
-  where
-    by_place : (k : ℕ) → k < length (r ∷ rows) → get_or (r ∷ rows) k s ≡ s → (r ≡ s) ⊎ Contains rows s
-    by_place zero h e = inl e
-    by_place (suc k) h e = inr (k, omega arith, e)
-
 -- the first row comes before each later one
-head_before : (r s : Row) (rows : List Row) → AllPairs Before (r ∷ rows) → Contains rows s → Before r s
+head_before : (r s : PlainRow) (rows : List PlainRow) → AllPairs Before (r ∷ rows) → Contains rows s → Before r s
 head_before r s rows ordered c = let h = c.1 in subst (Before r) c.2 (ordered 0 (suc c.0) s (omega arith) (omega arith))
 
-tail_ordered : (r : Row) (rows : List Row) → AllPairs Before (r ∷ rows) → AllPairs Before rows
+tail_ordered : (r : PlainRow) (rows : List PlainRow) → AllPairs Before (r ∷ rows) → AllPairs Before rows
 tail_ordered r rows ordered i j d h k = ordered (suc i) (suc j) d (omega arith) (omega arith)
 
 -- what is among the rest of the one is among the rest of the other
-rest_in : (r : Row) (rows others : List Row) → AllPairs Before (r ∷ rows) → ((s : Row) → Contains (r ∷ rows) s → Contains (r ∷ others) s) → (s : Row) → Contains rows s → Contains others s
+rest_in : (r : PlainRow) (rows others : List PlainRow) → AllPairs Before (r ∷ rows) → ((s : PlainRow) → Contains (r ∷ rows) s → Contains (r ∷ others) s) → (s : PlainRow) → Contains rows s → Contains others s
 rest_in r rows others ordered into s c = by_case (cons_case r s others (into s (behind r s rows c)))
   where
-    behind : (q t : Row) (rest : List Row) → Contains rest t → Contains (q ∷ rest) t
-    behind q t rest k = let h = k.1 in (suc k.0, omega arith, k.2)
-
     by_case : (r ≡ s) ⊎ Contains others s → Contains others s
     by_case (inr k) = k
     by_case (inl e) = let b = head_before r s rows ordered c in absurd (before_once r s b (subst (λ x. Before s x) (sym e) (subst (λ x. Before x s) e b)))
 
 -- rows in order with the same elements are the same
-pub same_rows : (xs ys : List Row) → AllPairs Before xs → AllPairs Before ys → ((r : Row) → Contains xs r → Contains ys r) → ((r : Row) → Contains ys r → Contains xs r) → xs ≡ ys
+pub same_rows : (xs ys : List PlainRow) → AllPairs Before xs → AllPairs Before ys → ((r : PlainRow) → Contains xs r → Contains ys r) → ((r : PlainRow) → Contains ys r → Contains xs r) → xs ≡ ys
 same_rows [] [] ox oy into back = refl
 same_rows [] (y ∷ ys) ox oy into back = absurd (nothing y (back y (here y ys)))
 same_rows (x ∷ xs) [] ox oy into back = absurd (nothing x (into x (here x xs)))
 same_rows (x ∷ xs) (y ∷ ys) ox oy into back = by_heads (same_rows xs ys) (cons_case y x ys (into x (here x xs))) (cons_case x y xs (back y (here y ys)))
   where
-    by_same : (AllPairs Before xs → AllPairs Before ys → ((r : Row) → Contains xs r → Contains ys r) → ((r : Row) → Contains ys r → Contains xs r) → xs ≡ ys)
+    by_same : (AllPairs Before xs → AllPairs Before ys → ((r : PlainRow) → Contains xs r → Contains ys r) → ((r : PlainRow) → Contains ys r → Contains xs r) → xs ≡ ys)
         → x ≡ y → (x ∷ xs) ≡ (y ∷ ys)
     by_same again e =
-        let into_x : (r : Row) → Contains (x ∷ xs) r → Contains (x ∷ ys) r = λ r c. subst (λ h. Contains (h ∷ ys) r) (sym e) (into r c) in
-        let back_y : (r : Row) → Contains (y ∷ ys) r → Contains (y ∷ xs) r = λ r c. subst (λ h. Contains (h ∷ xs) r) e (back r c) in
+        let into_x : (r : PlainRow) → Contains (x ∷ xs) r → Contains (x ∷ ys) r = λ r c. subst (λ h. Contains (h ∷ ys) r) (sym e) (into r c) in
+        let back_y : (r : PlainRow) → Contains (y ∷ ys) r → Contains (y ∷ xs) r = λ r c. subst (λ h. Contains (h ∷ xs) r) e (back r c) in
         let rest = again (tail_ordered x xs ox) (tail_ordered y ys oy) (rest_in x xs ys ox into_x) (rest_in y ys xs oy back_y) in
         ap (λ h. h ∷ xs) e ∙ ap (λ t. y ∷ t) rest
 
-    by_heads : (AllPairs Before xs → AllPairs Before ys → ((r : Row) → Contains xs r → Contains ys r) → ((r : Row) → Contains ys r → Contains xs r) → xs ≡ ys)
+    by_heads : (AllPairs Before xs → AllPairs Before ys → ((r : PlainRow) → Contains xs r → Contains ys r) → ((r : PlainRow) → Contains ys r → Contains xs r) → xs ≡ ys)
         → (y ≡ x) ⊎ Contains ys x → (x ≡ y) ⊎ Contains xs y → (x ∷ xs) ≡ (y ∷ ys)
     by_heads again (inl e) k = by_same again (sym e)
     by_heads again (inr h) (inl e) = by_same again e
     by_heads again (inr h) (inr k) = absurd (before_once x y (head_before x y xs ox k) (head_before y x ys oy h))
 
-row_among : (classes : PlainClasses) (board : PlainBoard) (rows : List Row) (r : Row) → All (IsRow classes board) rows → Contains rows r → IsRow classes board r
-row_among classes board rows r only c = subst (IsRow classes board) c.2 (only c.0 r c.1)
+pub one_list_where : (P : PlainRow → Type 0) (xs ys : List PlainRow) → AreRowsWhere P xs → AreRowsWhere P ys → xs ≡ ys
+one_list_where P xs ys p q =
+    same_rows xs ys p.ordered q.ordered (λ r h. q.all r (All-contains P xs r p.only h)) (λ r h. p.all r (All-contains P ys r q.only h))
 
-pub one_list : (classes : PlainClasses) (board : PlainBoard) (xs ys : List Row) → AreRows classes board xs → AreRows classes board ys → xs ≡ ys
-one_list classes board xs ys p q =
-    same_rows xs ys p.ordered q.ordered (λ r c. q.all r (row_among classes board xs r p.only c)) (λ r c. p.all r (row_among classes board ys r q.only c))
+pub one_list : (c : Checked) (xs ys : List PlainRow) → AreRows c xs → AreRows c ys → xs ≡ ys
+one_list c xs ys p q = one_list_where (IsRow c) xs ys p q
 
 -- ---- their items
 
 is_there : (found : Option Item) (item : Item) → found ≡ Some item → IsSome found
 is_there found item e = rw e refl
 
-has_items : (classes : PlainClasses) (board : PlainBoard) (row : Row) → IsRow classes board row → HasItems board row
-has_items classes board row is = record { first = is_there _ is.a is.first; second = is_there _ is.b is.second }
+has_items : (c : Checked) (row : PlainRow) → IsRow c row → HasItems c.board row
+has_items c row (inl two) = record { first = is_there _ two.pair.a two.first.item_is; second = is_there _ two.pair.b two.second.item_is }
+has_items c row (inr one) = record { first = is_there _ one.item one.first.item_is; second = subst (λ (id : ℕ). IsSome (item_at c.board.items id)) (sym one.same) (is_there _ one.item one.first.item_is) }
 
-pub all_have_items : (classes : PlainClasses) (board : PlainBoard) (rows : List Row) → AreRows classes board rows → All (HasItems board) rows
-all_have_items classes board rows are = λ k d h. has_items classes board (get_or rows k d) (are.only k d h)
+pub all_have_items : (c : Checked) (rows : List PlainRow) → AreRows c rows → All (HasItems c.board) rows
+all_have_items c rows are = All-weaker (IsRow c) (HasItems c.board) (has_items c) rows are.only
+
+-- ---- their rules
+
+stands_below : (rules : List PlainRule) (n : ℕ) (rule : PlainRule) → slice_get rules n ≡ Some rule → n < length rules
+stands_below rules n rule h = slice_get_within rules n rule h
+
+-- the rule that is picked is one of the rules
+picked_below : (rules : List PlainRule) (mins : PlainMins) (kind : Kind) (a : Facts) (b : Option Facts) (layer : Option ℕ) (pick : Pick) → IsPick rules mins kind a b layer pick → (n : ℕ) → pick.source ≡ Rule n → n < length rules
+picked_below rules mins kind a b layer pick (inl p) n h = let e = sym h ∙ ap (λ (q : Pick). q.source) p.value in absurd cc
+picked_below rules mins kind a b layer pick (inr (inl p)) n h =
+    let e : Rule n ≡ Rule p.place = sym h ∙ ap (λ (q : Pick). q.source) p.value in
+    let same : n ≡ p.place = cc in
+    subst (λ m. m < length rules) (sym same) (stands_below rules p.place p.rule p.deciding.stands)
+picked_below rules mins kind a b layer pick (inr (inr p)) n h = let e = sym h ∙ ap (λ (q : Pick). q.source) p.value in absurd cc
+
+module _ (d : Deciders) where
+  meeting_source : (kind : Kind) (pair : Pair) (row : PlainRow) → SaysMeeting d kind pair row → HasSource d.rules row
+  meeting_source kind pair row s n h = let e = sym h ∙ s.source in absurd cc
+
+  near_source : (kind : Kind) (pair : Pair) (row : PlainRow) → SaysNear d kind pair row → HasSource d.rules row
+  near_source kind pair row s n h = picked_below d.rules d.mins kind _ _ _ s.pick s.picked n (sym s.source ∙ h)
+
+  limit_source : (kind : Kind) (item : Item) (facts : Facts) (row : PlainRow) → SaysLimit d kind item facts row → HasSource d.rules row
+  limit_source kind item facts row s n h = picked_below d.rules d.mins kind _ _ _ s.pick s.picked n (sym s.source ∙ h)
+
+  forbidden_source : (kind : Kind) (item : Item) (facts : Facts) (row : PlainRow) → SaysForbidden d kind item facts row → HasSource d.rules row
+  forbidden_source kind item facts row s n h = picked_below d.rules d.mins kind _ _ _ s.pick s.picked n (sym s.source ∙ h)
+
+  two_source : (kind : Kind) (pair : Pair) (row : PlainRow) → Breaks d kind pair row → HasSource d.rules row
+  two_source Short pair row s = meeting_source Short pair row s
+  two_source Keepout pair row s = meeting_source Keepout pair row s
+  two_source Clearance pair row s = near_source Clearance pair row s
+  two_source HoleClearance pair row s = near_source HoleClearance pair row s
+  two_source HoleToHole pair row s = near_source HoleToHole pair row s
+  two_source EdgeClearance pair row s = near_source EdgeClearance pair row s
+  two_source CourtyardClearance pair row s = near_source CourtyardClearance pair row s
+  two_source PhysicalClearance pair row s = near_source PhysicalClearance pair row s
+  two_source PhysicalHoleClearance pair row s = near_source PhysicalHoleClearance pair row s
+  two_source TrackWidth pair row s = absurd s
+  two_source ViaDiameter pair row s = absurd s
+  two_source HoleSize pair row s = absurd s
+  two_source AnnularWidth pair row s = absurd s
+  two_source Disallow pair row s = absurd s
+  two_source Assertion pair row s = absurd s
+
+  one_source : (kind : Kind) (item : Item) (facts : Facts) (row : PlainRow) → BreaksAlone d kind item facts row → HasSource d.rules row
+  one_source TrackWidth item facts row s = limit_source TrackWidth item facts row s
+  one_source ViaDiameter item facts row s = limit_source ViaDiameter item facts row s
+  one_source HoleSize item facts row s = limit_source HoleSize item facts row s
+  one_source AnnularWidth item facts row s = limit_source AnnularWidth item facts row s
+  one_source Disallow item facts row s = forbidden_source Disallow item facts row s
+  one_source Assertion item facts row s = forbidden_source Assertion item facts row s
+  one_source Short item facts row s = absurd s
+  one_source Keepout item facts row s = absurd s
+  one_source Clearance item facts row s = absurd s
+  one_source HoleClearance item facts row s = absurd s
+  one_source HoleToHole item facts row s = absurd s
+  one_source EdgeClearance item facts row s = absurd s
+  one_source CourtyardClearance item facts row s = absurd s
+  one_source PhysicalClearance item facts row s = absurd s
+  one_source PhysicalHoleClearance item facts row s = absurd s
+
+has_source : (c : Checked) (row : PlainRow) → IsRow c row → HasSource c.rules row
+has_source c row (inl two) = two_source (deciders c) row.kind two.pair row two.broken
+has_source c row (inr one) = one_source (deciders c) row.kind one.item one.facts row one.broken
+
+pub all_have_sources : (c : Checked) (rows : List PlainRow) → AreRows c rows → All (HasSource c.rules) rows
+all_have_sources c rows are = All-weaker (IsRow c) (HasSource c.rules) (has_source c) rows are.only

@@ -1,135 +1,66 @@
--- The rows of a board, pair by pair in order.
-use Rattle.std.proofs.Common.{◌≡◌, ◌⊎◌, ℕ, ◌+◌, ◌<◌, ◌≤◌, List, [], ◌∷◌, ◌++◌, get_or, Contains, Option, Some, None, inl, inr, refl, sym, ap, subst, ◌∙◌, arith}
-use Rattle.std.proofs.lemmas.List.Elements.{All-push, Contains-append_left, Contains-append_right}
-use Rattle.std.proofs.lemmas.List.Quantifiers.{all_pairs_push}
-use Rattle.board_items.specs.declared.item.Item.{Item}
-use Rattle.board_items.specs.Boards.{PlainBoard, item_at}
-use Rattle.net_class.specs.Classes.{PlainClasses}
-use Rattle.row_check.specs.declared.rows.Row.{Row}
-use Rattle.row_check.specs.Deciding.{picks}
-use Rattle.row_check.specs.Rows.{IsRow, Before}
-use Rattle.row_check.specs.RowsBelow.{IsBelow, AreRowsBelow}
-use Rattle.row_check.specs.Violations.{IsViolation}
+-- Lists of rows in order: put end to end, and told by their rows.
+use Rattle.std.proofs.Common.{◌≡◌, ◌⊎◌, ℕ, zero, suc, ◌<◌, List, [], ◌∷◌, ◌++◌, length, get_or, inl, inr, refl, sym, ap, subst, ◌∙◌, arith}
+use Rattle.std.specs.List.{All, AllPairs, Contains}
+use Rattle.std.proofs.lemmas.List.Elements.{All-nil, All-head, All-tail, All-append, All-weaker, All-contains, Contains-get_or, Contains-append_left, Contains-append_right, Contains-append_cases}
+use Rattle.std.proofs.lemmas.List.Kept.{AllPairs-cons}
+use Rattle.box_index.proofs.EntryLists.{pairs_first, pairs_rest}
+use Rattle.row_check.specs.PlainRow.{PlainRow}
+use Rattle.row_check.specs.Rows.{Before, AreRowsWhere}
 
--- nothing is both there and not
-there : {o : Option Item} {a : Item} → o ≡ None → o ≡ Some a → ⊥
-there e f = cc
+-- ---- lists
+module _ {X : Type 0} where
+  pub pairs_append : (R : X → X → Type 0) (xs ys : List X) → AllPairs R xs → AllPairs R ys → All (λ x. All (R x) ys) xs → AllPairs R (xs ++ ys)
+  pairs_append R [] ys h g k = g
+  pairs_append R (x ∷ xs) ys h g k =
+      AllPairs-cons R x (xs ++ ys) (All-append (R x) xs ys (pairs_first R x xs h) (All-head (λ z. All (R z) ys) x xs k))
+      (pairs_append R xs ys (pairs_rest R x xs h) g (All-tail (λ z. All (R z) ys) x xs k))
 
-cases : (m n : ℕ) → (m < n) ⊎ (n ≤ m)
-cases m n = grind arith
+  pub here : (x : X) (xs : List X) → Contains (x ∷ xs) x
+  here x xs = (0, omega arith, refl)
 
-last_case : (m i : ℕ) → m < i + 1 → (m < i) ⊎ (m ≡ i)
-last_case m i k = grind arith
+  pub behind : (x y : X) (xs : List X) → Contains xs y → Contains (x ∷ xs) y
+  behind x y xs c = let h = c.1 in (suc c.0, omega arith, c.2)
 
--- where no row lies between, all before the one pair are all before the other
-rows_on : (classes : PlainClasses) (board : PlainBoard) (i j k l : ℕ) (rows : List Row) → ((row : Row) → IsBelow i j row → IsBelow k l row)
-    → ((row : Row) → IsRow classes board row → IsBelow k l row → IsBelow i j row) → AreRowsBelow classes board i j rows → AreRowsBelow classes board k l rows
-rows_on classes board i j k l rows on back r = record {
-  ordered = r.ordered;
-  only = r.only;
-  below = λ n d h. on (get_or rows n d) (r.below n d h);
-  all = λ row is below. r.all row is (back row is below);
-}
+  pub nothing : (x : X) → Contains [] x → ⊥
+  nothing x c = let h = c.1 in omega arith
 
--- no item is first between i and k
-pub rows_to : (classes : PlainClasses) (board : PlainBoard) (i k : ℕ) (rows : List Row) → i ≤ k → ((m : ℕ) → i ≤ m → m < k → item_at board.items m ≡ None) → AreRowsBelow classes board i 0 rows → AreRowsBelow classes board k 0 rows
-rows_to classes board i k rows le none = rows_on classes board i 0 k 0 rows on back
-  where
-    on : (row : Row) → IsBelow i 0 row → IsBelow k 0 row
-    on row (inl h) = inl (omega arith)
-    on row (inr h) = let q = h.1 in absurd (omega arith)
+  pub cons_case : (x y : X) (xs : List X) → Contains (x ∷ xs) y → (x ≡ y) ⊎ Contains xs y
+  cons_case x y xs c = by_place c.0 c.1 c.2
+    where
+      by_place : (k : ℕ) → k < length (x ∷ xs) → get_or (x ∷ xs) k y ≡ y → (x ≡ y) ⊎ Contains xs y
+      by_place zero h e = inl e
+      by_place (suc k) h e = inr (k, omega arith, e)
 
-    back : (row : Row) → IsRow classes board row → IsBelow k 0 row → IsBelow i 0 row
-    back row is (inr h) = let q = h.1 in absurd (omega arith)
-    back row is (inl h) = by_first (cases row.first i)
-      where
-        by_first : (row.first < i) ⊎ (i ≤ row.first) → IsBelow i 0 row
-        by_first (inl lt) = inl lt
-        by_first (inr ge) = absurd (there (none row.first ge h) is.first)
+  pub pairs_front : (R : X → X → Type 0) (xs ys : List X) → AllPairs R (xs ++ ys) → AllPairs R xs
+  pairs_front R [] ys h = λ i j d l m. absurd (omega arith)
+  pairs_front R (x ∷ xs) ys h =
+      let first = pairs_first R x (xs ++ ys) h in
+      AllPairs-cons R x xs (λ k d l. All-contains (R x) (xs ++ ys) (get_or xs k d) first (Contains-append_left xs ys (get_or xs k d) (Contains-get_or xs k d l))) (pairs_front R xs ys (pairs_rest R x (xs ++ ys) h))
 
--- no item is second between j and l
-pub rows_along : (classes : PlainClasses) (board : PlainBoard) (i j l : ℕ) (rows : List Row) → j ≤ l → ((m : ℕ) → j ≤ m → m < l → item_at board.items m ≡ None) → AreRowsBelow classes board i j rows → AreRowsBelow classes board i l rows
-rows_along classes board i j l rows le none = rows_on classes board i j i l rows on back
-  where
-    on : (row : Row) → IsBelow i j row → IsBelow i l row
-    on row (inl h) = inl h
-    on row (inr h) = let q = h.1 in inr (h.0, omega arith)
+  -- what stands in the front part with what stands behind it
+  pub across : (R : X → X → Type 0) (xs ys : List X) → AllPairs R (xs ++ ys) → (x y : X) → Contains xs x → Contains ys y → R x y
+  across R [] ys h x y cx cy = absurd (nothing x cx)
+  across R (z ∷ xs) ys h x y cx cy = by_case (λ k. across R xs ys (pairs_rest R z (xs ++ ys) h) x y k cy) (cons_case z x xs cx)
+    where
+      by_case : (Contains xs x → R x y) → (z ≡ x) ⊎ Contains xs x → R x y
+      by_case again (inl e) = subst (λ w. R w y) e (All-contains (R z) (xs ++ ys) y (pairs_first R z (xs ++ ys) h) (Contains-append_right xs ys y cy))
+      by_case again (inr k) = again k
 
-    back : (row : Row) → IsRow classes board row → IsBelow i l row → IsBelow i j row
-    back row is (inl h) = inl h
-    back row is (inr h) = by_second (cases row.second j)
-      where
-        by_second : (row.second < j) ⊎ (j ≤ row.second) → IsBelow i j row
-        by_second (inl lt) = inr (h.0, lt)
-        by_second (inr ge) = absurd (there (none row.second ge h.1) is.second)
+-- ---- rows
+pub no_rows : (P : PlainRow → Type 0) → ((row : PlainRow) → P row → ⊥) → AreRowsWhere P []
+no_rows P none = record { ordered = λ i j d l m. absurd (omega arith); only = All-nil P; all = λ row h. absurd (none row h) }
 
--- a pair without a row
-rows_skip : (classes : PlainClasses) (board : PlainBoard) (i j : ℕ) (rows : List Row) → ((row : Row) → IsRow classes board row → row.first ≡ i → row.second ≡ j → ⊥)
-    → AreRowsBelow classes board i j rows → AreRowsBelow classes board i (j + 1) rows
-rows_skip classes board i j rows none = rows_on classes board i j i (j + 1) rows on back
-  where
-    on : (row : Row) → IsBelow i j row → IsBelow i (j + 1) row
-    on row (inl h) = inl h
-    on row (inr h) = let q = h.1 in inr (h.0, omega arith)
+pub alike : (P Q : PlainRow → Type 0) (rows : List PlainRow) → ((row : PlainRow) → P row → Q row) → ((row : PlainRow) → Q row → P row) → AreRowsWhere P rows → AreRowsWhere Q rows
+alike P Q rows on back r = record { ordered = r.ordered; only = All-weaker P Q on rows r.only; all = λ row h. r.all row (back row h) }
 
-    back : (row : Row) → IsRow classes board row → IsBelow i (j + 1) row → IsBelow i j row
-    back row is (inl h) = inl h
-    back row is (inr h) = by_second (last_case row.second j h.1)
-      where
-        by_second : (row.second < j) ⊎ (row.second ≡ j) → IsBelow i j row
-        by_second (inl k) = inr (h.0, k)
-        by_second (inr k) = absurd (none row is h.0 k)
-
--- a pair with its one row
-rows_more : (classes : PlainClasses) (board : PlainBoard) (i j : ℕ) (rows : List Row) (row : Row) → IsRow classes board row → row.first ≡ i → row.second ≡ j
-    → ((other : Row) → IsRow classes board other → other.first ≡ i → other.second ≡ j → row ≡ other) → AreRowsBelow classes board i j rows → AreRowsBelow classes board i (j + 1) (rows ++ row ∷ [])
-rows_more classes board i j rows row is first second once r = record {
-  ordered = all_pairs_push Before rows row r.ordered (λ k d h. before (get_or rows k d) (r.below k d h));
-  only = All-push (IsRow classes board) rows row r.only is;
-  below = All-push (IsBelow i (j + 1)) rows row (λ k d h. on (get_or rows k d) (r.below k d h)) (inr (first, omega arith));
-  all = λ other o below. by_pair other o (back other below);
+pub joined : (P Q R : PlainRow → Type 0) (xs ys : List PlainRow) → ((r s : PlainRow) → P r → Q s → Before r s) → ((row : PlainRow) → P row → R row) → ((row : PlainRow) → Q row → R row) → ((row : PlainRow) → R row → P row ⊎ Q row)
+    → AreRowsWhere P xs → AreRowsWhere Q ys → AreRowsWhere R (xs ++ ys)
+joined P Q R xs ys before on_p on_q back p q = record {
+  ordered = pairs_append Before xs ys p.ordered q.ordered (All-weaker P (λ r. All (Before r) ys) (λ r h. All-weaker Q (Before r) (λ s k. before r s h k) ys q.only) xs p.only);
+  only = All-append R xs ys (All-weaker P R on_p xs p.only) (All-weaker Q R on_q ys q.only);
+  all = λ row h. by_side row (back row h);
 }
   where
-    on : (s : Row) → IsBelow i j s → IsBelow i (j + 1) s
-    on s (inl h) = inl h
-    on s (inr h) = let q = h.1 in inr (h.0, omega arith)
-
-    before : (s : Row) → IsBelow i j s → Before s row
-    before s (inl h) = inl (omega arith)
-    before s (inr h) = let p = h.0 in let q = h.1 in inr (inl (omega arith, omega arith))
-
-    back : (s : Row) → IsBelow i (j + 1) s → IsBelow i j s ⊎ ((s.first ≡ i) × (s.second ≡ j))
-    back s (inl h) = inl (inl h)
-    back s (inr h) = by_second (last_case s.second j h.1)
-      where
-        by_second : (s.second < j) ⊎ (s.second ≡ j) → IsBelow i j s ⊎ ((s.first ≡ i) × (s.second ≡ j))
-        by_second (inl k) = inl (inr (h.0, k))
-        by_second (inr k) = inr (h.0, k)
-
-    by_pair : (s : Row) → IsRow classes board s → IsBelow i j s ⊎ ((s.first ≡ i) × (s.second ≡ j)) → Contains (rows ++ row ∷ []) s
-    by_pair s o (inl h) = Contains-append_left rows (row ∷ []) s (r.all s o h)
-    by_pair s o (inr h) = subst (Contains (rows ++ row ∷ [])) (once s o h.0 h.1) (Contains-append_right rows (row ∷ []) row (0, omega arith, refl))
-
--- what the items of a pair break
-module _ (classes : PlainClasses) (board : PlainBoard) (i j : ℕ) (a b : Item) (first : item_at board.items i ≡ Some a) (second : item_at board.items j ≡ Some b) where
-  its_violation : (row : Row) → IsRow classes board row → row.first ≡ i → row.second ≡ j → IsViolation board.copper (picks classes board a b) a b row
-  its_violation row is p q =
-      let same : is.a ≡ a = some_once (sym is.first ∙ (ap (item_at board.items) p ∙ first)) in
-      let other : is.b ≡ b = some_once (sym is.second ∙ (ap (item_at board.items) q ∙ second)) in
-      subst (λ (x : Item). IsViolation board.copper (picks classes board x b) x b row) same (subst (λ (y : Item). IsViolation board.copper (picks classes board is.a y) is.a y row) other is.violation)
-    where
-      some_once : {x y : Item} → Some x ≡ Some y → x ≡ y
-      some_once e = cc
-
-  pub rows_with : (rows : List Row) (row : Row) → i < j → IsViolation board.copper (picks classes board a b) a b row × (row.first ≡ i) × (row.second ≡ j)
-      → ((other : Row) → other.first ≡ i → other.second ≡ j → IsViolation board.copper (picks classes board a b) a b other → Some row ≡ Some other)
-      → AreRowsBelow classes board i j rows → AreRowsBelow classes board i (j + 1) (rows ++ row ∷ [])
-  rows_with rows row lt found only r =
-      rows_more classes board i j rows row is found.1 found.2 (λ other o p q. let same = only other p q (its_violation other o p q) in cc) r
-    where
-      is : IsRow classes board row
-      is = record { a = a; b = b; first = ap (item_at board.items) found.1 ∙ first; second = ap (item_at board.items) found.2 ∙ second; ordered = omega (arith, found.1, found.2); violation = found.0 }
-
-  pub rows_without : (rows : List Row) → ((other : Row) → other.first ≡ i → other.second ≡ j → IsViolation board.copper (picks classes board a b) a b other → None ≡ Some other)
-      → AreRowsBelow classes board i j rows → AreRowsBelow classes board i (j + 1) rows
-  rows_without rows only r = rows_skip classes board i j rows (λ other o p q. let same = only other p q (its_violation other o p q) in cc) r
+    by_side : (row : PlainRow) → P row ⊎ Q row → Contains (xs ++ ys) row
+    by_side row (inl h) = Contains-append_left xs ys row (p.all row h)
+    by_side row (inr h) = Contains-append_right xs ys row (q.all row h)

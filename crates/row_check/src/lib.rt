@@ -1,17 +1,32 @@
-//! The rows of a board: what its items break, over all pairs of items, under the classes of a project.
+//! The rows of a board: what its items and pairs of items break, by the rules, the classes of a project and the board's least
+//! values.
 //!
 //! Distances are whole nanometres; shapes are compared in half nanometres, with no rounding.
 #![tactic(auto)]
 
-mod all_pairs;
 mod compared;
-mod defaults;
-mod distance;
+mod found;
 pub mod laws;
+mod layer;
+mod measure;
+pub mod near;
+mod order;
 mod pair;
-mod picked;
-mod rows;
+mod pair_rows;
+mod places;
+mod row;
+mod single;
+mod steps;
+mod tile;
+mod view;
+mod whole;
 
-pub use all_pairs::rows_of;
-pub use picked::Source;
-pub use rows::{Kind, Row};
+pub use layer::RowLayer;
+pub use pair::test_pair;
+pub use pair_rows::PairRows;
+pub use row::Row;
+pub use single::test_item;
+pub use steps::Steps;
+pub use tile::test_tile;
+pub use view::CheckView;
+pub use whole::rows_of;

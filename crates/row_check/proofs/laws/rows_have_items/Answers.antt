@@ -1,5 +1,5 @@
-use Rattle.row_check.proofs.OneList.{all_have_items}
+use Rattle.row_check.proofs.OneList as once
 use Rattle.row_check.proofs.laws.rows_have_items.Goals as goal
 
 pub returns : goal.returns
-returns c = all_have_items
+returns c = once.all_have_items

@@ -1,27 +1,43 @@
-use Rattle.std.proofs.Common.{sym, ◌∙◌}
-use Rattle.board_items.specs.Copper.{on_layer, SomeMeet, MeetOn}
-use Rattle.row_check.proofs.FirstLayers.{along, among, next_layer, not_false}
-use Rattle.row_check.proofs.pair.first_meeting.Goals.{else-has-via-then-has+else-meet_on, else-has-via-else-has}
+use Rattle.std.proofs.Common.{Bool, true, false, ◌≡◌}
+use Rattle.row_check.specs.declared.layer.RowLayer.{RowLayer}
+use Rattle.row_check.specs.Facing.{MeetAt}
+use Rattle.row_check.proofs.NearLayers.{meeting_layer}
+use Rattle.row_check.proofs.TriedLayers.{none_at_start, none_in_none, none_here, none_untried, first_here}
+use Rattle.row_check.proofs.pair.first_meeting.Goals.{in-Some+else-may_face, else-may_face-via-then-may_face+else-meet_at, else-may_face-via-else-may_face, in_default}
 use Rattle.row_check.proofs.pair.first_meeting.Goals as goal
 
-pub returns-then-meet_on : goal.returns-then-meet_on
-returns-then-meet_on c =
-    let layer = c.loop-layer.layer in
-    record {
-      among = among c.args.copper layer c.has.result c.loop-layer-test.true c.has.ensures c.if-has.true;
-      holds =
-          along (λ x y. SomeMeet (on_layer layer x) (on_layer layer y)) _ _ c.args.a.now.copper c.args.b.now.copper c.as_slice.ensures c.as_slice-then-has.ensures
-          (c.meet_on.ensures.0 c.if-meet_on.true);
-      none_before = c.loop-layer.invariant;
-    }
+unmet : (r : Bool) → r ≡ false → r ≡ true → ⊥
+unmet r e f = cc
 
-pub loop-layer-preserved : goal.loop-layer-preserved
-loop-layer-preserved c =
-    let layer = c.loop-layer.layer in
-    next_layer (λ l. ¬ (MeetOn l c.args.a.now c.args.b.now)) c.args.copper layer c.loop-layer.invariant
-    (elim c.else-has.branch [
-      | else-has-via-then-has+else-meet_on w ↦ λ is m.
-          not_false _ w.if-meet_on.false
-          (w.meet_on.ensures.1 (along (λ x y. SomeMeet (on_layer layer x) (on_layer layer y)) c.args.a.now.copper c.args.b.now.copper _ _ (sym w.as_slice.ensures) (sym w.as_slice-then-has.ensures) m))
-      | else-has-via-else-has w ↦ λ is m. not_false _ w.if-has.false (c.has.ensures ∙ is.has)
-    ])
+pub loop-place-init : goal.loop-place-init
+loop-place-init c =
+    let a = c.args in
+    let places = c.places_of-places.result in
+    none_at_start a.copper (λ (layer : RowLayer). MeetAt a.kind layer a.a.now a.b.now) places.from places.to
+    (record { within = λ layer is m. c.places_of-places.ensures.all layer (meeting_layer a.copper a.kind layer a.a.now a.b.now is m) })
+
+pub loop-place-preserved : goal.loop-place-preserved
+loop-place-preserved c =
+    let a = c.args in
+    elim c.match-tried_at.branch [
+      | in-Some+else-may_face w ↦
+          none_here a.copper (λ (layer : RowLayer). MeetAt a.kind layer a.a.now a.b.now) c.loop-place.place w.in-Some.layer w.in-Some.ensures.0 w.in-Some.ensures.1
+          (elim w.else-may_face.branch [
+            | else-may_face-via-then-may_face+else-meet_at v ↦ λ m. unmet _ v.if-meet_at.false (v.meet_at.ensures.1 m)
+            | else-may_face-via-else-may_face v ↦ λ m. w.may_face.ensures.meet v.if-may_face.false m
+          ]) c.loop-place.invariant
+      | in_default w ↦ none_untried a.copper (λ (layer : RowLayer). MeetAt a.kind layer a.a.now a.b.now) c.loop-place.place w.in_default.ensures c.loop-place.invariant
+    ]
+
+pub returns : goal.returns
+returns c =
+    let a = c.args in
+    let places = c.places_of-places.result in
+    none_in_none a.copper (λ (layer : RowLayer). MeetAt a.kind layer a.a.now a.b.now) places.from places.to c.loop-place.place
+    (record { within = λ layer is m. c.places_of-places.ensures.all layer (meeting_layer a.copper a.kind layer a.a.now a.b.now is m) }) c.loop-place-test.false c.loop-place.invariant
+
+pub returns-then-meet_at : goal.returns-then-meet_at
+returns-then-meet_at c =
+    let a = c.args in
+    first_here a.copper (λ (layer : RowLayer). MeetAt a.kind layer a.a.now a.b.now) c.loop-place.place c.in-Some.layer c.in-Some.ensures.0 c.in-Some.ensures.1 (c.meet_at.ensures.0 c.if-meet_at.true)
+    c.loop-place.invariant

@@ -1,50 +1,50 @@
-use Rattle.std.proofs.Common.{◌≡◌, ℤ, pos, ◌≤ℤ◌, ◌<ℤ◌, true, false, sym, refl, ◌∙◌, arith}
-use Rattle.std.specs.Int.Signed.{lt_z}
-use Rattle.std.proofs.lemmas.Int.{ints}
-use Rattle.geo_seg.specs.Distances.{IsGap}
-use Rattle.board_items.specs.Copper.{on_layer, Keeps, KeepOn}
-use Rattle.int_algebra.proofs.Scalars.{passed, passed_length}
-use Rattle.item_copper.proofs.Gaps.{gap_same}
-use Rattle.row_check.proofs.FirstLayers.{along, among, next_layer, not_false}
-use Rattle.row_check.proofs.Pairs.{below, keeps}
-use Rattle.row_check.proofs.pair.first_near.Goals.{then-has+else-gap-v, else-has}
+use Rattle.std.proofs.Common.{◌≡◌, sym, ap, subst, ◌∙◌}
+use Rattle.rule_pick.specs.Picks.{pick_of}
+use Rattle.row_check.specs.declared.layer.RowLayer.{RowLayer}
+use Rattle.row_check.specs.Layers.{rank, IsTried}
+use Rattle.row_check.specs.Pairs.{IsNearAt}
+use Rattle.row_check.specs.Rows.{deciders}
+use Rattle.row_check.specs.Views.{checked_by}
+use Rattle.row_check.specs.Stages.{pair_of}
+use Rattle.row_check.proofs.NearLayers.{near_layer}
+use Rattle.row_check.proofs.TriedLayers.{none_at_start, none_in_none, none_here, none_untried, first_here, tried_in, untried_in}
+use Rattle.row_check.proofs.pair.first_near.Goals.{in-Some+in_default-near_at, in_default}
 use Rattle.row_check.proofs.pair.first_near.Goals as goal
 
--- the test of what the call gives
-less : (gap v : ℤ) → pos 0 ≤ℤ gap → gap ≤ℤ v → v ≤ℤ pos 500000000 → lt_z (passed gap) (passed v) ≡ true → gap <ℤ v
-less gap v h k l t = omega (arith, ints)
+pub loop-place-init : goal.loop-place-init
+loop-place-init c =
+    let d = deciders (checked_by c.args.view.now) in
+    let p = c.args.pair in
+    let places = c.places_of-places.result in
+    none_at_start d.copper (IsNearAt d c.args.kind (pair_of p)) places.from places.to
+    (record { within = λ layer is n. c.places_of-places.ensures.all layer (near_layer d.copper c.args.kind layer p.a.now p.b.now n.pick.least is n.near) })
 
-not_less : (gap v : ℤ) → pos 0 ≤ℤ gap → gap ≤ℤ v → v ≤ℤ pos 500000000 → lt_z (passed gap) (passed v) ≡ false → v ≤ℤ gap
-not_less gap v h k l t = omega (arith, ints)
+pub loop-place-preserved : goal.loop-place-preserved
+loop-place-preserved c =
+    let d = deciders (checked_by c.args.view.now) in
+    let P = IsNearAt d c.args.kind (pair_of c.args.pair) in
+    elim c.match-tried_at.branch [
+      | in-Some+in_default-near_at w ↦
+          none_here d.copper P c.loop-place.place w.in-Some.layer w.in-Some.ensures.0 (tried_in c.copper.result d.copper w.in-Some.layer c.copper.ensures w.in-Some.ensures.1) w.in_default-near_at.ensures c.loop-place.invariant
+      | in_default w ↦ none_untried d.copper P c.loop-place.place (untried_in c.copper.result d.copper c.loop-place.place c.copper.ensures w.in_default.ensures) c.loop-place.invariant
+    ]
 
-pub returns-then-gap-v : goal.returns-then-gap-v
-returns-then-gap-v c =
-    let layer = c.loop-layer.layer in
-    let v = c.args.v.nm in
-    let clean = passed_length v c.args.v.in_range.from c.args.v.in_range.to in
-    let a = c.args.a.now in
-    let b = c.args.b.now in
-    let found = gap_same clean refl (along (λ x y. IsGap (Keeps (on_layer layer x) (on_layer layer y)) (passed v) c.gap_on-gap.result) _ _ a.copper b.copper c.as_slice.ensures c.as_slice-then-has.ensures c.gap_on-gap.ensures) in
-    let is = gap_same refl (sym (passed_length c.gap_on-gap.result found.from (omega (arith, ints, found.to, c.args.v.in_range.to)))) found in (
-      record {
-        among = among c.args.copper layer c.has.result c.loop-layer-test.true c.has.ensures c.if-has.true;
-        holds = below layer v a b _ found (less _ v found.from found.to c.args.v.in_range.to c.if-gap-v.true);
-        none_before = λ earlier h is none. none (c.loop-layer.invariant earlier h is);
-      },
+pub returns : goal.returns
+returns c =
+    let d = deciders (checked_by c.args.view.now) in
+    let p = c.args.pair in
+    let places = c.places_of-places.result in
+    none_in_none d.copper (IsNearAt d c.args.kind (pair_of p)) places.from places.to c.loop-place.place
+    (record { within = λ layer is n. c.places_of-places.ensures.all layer (near_layer d.copper c.args.kind layer p.a.now p.b.now n.pick.least is n.near) }) c.loop-place-test.false c.loop-place.invariant
+
+pub returns-in-Some-near_at : goal.returns-in-Some-near_at
+returns-in-Some-near_at c =
+    let d = deciders (checked_by c.args.view.now) in
+    let near = c.in-Some-near_at.near in
+    let found = c.in-Some-near_at.ensures in
+    let is = found.1 in
+    let tried = tried_in c.copper.result d.copper c.in-Some.layer c.copper.ensures c.in-Some.ensures.1 in (
       is,
+      first_here d.copper (IsNearAt d c.args.kind (pair_of c.args.pair)) c.loop-place.place near.layer (ap rank found.0 ∙ c.in-Some.ensures.0) (subst (λ (l : RowLayer). IsTried d.copper l) (sym found.0) tried)
+          (record { pick = pick_of near.picked; picked = is.picked; counts = is.counts; near = is.too_near }) c.loop-place.invariant,
     )
-
-pub loop-layer-preserved : goal.loop-layer-preserved
-loop-layer-preserved c =
-    let layer = c.loop-layer.layer in
-    let v = c.args.v.nm in
-    let clean = passed_length v c.args.v.in_range.from c.args.v.in_range.to in
-    let a = c.args.a.now in
-    let b = c.args.b.now in
-    next_layer (λ l. KeepOn l a b v) c.args.copper layer c.loop-layer.invariant
-    (elim c.if-has.branch [
-      | then-has+else-gap-v w ↦ λ is.
-          let found = gap_same clean refl (along (λ x y. IsGap (Keeps (on_layer layer x) (on_layer layer y)) (passed v) w.gap_on-gap.result) _ _ a.copper b.copper w.as_slice.ensures w.as_slice-then-has.ensures w.gap_on-gap.ensures) in
-          keeps layer v a b _ found (not_less _ v found.from found.to c.args.v.in_range.to w.if-gap-v.false)
-      | else-has w ↦ λ is. absurd (not_false _ w.if-has.false (c.has.ensures ∙ is.has))
-    ])

@@ -1,0 +1,11 @@
+use Rattle.std.proofs.Common.{length}
+use Rattle.row_check.specs.Tiles.{is_changed}
+use Rattle.row_check.specs.Views.{checked_by}
+use Rattle.row_check.proofs.TileWalk.{IsTestedTo}
+use Rattle.row_check.proofs.tile.test_tile.Given as goal
+
+abbrev pub invariant-entries : goal.invariant-entries
+invariant-entries g l = IsTestedTo (checked_by l.view) l.index l.tile l.changed l.initial.later l.later l.touched l.rows.items l.fn.steps l.steps
+
+abbrev pub decreases-entries : goal.decreases-entries
+decreases-entries g l = length l.later

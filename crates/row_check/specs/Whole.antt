@@ -1,0 +1,46 @@
+-- The rows of a whole board, as they are put together: first in any order.
+use Rattle.std.specs.Prelude.{◌≡◌, ◌⊎◌, ℕ, List, map, All, Contains}
+use Rattle.std.specs.List.{AllPairs}
+use Rattle.board_items.specs.Boards.{PlainBoard}
+use Rattle.box_index.specs.Tiles.{PlainIndex}
+use Rattle.cond_lang.specs.Kinds.{kind_number}
+use Rattle.row_check.specs.declared.order.Place.{Place}
+use Rattle.row_check.specs.PlainRow.{PlainRow}
+use Rattle.row_check.specs.Rows.{Checked, IsRowOfTwo, IsRowOfOne, Before}
+use Rattle.row_check.specs.Tiles.{IsAskedIn}
+
+-- one of them comes before the other
+abbrev pub Apart : PlainRow → PlainRow → Type 0
+Apart r s = Before r s ⊎ Before s r
+
+-- each of the rows that pass, once, and nothing else, in any order
+pub record AreOnceWhere (Passes : PlainRow → Type 0) (rows : List PlainRow) : Type 0 where
+  pub apart : AllPairs Apart rows
+  pub only : All Passes rows
+  pub all : (row : PlainRow) → Passes row → Contains rows row
+
+-- none stands behind one that it comes before
+abbrev pub AreInOrder : List PlainRow → Type 0
+AreInOrder rows = AllPairs (λ r s. ¬ (Before s r)) rows
+
+-- where a row stands in the order
+abbrev pub place_of : PlainRow → Place
+place_of row = record { first = row.first; second = row.second; kind = kind_number row.kind }
+
+-- the ids of all items
+abbrev pub ids_of : PlainBoard → List ℕ
+ids_of board = map (λ entry. entry.0) board.items
+
+-- one of the tiles answers for the pair of these ids
+pub record IsAskedInOne (index : PlainIndex) (tiles changed : List ℕ) (i j : ℕ) : Type 0 where
+  pub tile : ℕ
+  pub among : Contains tiles tile
+  pub asked : IsAskedIn index tile changed i j
+
+-- a row of two items of a tile
+abbrev pub IsOfTiles : Checked → PlainIndex → List ℕ → List ℕ → PlainRow → Type 0
+IsOfTiles c index tiles changed row = IsRowOfTwo c row × IsAskedInOne index tiles changed row.first row.second
+
+-- a row of two items, or one of a single item among these
+abbrev pub IsOfItems : Checked → List ℕ → PlainRow → Type 0
+IsOfItems c ids row = IsRowOfTwo c row ⊎ (IsRowOfOne c row × Contains ids row.first)
