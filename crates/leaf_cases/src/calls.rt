@@ -2,7 +2,7 @@
 
 use crate::fault::Fault;
 use crate::texts::text_of;
-use crate::{numbers, shapes, trees, values};
+use crate::{nests, numbers, shapes, trees, values};
 use std::alloc::Global;
 
 /// What comes up to the first space, and what comes behind it.
@@ -29,6 +29,7 @@ pub fn answer(alloc: Global, call: &str) -> Result<Vec<u8>, Fault> {
             let (of, written) = first_word(written);
             numbers::ratio(alloc, of, &text_of(alloc, written)?)
         }
+        "nest" | "check_nest" => nests::answer(alloc, name, written),
         _ => shapes::answer(alloc, name, written),
     }
 }

@@ -9,6 +9,7 @@ ghost use Rattle.std.specs.Prelude.{◌≡◌, ◌↔◌, IsTrue};
 
 mod calls;
 mod fault;
+mod nests;
 mod numbers;
 mod shapes;
 mod texts;

@@ -12,3 +12,8 @@ pub mod Gathering
 pub mod Whole
 pub mod Once
 pub mod Nets
+pub mod AnchorLists
+pub mod NetIds
+pub mod Numbers
+pub mod Anchoring
+pub mod AnchorsOf

@@ -1,5 +1,5 @@
 -- What is said of a whole board, said of the items of one net.
-use Rattle.std.proofs.Common.{◌≡◌, ◌≢◌, ◌↔◌, ℕ, ◌+◌, ◌≤◌, Bool, true, false, cond, ◌&&◌, not, nat_eq, List, [], ◌∷◌, ◌++◌, filter, Some, refl, sym, subst, ap, ◌∙◌, arith, eq-eqb}
+use Rattle.std.proofs.Common.{◌≡◌, ◌≢◌, ℕ, ◌+◌, ◌≤◌, Bool, true, false, cond, not, nat_eq, List, [], ◌∷◌, Some, refl, sym, subst, ap, ◌∙◌, arith, eq-eqb}
 use Rattle.std.proofs.lemmas.Bool.{eqb-true, eqb-false, ne_eqb, and_parts, and_from, not-true, not_from_false}
 use Rattle.std.specs.List.{All}
 use Rattle.std.proofs.lemmas.List.Elements.{All-weaker}
@@ -86,7 +86,7 @@ module _ (board : PlainBoard) (net : ℕ) (sound : IsSound board) where
   member : (id : ℕ) → IsConductor board net id → HasCopper (items_of net board.items) id
   member id is = record { item = is.item; found = stays net board.items id is.item is.found (net_to net is.item is.own_net is.some_net); copper = is.copper }
 
-  conductor : (id : ℕ) → HasCopper (items_of net board.items) id → IsConductor board net id
+  pub conductor : (id : ℕ) → HasCopper (items_of net board.items) id → IsConductor board net id
   conductor id is =
       let a = among net 0 board.next_id board.items sound.ids id is.item is.found in
       let says = net_from net is.item a.passes in

@@ -1,6 +1,6 @@
 -- The groups of a net: what touching copper joins. All is said of the items of the net alone, so what happens to other nets
 -- changes nothing.
-use Rattle.std.specs.Prelude.{◌≡◌, ◌≢◌, ℕ, Bool, ◌&&◌, not, nat_eq, List, [], filter, Some}
+use Rattle.std.specs.Prelude.{◌≡◌, ◌≢◌, ℕ, Bool, ◌&&◌, not, nat_eq, List, [], filter, Some, IsSome}
 use Rattle.board_items.specs.declared.item.Item.{Item}
 use Rattle.board_items.specs.Boards.{PlainBoard, item_at}
 use Rattle.board_items.specs.Copper.{CopperMeets}
@@ -36,3 +36,7 @@ AreGroupsOf items groups = AreClasses (HasCopper items) (Chain (Touch items)) gr
 -- the groups of a net of a board
 abbrev pub AreGroups : PlainBoard → ℕ → List (List ℕ) → Type 0
 AreGroups board net groups = AreGroupsOf (items_of net board.items) groups
+
+-- the id is that of an item of the board
+abbrev pub IsOnBoard : PlainBoard → ℕ → Type 0
+IsOnBoard board id = IsSome (item_at board.items id)

@@ -5,3 +5,5 @@ pub mod Holding
 pub mod Touching
 pub mod Labels
 pub mod Asking
+pub mod Anchors
+pub mod Numbering

@@ -1,15 +1,19 @@
-//! The groups of a net: its items whose copper touches, joined by chains. Which items are near each other is asked of an
-//! index.
+//! The groups of a net: its items whose copper touches, joined by chains, and the anchors of those items, where links may end.
+//! Which items are near each other is asked of an index.
 #![tactic(auto)]
 
+mod anchors_of;
+mod ends;
 mod gather;
 mod group;
 mod labels;
 mod laws;
+mod numbering;
 mod of_net;
 mod pairs;
 mod touch;
 
+pub use anchors_of::anchors;
 pub use group::Group;
-pub use laws::one_list;
+pub use laws::{one_list, one_list_of_anchors};
 pub use of_net::groups;

@@ -1,8 +1,8 @@
 //! The groups of a net.
 
-ghost use Rattle.std.specs.Prelude.{◌≡◌, IfOk};
+ghost use Rattle.std.specs.Prelude.{◌≡◌, ◌<◌, IfOk, All, length};
 ghost use Rattle.board_items.specs.Boards.{IsSound, item_at};
-ghost use Rattle.net_groups.specs.Groups.{AreGroups};
+ghost use Rattle.net_groups.specs.Groups.{AreGroups, IsOnBoard};
 ghost use Rattle.net_groups.specs.Holding.{HoldsItems};
 ghost use Rattle.net_groups.specs.Labels.{AreConductors, is_copper};
 
@@ -54,7 +54,9 @@ pub fn groups(
     index: &TileIndex,
 ) -> Result<Vec<Group>, AllocError>
     requires { HoldsItems board.now index.now }
-    ensures { IfOk result (λ groups. AreGroups board.now net groups.items) }
+    ensures groups { IfOk result (λ groups. AreGroups board.now net groups.items) }
+    ensures filled { IfOk result (λ groups. All (λ group. 0 < length group) groups.items) }
+    ensures placed { IfOk result (λ groups. All (All (IsOnBoard board.now)) groups.items) }
 {
     let ids = conductors(alloc, board, net)?;
     let found = label_all(alloc, board, &ids, index)?;

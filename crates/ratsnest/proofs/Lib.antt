@@ -8,3 +8,4 @@ pub mod Whole
 pub mod Pairs
 pub mod Sorting
 pub mod Joining
+pub mod Rising

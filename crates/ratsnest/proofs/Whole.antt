@@ -1,7 +1,7 @@
 -- What the links that were chosen are: the nest, joining all groups at the least sum.
 use Rattle.std.proofs.Common.{◌≡◌, ℕ, zero, suc, ◌≤◌, ◌<◌, ◌↔◌, List, [], ◌∷◌, ◌++◌, length, get_or, reverse, sum_by, Contains, All, inl, inr, refl, sym, ◌∙◌, ap, subst, arith}
 use Rattle.std.proofs.lemmas.Bool.{cases_eq}
-use Rattle.std.proofs.lemmas.List.Elements.{All-contains}
+use Rattle.std.proofs.lemmas.List.Elements.{All-contains, Contains-get_or}
 use Rattle.std.proofs.lemmas.List.{reverse-reverse}
 use Rattle.std.proofs.lemmas.List.Sorted.{IsPermutation-reverse, sum_by-IsPermutation}
 use Rattle.std.proofs.lemmas.List.Recursion.{is_sum_by}
@@ -9,7 +9,7 @@ use mathlib.Core.List.{reverse-cons}
 use Rattle.ratsnest.specs.declared.anchor.Anchor.{Anchor}
 use Rattle.ratsnest.specs.declared.link.Link.{Link}
 use Rattle.ratsnest.specs.Mem.{Mem, Sub, AllAbove, Climbs, Under, Drops}
-use Rattle.ratsnest.specs.NestOf.{group_at, Rise, IsLink, InNest, IsNest, IsLeast, JoinAll, Precedes, total}
+use Rattle.ratsnest.specs.NestOf.{group_at, Rise, IsLink, InNest, IsNest, HasPlaces, IsLeast, JoinAll, Precedes, total}
 use Rattle.ratsnest.specs.Grow.{rank, link_at, AreChosen}
 use Rattle.ratsnest.proofs.Members.{Sub-mem, Sub-from_mem, Under-mem, Mem-from_contains, Contains-from_mem, Mem-append_left, Mem-append_right, Mem-append_cases, falling_of, Drops-push, Mem-get_or}
 use Rattle.ratsnest.proofs.Theory
@@ -325,3 +325,11 @@ module _ (anchors : List Anchor) (rise : Rise anchors) (few : length anchors < 4
 
 pub nest_least : (anchors : List Anchor) → Rise anchors → length anchors < 4294967296 → (links : List Link) → IsNest anchors links → IsLeast anchors links
 nest_least anchors rise few = let all : (es : List Link) × IsListed anchors es = listed anchors few in nest_lightest anchors rise few all.0 all.1
+
+-- the ends of its links are places of anchors
+pub nest_places : (anchors : List Anchor) (links : List Link) → IsNest anchors links → All (HasPlaces anchors) links
+nest_places anchors links n k d lt =
+    let l = (n.sound (get_or links k d) (Contains-get_or links k d lt)).link in
+    let below = l.in_order in
+    let inside = l.within in
+    (omega arith, inside)

@@ -50,6 +50,10 @@ pub record IsLink (anchors : List Anchor) (l : Link) : Type 0 where
   pub apart : group_at anchors l.first ≢ group_at anchors l.second
   pub square : l.square ≡ square_between anchors l.first l.second
 
+-- the ends of the link are places of anchors
+abbrev pub HasPlaces : List Anchor → Link → Type 0
+HasPlaces anchors l = (l.first < length anchors) × (l.second < length anchors)
+
 -- the order of links: by square, then by the id and number of the first anchor, then of the second
 abbrev pub Precedes : List Anchor → Link → Link → Type 0
 Precedes anchors l m =
@@ -63,7 +67,7 @@ Precedes anchors l m =
 abbrev pub IsChain : List Anchor → (Link → Type 0) → ℕ → ℕ → Type 0
 IsChain anchors P = Chain (λ (l : Link). group_at anchors l.first) (λ (l : Link). group_at anchors l.second) P
 
--- a link whose ends no chain of smaller links joins
+-- a link of two groups that all lesser links together leave apart
 pub record InNest (anchors : List Anchor) (l : Link) : Type 0 where
   pub link : IsLink anchors l
   pub alone : IsChain anchors (λ m. IsLink anchors m × Precedes anchors m l) (group_at anchors l.first) (group_at anchors l.second) → ⊥
@@ -82,6 +86,6 @@ JoinAll anchors links = (a b : ℕ) → a < group_count anchors → b < group_co
 abbrev pub total : List Link → ℕ
 total links = sum_by (λ (l : Link). l.square) links
 
--- no list of links that joins all groups has a lesser total
+-- other links that leave no two groups apart have at least this total
 abbrev pub IsLeast : List Anchor → List Link → Type 0
 IsLeast anchors links = (others : List Link) → All (IsLink anchors) others → JoinAll anchors others → total links ≤ total others

@@ -3,9 +3,9 @@
 //! Of each anchor the reached anchor is kept to which it has the least link. So growing takes the square of the number of
 //! anchors in time, and memory linear in it.
 
-ghost use Rattle.std.specs.Prelude.{◌≡◌, ◌<◌, ◌^◌, ◌+◌, ◌-◌, ◌≢◌, ℕ, length, OnOk, slice_index, MatchOption, ◌⊎◌, true, false, IfOk, replicate, []};
+ghost use Rattle.std.specs.Prelude.{◌≡◌, ◌<◌, ◌^◌, ◌+◌, ◌-◌, ◌≢◌, ℕ, length, OnOk, slice_index, MatchOption, ◌⊎◌, true, false, IfOk, All, replicate, []};
 ghost use Rattle.ratsnest.specs.declared.link.Link.{Link};
-ghost use Rattle.ratsnest.specs.NestOf.{group_at, group_count, Rise, GroupsOccur, IsNest, IsLeast, JoinAll};
+ghost use Rattle.ratsnest.specs.NestOf.{group_at, group_count, Rise, GroupsOccur, IsNest, HasPlaces, IsLeast, JoinAll};
 ghost use Rattle.ratsnest.specs.Grow.{rank, IsNearer, IsNearest, AreWithin, IsNext, is_reached, AreChosen, IsGrown};
 ghost use Rattle.ratsnest.specs.Mem.{Mem, Climbs};
 
@@ -160,17 +160,17 @@ fn grow(alloc: Global, anchors: &[Anchor]) -> Result<Vec<Link>, AllocError>
     Ok(links)
 }
 
-/// The nest of the anchors: the links, in order, whose ends no chain of smaller links joins. Links are ordered by the square
-/// of their distance, then by id and number of the first anchor, then of the second.
+/// The nest of the anchors: in order, each link of two groups that all lesser links together leave apart. Links are ordered by
+/// the square of their distance, then by id and number of the first anchor, then of the second.
 ///
-/// The nest joins all groups, by one link less than there are groups, and no list of links that joins them has a lesser sum
-/// of squares. Anchors rise by id and number, and each group from 0 to the greatest occurs. Only want of memory refuses it.
+/// The nest joins all groups, by one link less than there are groups, at the least sum of squares that does so. Anchors rise by id and number, and each group from 0 to the greatest occurs. Only want of memory refuses it.
 /// Anchors of one group cost one look at each.
 pub fn nest(alloc: Global, anchors: &[Anchor]) -> Result<Nest, AllocError>
     requires rise { Rise anchors.now }
     requires occur { GroupsOccur anchors.now }
     requires few { length anchors.now < 2 ^ 32 }
     ensures nest { IfOk result (λ nest. IsNest anchors.now nest.links) }
+    ensures places { IfOk result (λ nest. All (HasPlaces anchors.now) nest.links) }
     ensures count { IfOk result (λ nest. length nest.links ≡ group_count anchors.now - 1) }
     ensures joins { IfOk result (λ nest. JoinAll anchors.now nest.links) }
     ensures least { IfOk result (λ nest. IsLeast anchors.now nest.links) }

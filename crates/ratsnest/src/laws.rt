@@ -10,7 +10,7 @@ pub fn one_nest()
     ensures { (anchors : List Anchor) → Rise anchors → length anchors < 2 ^ 32 → (a b : List Link) → IsNest anchors a → IsNest anchors b → a ≡ b }
 {}
 
-/// No list of links that joins all groups has a lesser sum of squares than a nest, whoever made it.
+/// A nest joins all groups at the least sum of squares, whoever made it.
 pub fn nests_are_least()
     ensures { (anchors : List Anchor) → Rise anchors → length anchors < 2 ^ 32 → (links : List Link) → IsNest anchors links → IsLeast anchors links }
 {}

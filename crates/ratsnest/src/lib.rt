@@ -9,6 +9,7 @@ mod growing;
 mod laws;
 mod link;
 mod links;
+mod lists;
 mod places;
 
 pub use anchor::Anchor;
@@ -17,3 +18,4 @@ pub use growing::nest;
 pub use laws::{nests_are_least, one_nest};
 pub use link::Link;
 pub use links::{Links, Nest};
+pub use lists::have_nest;

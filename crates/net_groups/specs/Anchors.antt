@@ -1,0 +1,56 @@
+-- The anchors of a net: the places of its items where links may end. A track has two, at both of its ends; any other item has
+-- one. They are nanometres, and shapes count half nanometres.
+use Rattle.std.specs.Prelude.{◌≡◌, ℕ, ℤ, pos, ◌*ℤ◌, ◌⊎◌, List, [], ◌∷◌, Option, None, Some, Contains, slice_index_or}
+use Rattle.geo_seg.specs.declared.points.Point.{Point}
+use Rattle.geo_seg.specs.declared.shapes.Core.{Core}
+use Rattle.geo_seg.specs.declared.shapes.Core.TheVariants.{Line, Area}
+use Rattle.board_items.specs.declared.parts.Part.{Part}
+use Rattle.board_items.specs.declared.item.What.{What}
+use Rattle.board_items.specs.declared.item.What.TheVariants.{Track}
+use Rattle.board_items.specs.declared.item.Item.{Item}
+use Rattle.board_items.specs.Boards.{PlainBoard, item_at}
+use Rattle.ratsnest.specs.declared.anchor.Anchor.{Anchor}
+use Rattle.ratsnest.specs.NestOf.{Rise}
+
+-- where a line ends
+abbrev pub core_end : Core → Option Point
+core_end (Line s) = Some s.b
+core_end (Area corners) = None
+
+-- where the copper of a track ends: it is one line, from the track's position to its other end
+abbrev pub copper_end : List Part → Option Point
+copper_end [] = None
+copper_end (part ∷ parts) = core_end part.shape.core
+
+-- the other end of a track
+abbrev pub track_end : What → List Part → Option Point
+track_end (Track width) copper = copper_end copper
+track_end _ copper = None
+
+-- the point in nanometres, so twice these are its coordinates
+abbrev pub IsSpot : Option Point → ℤ → ℤ → Type 0
+IsSpot None x y = ⊥
+IsSpot (Some p) x y = (pos 2 *ℤ x ≡ p.x) × (pos 2 *ℤ y ≡ p.y)
+
+-- the item has an anchor of this number there: number 0 at its position, and number 1 at the other end of a track
+abbrev pub HasAnchor : Item → ℕ → ℤ → ℤ → Type 0
+HasAnchor item number x y =
+    ((number ≡ 0) × (x ≡ item.x) × (y ≡ item.y))
+    ⊎ ((number ≡ 1) × IsSpot (track_end item.what item.copper) x y)
+
+-- an anchor of a member of a group
+pub record IsAnchor (items : List (ℕ × Item)) (groups : List (List ℕ)) (anchor : Anchor) : Type 0 where
+  pub item : Item
+  pub found : item_at items anchor.id ≡ Some item
+  pub member : Contains (slice_index_or groups anchor.group []) anchor.id
+  pub place : HasAnchor item anchor.number anchor.x anchor.y
+
+-- all anchors of the members of the groups, by rising id and number
+pub record AreAnchorsOf (items : List (ℕ × Item)) (groups : List (List ℕ)) (anchors : List Anchor) : Type 0 where
+  pub rise : Rise anchors
+  pub only : (anchor : Anchor) → Contains anchors anchor → IsAnchor items groups anchor
+  pub every : (anchor : Anchor) → IsAnchor items groups anchor → Contains anchors anchor
+
+-- those of groups of items of a board
+abbrev pub AreAnchors : PlainBoard → List (List ℕ) → List Anchor → Type 0
+AreAnchors board groups anchors = AreAnchorsOf board.items groups anchors

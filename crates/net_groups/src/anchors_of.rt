@@ -1,0 +1,107 @@
+//! The anchors of a net.
+
+ghost use Rattle.std.specs.Prelude.{◌≡◌, ◌<◌, ◌≤◌, ◌^◌, true, IfOk, OnOk, All, length};
+ghost use Rattle.std.specs.Ordering.{nat_cmp};
+ghost use Rattle.std.specs.BTreeMap as tree;
+ghost use Rattle.board_items.specs.Boards.{IsSound, ids_of_net, is_on_board};
+ghost use Rattle.ratsnest.specs.NestOf.{Rise, GroupsOccur};
+ghost use Rattle.net_groups.specs.Groups.{AreGroups, IsOnBoard};
+ghost use Rattle.net_groups.specs.Classes.{Rises};
+ghost use Rattle.net_groups.specs.Anchors.{AreAnchors};
+ghost use Rattle.net_groups.specs.Numbering.{AreOwnAdded, AreAdded, AreAnchorsAmong};
+
+use crate::ends::far_end;
+use crate::group::Group;
+use crate::numbering::number_groups;
+use board_items::{Board, Item};
+use ratsnest::Anchor;
+use std::alloc::{AllocError, Global};
+use std::collections::BTreeMap;
+
+// Appends the anchors of an item.
+fn push_own(anchors: &mut Vec<Anchor>, item: &Item, id: u32, group: u32) -> Result<(), AllocError>
+    requires { is_on_board item.now ≡ true }
+    ensures { OnOk result (AreOwnAdded item.now id group anchors.old.items anchors.new.items) }
+{
+    anchors.push(Anchor {
+        id,
+        number: 0,
+        group,
+        x: item.x,
+        y: item.y,
+    })?;
+    if let Some(end) = far_end(item) {
+        anchors.push(Anchor {
+            id,
+            number: 1,
+            group,
+            x: end.x,
+            y: end.y,
+        })?;
+    }
+    Ok(())
+}
+
+// Appends the anchors of the item of an id, if its group has a number.
+fn push_numbered(
+    anchors: &mut Vec<Anchor>,
+    board: &Board,
+    numbers: &BTreeMap<u32, u32>,
+    id: u32,
+) -> Result<(), AllocError>
+    ensures { OnOk result (AreAdded board.now.items (λ i. tree.get nat_cmp numbers.now i) id anchors.old.items anchors.new.items) }
+{
+    match (numbers.get(&id), board.get(id)) {
+        (Some(group), Some(item)) => push_own(anchors, item, id, *group),
+        _ => Ok(()),
+    }
+}
+
+// The anchors of those of the ids whose groups have numbers.
+fn anchors_among(
+    alloc: Global,
+    board: &Board,
+    numbers: &BTreeMap<u32, u32>,
+    ids: &[u32],
+) -> Result<Vec<Anchor>, AllocError>
+    requires { Rises ids.now }
+    ensures { IfOk result (λ anchors. AreAnchorsAmong board.now.items (λ i. tree.get nat_cmp numbers.now i) ids.now anchors.items) }
+{
+    let mut anchors = Vec::new(alloc);
+    for id in ids {
+        push_numbered(&mut anchors, board, numbers, *id)?;
+    }
+    Ok(anchors)
+}
+
+// The ids of all items of the net.
+fn ids_of(board: &Board, net: u32) -> &[u32]
+    ensures ids { result.now ≡ ids_of_net net board.now.items }
+    ensures sound { IsSound board.now }
+{
+    // the board says here that its ids rise
+    let _ = board.left();
+    board.of_net(net)
+}
+
+/// The anchors of a net: those of the members of its groups, by rising id and number, each with the number of its group.
+///
+/// A track has two anchors, its position and its other end; any other item has its position alone. Only want of memory refuses
+/// it. It takes about as long as the net has items.
+pub fn anchors(
+    alloc: Global,
+    board: &Board,
+    net: u32,
+    groups: &[Group],
+) -> Result<Vec<Anchor>, AllocError>
+    requires { AreGroups board.now net groups.now }
+    ensures anchors { IfOk result (λ anchors. AreAnchors board.now groups.now anchors.items) }
+    ensures rise { IfOk result (λ anchors. Rise anchors.items) }
+    ensures occur { IfOk result (λ anchors. GroupsOccur anchors.items) }
+    ensures few { IfOk result (λ anchors. length anchors.items < 2 ^ 32) }
+    ensures placed { IfOk result (λ anchors. All (λ anchor. IsOnBoard board.now anchor.id) anchors.items) }
+{
+    let ids = ids_of(board, net);
+    let numbers = number_groups(alloc, groups)?;
+    anchors_among(alloc, board, &numbers, ids)
+}

@@ -1,0 +1,71 @@
+//! The two ends of a track.
+
+ghost use Rattle.std.specs.Prelude.{◌≡◌, ◌≤◌, ◌≢◌, ◌*ℤ◌, ℤ, pos, unsigned_abs, MatchOption, Some};
+ghost use Rattle.ratsnest.specs.Reach.{IsInReach};
+ghost use Rattle.net_groups.specs.Anchors.{core_end, copper_end, track_end, IsSpot};
+
+use board_items::{Item, Nm, Part, What};
+use geo_seg::{Core, Point};
+
+/// A place on the board, in nanometres.
+#[derive(Clone, Copy, Drop)]
+pub(crate) struct Spot {
+    pub(crate) x: Nm,
+    pub(crate) y: Nm,
+    ghost x_in_range: { IsInReach x },
+    ghost y_in_range: { IsInReach y },
+}
+
+fn core_end(core: &Core) -> Option<Point>
+    ensures { result ≡ core_end core.now }
+{
+    match core {
+        Core::Line(line) => Some(line.b),
+        Core::Area(_) => None,
+    }
+}
+
+fn copper_end(parts: &[Part]) -> Option<Point>
+    ensures { result ≡ copper_end parts.now }
+{
+    match parts.first() {
+        Some(part) => core_end(&part.shape.core),
+        None => None,
+    }
+}
+
+fn track_end(item: &Item) -> Option<Point>
+    ensures { result ≡ track_end item.now.what item.now.copper }
+{
+    match item.what {
+        What::Track { .. } => copper_end(item.copper.as_slice()),
+        _ => None,
+    }
+}
+
+// The half of a number that is even.
+fn half(z: i64) -> Option<i64>
+    ensures { MatchOption result ((x : ℤ) → pos 2 *ℤ x ≢ z) (λ x. pos 2 *ℤ x ≡ z) }
+{
+    if z % 2 == 0 { Some(z / 2) } else { None }
+}
+
+// The point in nanometres. A point between two nanometres is none.
+fn spot_at(p: Point) -> Option<Spot>
+    ensures { MatchOption result ((x y : ℤ) → ¬ (IsSpot (Some p) x y)) (λ spot. IsSpot (Some p) spot.x spot.y) }
+{
+    let x = half(p.x)?;
+    let y = half(p.y)?;
+    Some(Spot { x, y })
+}
+
+/// The other end of a track; its position is the first.
+pub(crate) fn far_end(item: &Item) -> Option<Spot>
+    ensures { MatchOption result ((x y : ℤ) → ¬ (IsSpot (track_end item.now.what item.now.copper) x y))
+        (λ spot. IsSpot (track_end item.now.what item.now.copper) spot.x spot.y) }
+{
+    match track_end(item) {
+        Some(end) => spot_at(end),
+        None => None,
+    }
+}
