@@ -1,3 +1,4 @@
 pub mod Lines
 pub mod NoteLists
 pub mod Scalars
+pub mod Reach

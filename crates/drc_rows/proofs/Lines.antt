@@ -4,10 +4,14 @@ use Rattle.std.proofs.Math.Seq.{take-suc}
 use Rattle.std.proofs.lemmas.Grind.{flat_map-append}
 use Rattle.std.specs.List.{flat_map}
 use Rattle.std.specs.Io.KnownBytes.{Appends}
-use Rattle.std.proofs.KnownBytes.{Appends-trans}
+use Rattle.std.proofs.KnownBytes.{Appends-nil, Appends-trans}
 use Rattle.drc_io.specs.Sinks.{AppendsFront, Writes}
 use Rattle.drc_io.proofs.Writing.{AppendsFront-after, AppendsFront-more, Writes-stop}
 use Rattle.drc_rows.specs.Line.{Puts}
+
+-- nothing is put in
+pub Puts-none : {T E : Type 0} (a : Option (List ℕ)) (n : ℕ) (pending : List ℕ) (x : T) → Puts {T = T} {E = E} a a n n pending [] pending (Ok x)
+Puts-none a n pending x = record { bytes = record { sent = []; whole = append-nil pending; appended = Appends-nil a }; later = omega arith; failed = tt }
 
 -- what was pending did not go out whole
 pub Puts-fails : {S T E D : Type 0} (a b : Option (List ℕ)) (m n : ℕ) (text pending piece kept : List ℕ) (e : D) (r : Result T E) (d : E) → r ≡ Err d

@@ -1,5 +1,5 @@
--- Lengths that can be written, and items whose places can be.
-use Rattle.std.proofs.Common.{◌≡◌, ◌≤◌, ◌≤ℤ◌, ℤ, pos, negsuc, neg_ℤ, Bool, true, false, ◌&&◌, is_some, refl, arith}
+-- Lengths that can be written, items whose places can be, and layers that have a name.
+use Rattle.std.proofs.Common.{◌≡◌, ℕ, ◌<◌, ◌≤◌, ◌≤ℤ◌, ℤ, pos, negsuc, neg_ℤ, Bool, true, false, ◌&&◌, inl, inr, is_some, refl, arith}
 use Rattle.std.proofs.lemmas.Int.{ints}
 use Rattle.std.specs.Int.Signed.{le_z}
 use Rattle.std.specs.Prelude.{unsigned_abs}
@@ -7,17 +7,32 @@ use Rattle.int_algebra.proofs.Scalars.{passed}
 use Rattle.drc_io.specs.Lengths.{IsLength}
 use Rattle.board_items.specs.declared.item.Item.{Item}
 use Rattle.board_items.specs.Boards.{PlainBoard, is_near, is_on_board, is_admitted, name_of, has_layers_of}
+use Rattle.cond_lang.specs.declared.kind.Kind.{Kind}
+use Rattle.cond_lang.specs.declared.kind.Kind.TheVariants.{Short, Clearance, HoleClearance, HoleToHole, EdgeClearance, CourtyardClearance, Keepout, TrackWidth, ViaDiameter, HoleSize, AnnularWidth, Disallow, PhysicalClearance, PhysicalHoleClearance, Assertion}
+use Rattle.row_check.specs.declared.layer.RowLayer.TheVariants.{Copper}
+use Rattle.row_check.specs.PlainRow.{IsLayerOf, IsWithin}
 
 -- a length, as it is passed to a call
-pub length_far : {v w : ℤ} → v ≡ w → IsLength w → unsigned_abs (passed v) ≤ 1000000000000
-length_far {v} {w} e l = let from = l.from in let to = l.to in far v (omega (arith, ints, e)) (omega (arith, ints, e))
+pub length_far : {v : ℤ} → IsLength v → unsigned_abs (passed v) ≤ 1000000000000
+length_far {v} l = let from = l.from in let to = l.to in far v from to
   where
     far : (z : ℤ) → pos 0 ≤ℤ z → z ≤ℤ pos 500000000 → unsigned_abs (passed z) ≤ 1000000000000
     far (pos n) h k = omega (arith, ints)
     far (negsuc n) h k = absurd (omega (arith, ints))
 
-pub length_as : {v w : ℤ} → v ≡ w → IsLength w → passed v ≡ w
-length_as {v} {w} e l = let from = l.from in let to = l.to in omega (arith, ints, e)
+pub length_as : {v : ℤ} → IsLength v → passed v ≡ v
+length_as {v} l = let from = l.from in let to = l.to in omega (arith, ints)
+
+-- a length within 500 mm of 0, as it is passed to a call
+pub within_far : {v : ℤ} → IsWithin v → unsigned_abs (passed v) ≤ 1000000000000
+within_far {v} l = let from = l.from in let to = l.to in far v from to
+  where
+    far : (z : ℤ) → neg_ℤ (pos 500000000) ≤ℤ z → z ≤ℤ pos 500000000 → unsigned_abs (passed z) ≤ 1000000000000
+    far (pos n) h k = omega (arith, ints)
+    far (negsuc n) h k = omega (arith, ints)
+
+pub within_as : {v : ℤ} → IsWithin v → passed v ≡ v
+within_as {v} l = let from = l.from in let to = l.to in omega (arith, ints)
 
 near : (z : ℤ) → is_near z ≡ true → unsigned_abs z ≤ 1000000000000
 near z h = by (le_z (neg_ℤ (pos 500000000)) z) (le_z z (pos 500000000)) refl refl h
@@ -43,3 +58,24 @@ pub on_board : (board : PlainBoard) (item : Item) → is_admitted board item ≡
 on_board board item h =
     let has = is_some (name_of board item.net) in
     (both (is_on_board item) has (both (is_on_board item && has) (has_layers_of board item) h).0).0
+
+-- a copper layer of a row has a name
+pub layer_below : (kind : Kind) (n : ℕ) → IsLayerOf kind (Copper n) → n < 32
+layer_below Short n h = h
+layer_below Clearance n h = h
+layer_below HoleClearance n h = h
+layer_below HoleToHole n h = absurd h
+layer_below EdgeClearance n (inl h) = h
+layer_below EdgeClearance n (inr h) = absurd h
+layer_below CourtyardClearance n h = absurd h
+layer_below Keepout n h = h
+layer_below TrackWidth n h = h
+layer_below ViaDiameter n h = absurd h
+layer_below HoleSize n h = absurd h
+layer_below AnnularWidth n h = absurd h
+layer_below Disallow n (inl h) = h
+layer_below Disallow n (inr h) = absurd h
+layer_below PhysicalClearance n h = h
+layer_below PhysicalHoleClearance n h = h
+layer_below Assertion n (inl h) = h
+layer_below Assertion n (inr h) = absurd h

@@ -1,3 +1,5 @@
 pub mod Line
+pub mod NetBlock
 pub mod Notes
 pub mod Report
+pub mod ReportOf

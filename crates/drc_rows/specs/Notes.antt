@@ -1,6 +1,8 @@
--- The lines of notes: what a board has that is read but not checked. Texts and dimensions on copper are told by their layer and
--- their name, what a footprint has by the footprint's reference.
-use Rattle.std.specs.Prelude.{ℕ, List, [], ◌∷◌, ◌++◌, length, codes, Option, None, Some, nat_eq, filter, if◌then◌else◌}
+-- The lines of notes: what a board and its rules have that is read but not checked. Texts and dimensions on copper are told by
+-- their layer and their name, what a footprint has by the footprint's reference, and a constraint that no rule may have by its
+-- own name and that of its rule.
+use Rattle.std.specs.Prelude.{ℕ, List, [], ◌∷◌, ◌++◌, ◌+◌, length, codes, Option, None, Some, nat_eq, filter, slice_get, if◌then◌else◌}
+use Rattle.std.specs.List.{flat_map}
 use Rattle.board_items.specs.declared.item.About.{About}
 use Rattle.board_items.specs.declared.item.About.TheVariants.{Text, Dimension, Courtyard, FootZone}
 use Rattle.board_items.specs.declared.item.What.{What}
@@ -9,6 +11,8 @@ use Rattle.board_items.specs.declared.item.Item.{Item}
 use Rattle.board_items.specs.Moves.{is_note}
 use Rattle.board_items.specs.Units.{is_body}
 use Rattle.board_items.specs.Boards.{PlainBoard}
+use Rattle.cond_lang.specs.Rules.{PlainRule}
+use Rattle.rule_text.specs.RulesOf.{PlainNote, PlainRules}
 use Rattle.drc_rows.specs.Line.{named}
 
 -- what is not checked
@@ -50,9 +54,37 @@ note_lines_after body [] = []
 note_lines_after body (entry ∷ entries) = note_line body entry.1 ++ note_lines_after (body_after body entry.1) entries
 
 -- the lines of all notes of a board
-unfoldable pub note_lines : PlainBoard → List ℕ
-note_lines board = note_lines_after None board.items
+unfoldable pub item_lines : PlainBoard → List ℕ
+item_lines board = note_lines_after None board.items
 
--- how many notes there are
-unfoldable pub note_count : PlainBoard → ℕ
-note_count board = length (filter (λ entry. is_note entry.1.what) board.items)
+-- how many notes a board has
+unfoldable pub item_count : PlainBoard → ℕ
+item_count board = length (filter (λ entry. is_note entry.1.what) board.items)
+
+-- ---- constraints
+
+abbrev pub name_in : Option PlainRule → List ℕ
+name_in None = []
+name_in (Some rule) = rule.name
+
+-- the name of the rule of this number. A number beyond the rules, which no rule file gives a note, has an empty one
+abbrev pub rule_name : PlainRules → ℕ → List ℕ
+rule_name rules number = name_in (slice_get rules.rules number)
+
+-- the line of a constraint: its name as it stands in its text, and that of its rule
+abbrev pub constraint_line : PlainRules → PlainNote → List ℕ
+constraint_line rules note = codes "not checked: constraint " ++ (note.constraint ++ named (codes " of rule") (rule_name rules note.rule)) ++ codes "\n"
+
+-- the lines of all constraints that are not checked, in the order of their text, which is that of the rules
+abbrev pub constraint_lines : PlainRules → List ℕ
+constraint_lines rules = flat_map (constraint_line rules) rules.notes
+
+-- ---- all
+
+-- the lines of all notes: those of a board, and behind them those of its rules
+abbrev pub note_lines : PlainBoard → PlainRules → List ℕ
+note_lines board rules = item_lines board ++ constraint_lines rules
+
+-- how many there are
+abbrev pub note_count : PlainBoard → PlainRules → ℕ
+note_count board rules = item_count board + length rules.notes

@@ -1,5 +1,5 @@
 -- The texts of the report. Every line ends with a line feed.
-use Rattle.std.specs.Prelude.{ℕ, List, [], ◌++◌, length, codes, decimal, Option, None, Some, unwrap_or, slice_get}
+use Rattle.std.specs.Prelude.{ℕ, Bool, true, false, List, [], ◌++◌, length, codes, decimal, Option, None, Some, unwrap_or, slice_get}
 use Rattle.std.specs.List.{flat_map}
 use Rattle.exact_dec.specs.Written.{mm_text}
 use Rattle.board_items.specs.declared.item.What.{What}
@@ -7,11 +7,18 @@ use Rattle.board_items.specs.declared.item.What.TheVariants.{Track, Via, Pad, Gr
 use Rattle.board_items.specs.declared.item.Item.{Item}
 use Rattle.board_items.specs.Layers.{layer_names}
 use Rattle.board_items.specs.Boards.{PlainBoard, item_at}
-use Rattle.row_check.specs.declared.rows.Kind.{Kind}
-use Rattle.row_check.specs.declared.rows.Kind.TheVariants.{Short, Clearance}
-use Rattle.row_check.specs.declared.rows.Row.{Row}
-use Rattle.row_check.specs.declared.picked.Source.{Source}
-use Rattle.row_check.specs.declared.picked.Source.TheVariants.{Default, Local}
+use Rattle.cond_lang.specs.declared.kind.Kind.{Kind}
+use Rattle.cond_lang.specs.declared.kind.Kind.TheVariants.{Short, Keepout, TrackWidth, ViaDiameter, HoleSize, AnnularWidth, Disallow, Assertion}
+use Rattle.cond_lang.specs.declared.rule.Severity.{Severity}
+use Rattle.cond_lang.specs.declared.rule.Severity.TheVariants.{Error, Warning, Ignore, Exclusion}
+use Rattle.cond_lang.specs.Kinds.{kind_name}
+use Rattle.cond_lang.specs.Rules.{PlainRule}
+use Rattle.rule_pick.specs.declared.kinds.Source.{Source}
+use Rattle.rule_pick.specs.declared.kinds.Source.TheVariants.{Default, Local, Rule}
+use Rattle.row_check.specs.declared.layer.RowLayer.{RowLayer}
+use Rattle.row_check.specs.declared.layer.RowLayer.TheVariants.{Copper, FrontYard, BackYard, Nowhere}
+use Rattle.row_check.specs.PlainRow.{PlainRow}
+use Rattle.rule_text.specs.RulesOf.{PlainRules}
 use Rattle.drc_rows.specs.Line.{named}
 use Rattle.drc_rows.specs.Notes.{note_lines, note_count}
 
@@ -37,47 +44,100 @@ abbrev pub text_of : Option Item → List ℕ
 text_of None = []
 text_of (Some item) = item_text item
 
-abbrev pub kind_word : Kind → List ℕ
-kind_word Short = codes "short"
-kind_word Clearance = codes "clearance"
+-- ---- rows
 
--- the name of a layer. Those of rows have one
-abbrev pub layer_text : ℕ → List ℕ
-layer_text layer = unwrap_or (slice_get layer_names layer) []
+-- how much a row weighs. Only errors and warnings make rows
+abbrev pub severity_word : Severity → List ℕ
+severity_word Error = codes "error"
+severity_word Warning = codes "warning"
+severity_word Ignore = codes "ignore"
+severity_word Exclusion = codes "exclusion"
 
--- the kind and the layer
-abbrev pub head_text : Row → List ℕ
-head_text row = codes "error " ++ kind_word row.kind ++ codes " " ++ layer_text row.layer ++ codes ": "
+-- the name of a copper layer. Those of rows have one
+abbrev pub copper_name : ℕ → List ℕ
+copper_name layer = unwrap_or (slice_get layer_names layer) []
+
+-- where it is
+abbrev pub layer_text : RowLayer → List ℕ
+layer_text (Copper layer) = copper_name layer
+layer_text FrontYard = codes "F.CrtYd"
+layer_text BackYard = codes "B.CrtYd"
+layer_text Nowhere = codes "-"
+
+-- how much it weighs, what is broken, and where
+abbrev pub head_text : PlainRow → List ℕ
+head_text row = severity_word row.severity ++ codes " " ++ kind_name row.kind ++ codes " " ++ layer_text row.layer ++ codes ": "
+
+-- the one item
+abbrev pub single_text : PlainBoard → PlainRow → List ℕ
+single_text board row = text_of (item_at board.items row.first)
 
 -- the two items
-abbrev pub pair_text : PlainBoard → Row → List ℕ
-pair_text board row = text_of (item_at board.items row.first) ++ codes " | " ++ text_of (item_at board.items row.second)
+abbrev pub pair_text : PlainBoard → PlainRow → List ℕ
+pair_text board row = single_text board row ++ codes " | " ++ text_of (item_at board.items row.second)
 
--- what asks for a distance
-abbrev pub source_word : Source → List ℕ
-source_word Default = codes "default"
-source_word Local = codes "local"
+-- what breaks it: limits, bans and claims are broken by one item, the others by two
+abbrev pub items_text : Kind → PlainBoard → PlainRow → List ℕ
+items_text TrackWidth board row = single_text board row
+items_text ViaDiameter board row = single_text board row
+items_text HoleSize board row = single_text board row
+items_text AnnularWidth board row = single_text board row
+items_text Disallow board row = single_text board row
+items_text Assertion board row = single_text board row
+items_text _ board row = pair_text board row
 
--- what was asked for, what there is, and what asks for it
-abbrev pub measures : Kind → Row → List ℕ
-measures Short row = codes "\n"
-measures Clearance row = codes " | needs " ++ mm_text row.value ++ codes " | has " ++ mm_text row.gap ++ codes " | " ++ source_word row.source ++ codes "\n"
+-- the name of a rule. Where a rule asks, it is always there
+abbrev pub rule_name : Option PlainRule → List ℕ
+rule_name None = []
+rule_name (Some rule) = rule.name
 
-unfoldable pub row_line : PlainBoard → Row → List ℕ
-row_line board row = head_text row ++ pair_text board row ++ measures row.kind row
+-- what asks for it: an item's own value, a rule by its name, or else a class or the board
+abbrev pub source_text : List PlainRule → Source → List ℕ
+source_text rules Default = codes "default"
+source_text rules Local = codes "local"
+source_text rules (Rule n) = named (codes "rule") (rule_name (slice_get rules n))
+
+-- that, behind what a row says before it
+abbrev pub asked_text : List PlainRule → PlainRow → List ℕ
+asked_text rules row = codes " | " ++ source_text rules row.source
+
+-- the length that is asked for, under a word, and the one that there is
+abbrev pub lengths_text : List ℕ → PlainRow → List ℕ
+lengths_text word row = codes " | " ++ word ++ codes " " ++ mm_text row.value ++ codes " | has " ++ mm_text row.gap
+
+-- both, and what asks for the one
+abbrev pub measured_text : List ℕ → List PlainRule → PlainRow → List ℕ
+measured_text word rules row = lengths_text word row ++ asked_text rules row
+
+-- which limit is broken
+abbrev pub limit_word : Bool → List ℕ
+limit_word false = codes "least"
+limit_word true = codes "most"
+
+-- what is asked for and what there is: nothing where two items may not meet, and no lengths where there is a ban or a claim
+abbrev pub measures : Kind → List PlainRule → PlainRow → List ℕ
+measures Short rules row = []
+measures Keepout rules row = []
+measures TrackWidth rules row = measured_text (limit_word row.over) rules row
+measures ViaDiameter rules row = measured_text (limit_word row.over) rules row
+measures HoleSize rules row = measured_text (limit_word row.over) rules row
+measures AnnularWidth rules row = measured_text (limit_word row.over) rules row
+measures Disallow rules row = asked_text rules row
+measures Assertion rules row = asked_text rules row
+measures _ rules row = measured_text (codes "needs") rules row
+
+-- the line of a row of the board, which was checked by these rules
+unfoldable pub row_line : PlainBoard → List PlainRule → PlainRow → List ℕ
+row_line board rules row = head_text row ++ items_text row.kind board row ++ measures row.kind rules row ++ codes "\n"
 
 -- a number between two texts
 unfoldable pub number_line : List ℕ → ℕ → List ℕ → List ℕ
 number_line before number after = before ++ decimal number ++ after ++ codes "\n"
 
 -- the rows, and how many they are
-abbrev pub rows_text : PlainBoard → List Row → List ℕ
-rows_text board rows = flat_map (row_line board) rows ++ number_line (codes "rows ") (length rows) []
+abbrev pub rows_text : PlainBoard → List PlainRule → List PlainRow → List ℕ
+rows_text board rules rows = flat_map (row_line board rules) rows ++ number_line (codes "rows ") (length rows) []
 
 -- the notes, and how many they are
-abbrev pub notes_text : PlainBoard → List ℕ
-notes_text board = note_lines board ++ number_line (codes "not checked ") (note_count board) []
-
--- the report of a board as it stands in its text: its rows and its notes
-unfoldable pub report : PlainBoard → List Row → List ℕ
-report board rows = number_line (codes "report ") 0 [] ++ rows_text board rows ++ notes_text board
+abbrev pub notes_text : PlainBoard → PlainRules → List ℕ
+notes_text board rules = note_lines board rules ++ number_line (codes "not checked ") (note_count board rules) []

@@ -32,7 +32,7 @@ fn push_pad<W: Sink>(
 }
 
 /// Puts into the line what the item is called.
-fn push_title<W: Sink>(line: &mut Line, out: &mut W, item: &Item) -> Result<(), Failed>
+pub(crate) fn push_title<W: Sink>(line: &mut Line, out: &mut W, item: &Item) -> Result<(), Failed>
     ensures { Puts (W.written out.old) (W.written out.new) (W.faults out.old) (W.faults out.new) line.old (title_of item.now.name item.now.what) line.new result }
 {
     match &item.what {

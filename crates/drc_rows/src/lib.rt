@@ -4,9 +4,11 @@
 mod items;
 mod line;
 mod millimetres;
+mod net;
 mod notes;
 mod pieces;
 mod report;
 
+pub use net::write_net;
 pub use notes::{count_notes, write_notes};
 pub use report::{write_line, write_pieces, write_rows};

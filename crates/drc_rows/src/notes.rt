@@ -1,17 +1,20 @@
 //! The lines of notes: what is read but not checked.
 
-ghost use Rattle.std.specs.Prelude.{◌≡◌, ◌++◌, []};
+ghost use Rattle.std.specs.Prelude.{◌≡◌, ◌≤◌, ◌++◌, []};
 ghost use Rattle.std.specs.Option.{option_copied};
 ghost use Rattle.drc_io.specs.Sinks.{Writes};
 ghost use Rattle.board_items.specs.Units.{is_body};
 ghost use Rattle.board_items.specs.Moves.{is_note};
+ghost use Rattle.rule_text.specs.Views.{plain_note, plain_rules};
 ghost use Rattle.drc_rows.specs.Line.{Puts, named};
-ghost use Rattle.drc_rows.specs.Notes.{about_text, told_text, note_line, note_lines, note_count, reference_in, reference_of, body_after};
+ghost use Rattle.drc_rows.specs.Notes.{about_text, told_text, note_line, reference_in, reference_of, body_after, item_lines, item_count};
+ghost use Rattle.drc_rows.specs.Notes.{rule_name, constraint_line, constraint_lines, note_lines, note_count};
 
 use crate::line::Line;
 use crate::pieces::push_quoted;
 use board_items::{About, Board, Item, What};
 use drc_io::{Failed, Sink};
+use rule_text::{RuleNote, Rules};
 
 fn is_body(item: &Item) -> bool
     ensures { result ≡ is_body item.now.what }
@@ -136,11 +139,10 @@ fn write_note<W: Sink>(out: &mut W, body: Option<&Item>, item: &Item) -> Result<
     }
 }
 
-/// Writes the lines of all notes of the board, by id. `Failed` comes only where the sink's count of faults rose, and then a
-/// front part of the lines was written. It takes no memory.
-#[tactic(auto, unfolding(crate::specs::Notes::note_lines))]
-pub fn write_notes<W: Sink>(board: &Board, out: &mut W) -> Result<(), Failed>
-    ensures { Writes (W.written out.old) (W.written out.new) (W.faults out.old) (W.faults out.new) (note_lines board.now) result }
+/// Writes the lines of all notes of a board, by id.
+#[tactic(auto, unfolding(crate::specs::Notes::item_lines))]
+fn write_items<W: Sink>(board: &Board, out: &mut W) -> Result<(), Failed>
+    ensures { Writes (W.written out.old) (W.written out.new) (W.faults out.old) (W.faults out.new) (item_lines board.now) result }
 {
     let mut body = None;
     for (_, item) in board.iter() {
@@ -150,10 +152,11 @@ pub fn write_notes<W: Sink>(board: &Board, out: &mut W) -> Result<(), Failed>
     Ok(())
 }
 
-/// How many notes the board has: as many as `write_notes` writes lines.
-#[tactic(auto, unfolding(crate::specs::Notes::note_count))]
-pub fn count_notes(board: &Board) -> u64
-    ensures { result ≡ note_count board.now }
+/// How many notes a board has.
+#[tactic(auto, unfolding(crate::specs::Notes::item_count))]
+fn count_items(board: &Board) -> u64
+    ensures count { result ≡ item_count board.now }
+    ensures few { result ≤ 200_000 }
 {
     let mut count = 0;
     for (_, item) in board.iter() {
@@ -162,4 +165,65 @@ pub fn count_notes(board: &Board) -> u64
         }
     }
     count
+}
+
+/// The name of a rule, by its number.
+fn rule_name(rules: &Rules, number: u32) -> &[u8]
+    ensures { result.now ≡ rule_name (plain_rules rules.now) number }
+{
+    match rules.rules.as_slice().get(number as usize) {
+        Some(rule) => rule.name.bytes(),
+        None => b"",
+    }
+}
+
+/// Puts the line of a constraint together.
+fn push_constraint<W: Sink>(
+    line: &mut Line,
+    out: &mut W,
+    rules: &Rules,
+    note: &RuleNote,
+) -> Result<(), Failed>
+    ensures { Puts (W.written out.old) (W.written out.new) (W.faults out.old) (W.faults out.new) line.old (constraint_line (plain_rules rules.now) (plain_note note.now)) line.new result }
+{
+    let rule = rule_name(rules, note.rule);
+    line.push(out, b"not checked: constraint ")?;
+    push_words(line, out, note.constraint.bytes(), b" of rule", rule)?;
+    line.push(out, b"\n")
+}
+
+/// Writes the line of a constraint.
+fn write_constraint<W: Sink>(out: &mut W, rules: &Rules, note: &RuleNote) -> Result<(), Failed>
+    ensures { Writes (W.written out.old) (W.written out.new) (W.faults out.old) (W.faults out.new) (constraint_line (plain_rules rules.now) (plain_note note.now)) result }
+{
+    let mut line = Line::new();
+    push_constraint(&mut line, out, rules, note)?;
+    line.end(out)
+}
+
+/// Writes the lines of all constraints that no rule may have.
+fn write_constraints<W: Sink>(rules: &Rules, out: &mut W) -> Result<(), Failed>
+    ensures { Writes (W.written out.old) (W.written out.new) (W.faults out.old) (W.faults out.new) (constraint_lines (plain_rules rules.now)) result }
+{
+    let notes = rules.notes.as_slice();
+    for note in notes {
+        write_constraint(out, rules, note)?;
+    }
+    Ok(())
+}
+
+/// Writes the lines of all notes: those of the board, by id, and then those of its rules, in their order. `Failed` comes only
+/// where the sink's count of faults rose, and then a front part of the lines was written. It takes no memory.
+pub fn write_notes<W: Sink>(board: &Board, rules: &Rules, out: &mut W) -> Result<(), Failed>
+    ensures { Writes (W.written out.old) (W.written out.new) (W.faults out.old) (W.faults out.new) (note_lines board.now (plain_rules rules.now)) result }
+{
+    write_items(board, out)?;
+    write_constraints(rules, out)
+}
+
+/// How many notes there are: as many as `write_notes` writes lines.
+pub fn count_notes(board: &Board, rules: &Rules) -> u64
+    ensures { result ≡ note_count board.now (plain_rules rules.now) }
+{
+    count_items(board) + rules.notes.as_slice().len() as u64
 }

@@ -1,72 +1,63 @@
 //! The lines of rows, and lines with a number.
 
-ghost use Rattle.std.specs.Prelude.{◌≡◌, ◌++◌, ℕ, List, [], All};
+ghost use Rattle.std.specs.Prelude.{◌≡◌, ◌++◌, ◌<◌, ℕ, List, [], length, map, All};
 ghost use Rattle.std.specs.List.{flat_map};
 ghost use Rattle.drc_io.specs.Sinks.{Writes};
-ghost use Rattle.row_check.specs.Rows.{HasItems};
+ghost use Rattle.cond_lang.specs.Rules.{plain_rule};
+ghost use Rattle.rule_pick.specs.declared.kinds.Source.TheVariants.{Rule as NumberOf};
+ghost use Rattle.row_check.specs.Rows.{HasItems, HasSource};
 ghost use Rattle.drc_rows.specs.Line.{Puts};
-ghost use Rattle.drc_rows.specs.Report.{kind_word, source_word, head_text, pair_text, measures, row_line, number_line};
+ghost use Rattle.drc_rows.specs.Report.{severity_word, layer_text, head_text, single_text, pair_text, items_text, source_text, asked_text, lengths_text, measured_text, limit_word, measures, row_line, number_line};
 
 use crate::items::push_item_of;
 use crate::line::Line;
 use crate::millimetres::Millimetres;
-use crate::pieces::push_all;
+use crate::pieces::{push_all, push_quoted};
 use board_items::{Board, layer_name};
+use cond_lang::{Kind, Rule, Severity};
 use drc_io::{Failed, Sink};
 use itoa::Buffer;
-use row_check::{Kind, Row, Source};
+use row_check::{CheckView, Row, RowLayer};
+use rule_pick::Source;
 
-/// Puts the kind and the layer of a row into the line.
+fn severity_word(severity: Severity) -> &'static [u8]
+    ensures { result.now ≡ severity_word severity }
+{
+    match severity {
+        Severity::Error => b"error",
+        Severity::Warning => b"warning",
+        Severity::Ignore => b"ignore",
+        Severity::Exclusion => b"exclusion",
+    }
+}
+
+fn layer_text(row: &Row) -> &'static [u8]
+    ensures { result.now ≡ layer_text row.now.layer }
+{
+    match row.layer() {
+        RowLayer::Copper(layer) => layer_name(layer),
+        RowLayer::FrontYard => b"F.CrtYd",
+        RowLayer::BackYard => b"B.CrtYd",
+        RowLayer::Nowhere => b"-",
+    }
+}
+
+/// Puts into the line how much a row weighs, what is broken, and where.
 fn push_head<W: Sink>(line: &mut Line, out: &mut W, row: &Row) -> Result<(), Failed>
     ensures { Puts (W.written out.old) (W.written out.new) (W.faults out.old) (W.faults out.new) line.old (head_text row.now) line.new result }
 {
-    let kind = kind_word(row.kind());
-    let layer = layer_name(row.layer());
-    push_all(line, out, &[b"error ", kind, b" ", layer, b": "])
+    let severity = severity_word(row.severity());
+    let kind = row.kind().name().as_bytes();
+    let layer = layer_text(row);
+    push_all(line, out, &[severity, b" ", kind, b" ", layer, b": "])
 }
 
-fn kind_word(kind: Kind) -> &'static [u8]
-    ensures { result.now ≡ kind_word kind }
+/// Puts the first item of a row into the line.
+fn push_first<W: Sink>(line: &mut Line, out: &mut W, board: &Board, row: &Row) -> Result<(), Failed>
+    requires { HasItems board.now row.now }
+    ensures { Puts (W.written out.old) (W.written out.new) (W.faults out.old) (W.faults out.new) line.old (single_text board.now row.now) line.new result }
 {
-    match kind {
-        Kind::Short => b"short",
-        Kind::Clearance => b"clearance",
-    }
-}
-
-fn source_word(source: Source) -> &'static [u8]
-    ensures { result.now ≡ source_word source }
-{
-    match source {
-        Source::Default => b"default",
-        Source::Local => b"local",
-    }
-}
-
-/// Puts what was asked for, what there is and what asks for it into the line.
-fn push_measures<W: Sink>(line: &mut Line, out: &mut W, row: &Row) -> Result<(), Failed>
-    ensures { Puts (W.written out.old) (W.written out.new) (W.faults out.old) (W.faults out.new) line.old (measures row.now.kind row.now) line.new result }
-{
-    match row.kind() {
-        Kind::Short => line.push(out, b"\n"),
-        Kind::Clearance => {
-            let needs = Millimetres::of(row.value());
-            let has = Millimetres::of(row.gap());
-            push_all(
-                line,
-                out,
-                &[
-                    b" | needs ",
-                    needs.as_bytes(),
-                    b" | has ",
-                    has.as_bytes(),
-                    b" | ",
-                    source_word(row.source()),
-                    b"\n",
-                ],
-            )
-        }
-    }
+    push_item_of(line, out, board, row.first())
 }
 
 /// Puts the two items of a row into the line.
@@ -74,39 +65,157 @@ fn push_pair<W: Sink>(line: &mut Line, out: &mut W, board: &Board, row: &Row) ->
     requires { HasItems board.now row.now }
     ensures { Puts (W.written out.old) (W.written out.new) (W.faults out.old) (W.faults out.new) line.old (pair_text board.now row.now) line.new result }
 {
-    push_item_of(line, out, board, row.first())?;
+    push_first(line, out, board, row)?;
     line.push(out, b" | ")?;
     push_item_of(line, out, board, row.second())
 }
 
-/// Puts the line of a row together.
-fn push_row<W: Sink>(line: &mut Line, out: &mut W, board: &Board, row: &Row) -> Result<(), Failed>
+/// Puts the item or the items of a row into the line.
+fn push_items<W: Sink>(line: &mut Line, out: &mut W, board: &Board, row: &Row) -> Result<(), Failed>
     requires { HasItems board.now row.now }
-    ensures { Puts (W.written out.old) (W.written out.new) (W.faults out.old) (W.faults out.new) line.old (row_line board.now row.now) line.new result }
+    ensures { Puts (W.written out.old) (W.written out.new) (W.faults out.old) (W.faults out.new) line.old (items_text row.now.kind board.now row.now) line.new result }
+{
+    match row.kind() {
+        Kind::TrackWidth
+        | Kind::ViaDiameter
+        | Kind::HoleSize
+        | Kind::AnnularWidth
+        | Kind::Disallow
+        | Kind::Assertion => push_first(line, out, board, row),
+        _ => push_pair(line, out, board, row),
+    }
+}
+
+/// Puts a source into the line.
+fn push_source<W: Sink>(
+    line: &mut Line,
+    out: &mut W,
+    rules: &[Rule],
+    source: Source,
+) -> Result<(), Failed>
+    requires { (n : ℕ) → source ≡ NumberOf n → n < length (map plain_rule rules.now) }
+    ensures { Puts (W.written out.old) (W.written out.new) (W.faults out.old) (W.faults out.new) line.old (source_text (map plain_rule rules.now) source) line.new result }
+{
+    match source {
+        Source::Default => line.push(out, b"default"),
+        Source::Local => line.push(out, b"local"),
+        Source::Rule(n) => push_quoted(line, out, b"rule", rules[n as usize].name.bytes()),
+    }
+}
+
+/// Puts into the line what asks for what a row says.
+fn push_asked<W: Sink>(
+    line: &mut Line,
+    out: &mut W,
+    rules: &[Rule],
+    row: &Row,
+) -> Result<(), Failed>
+    requires { HasSource (map plain_rule rules.now) row.now }
+    ensures { Puts (W.written out.old) (W.written out.new) (W.faults out.old) (W.faults out.new) line.old (asked_text (map plain_rule rules.now) row.now) line.new result }
+{
+    line.push(out, b" | ")?;
+    push_source(line, out, rules, row.source())
+}
+
+/// Puts into the line the length that is asked for, under a word, and the one that there is.
+fn push_lengths<W: Sink>(line: &mut Line, out: &mut W, word: &[u8], row: &Row) -> Result<(), Failed>
+    ensures { Puts (W.written out.old) (W.written out.new) (W.faults out.old) (W.faults out.new) line.old (lengths_text word.now row.now) line.new result }
+{
+    let asked = Millimetres::of(row.value());
+    let has = Millimetres::of(row.gap());
+    push_all(
+        line,
+        out,
+        &[
+            b" | ",
+            word,
+            b" ",
+            asked.as_bytes(),
+            b" | has ",
+            has.as_bytes(),
+        ],
+    )
+}
+
+/// Puts into the line both lengths and what asks for the one.
+fn push_measured<W: Sink>(
+    line: &mut Line,
+    out: &mut W,
+    word: &[u8],
+    rules: &[Rule],
+    row: &Row,
+) -> Result<(), Failed>
+    requires { HasSource (map plain_rule rules.now) row.now }
+    ensures { Puts (W.written out.old) (W.written out.new) (W.faults out.old) (W.faults out.new) line.old (measured_text word.now (map plain_rule rules.now) row.now) line.new result }
+{
+    push_lengths(line, out, word, row)?;
+    push_asked(line, out, rules, row)
+}
+
+fn limit_word(over: bool) -> &'static [u8]
+    ensures { result.now ≡ limit_word over }
+{
+    if over { b"most" } else { b"least" }
+}
+
+/// Puts into the line what is asked for, what there is and what asks for it, as far as the kind of a row has them.
+fn push_measures<W: Sink>(
+    line: &mut Line,
+    out: &mut W,
+    rules: &[Rule],
+    row: &Row,
+) -> Result<(), Failed>
+    requires { HasSource (map plain_rule rules.now) row.now }
+    ensures { Puts (W.written out.old) (W.written out.new) (W.faults out.old) (W.faults out.new) line.old (measures row.now.kind (map plain_rule rules.now) row.now) line.new result }
+{
+    match row.kind() {
+        Kind::Short | Kind::Keepout => Ok(()),
+        Kind::Disallow | Kind::Assertion => push_asked(line, out, rules, row),
+        Kind::TrackWidth | Kind::ViaDiameter | Kind::HoleSize | Kind::AnnularWidth => {
+            push_measured(line, out, limit_word(row.over()), rules, row)
+        }
+        _ => push_measured(line, out, b"needs", rules, row),
+    }
+}
+
+/// Puts the line of a row together.
+fn push_row<W: Sink>(
+    line: &mut Line,
+    out: &mut W,
+    view: &CheckView<'_>,
+    row: &Row,
+) -> Result<(), Failed>
+    requires items { HasItems view.now.board.now row.now }
+    requires source { HasSource (map plain_rule view.now.rules.now) row.now }
+    ensures { Puts (W.written out.old) (W.written out.new) (W.faults out.old) (W.faults out.new) line.old (row_line view.now.board.now (map plain_rule view.now.rules.now) row.now) line.new result }
 {
     push_head(line, out, row)?;
-    push_pair(line, out, board, row)?;
-    push_measures(line, out, row)
+    push_items(line, out, view.board, row)?;
+    push_measures(line, out, view.rules, row)?;
+    line.push(out, b"\n")
 }
 
 /// Writes the line of a row.
-fn write_row<W: Sink>(out: &mut W, board: &Board, row: &Row) -> Result<(), Failed>
-    requires { HasItems board.now row.now }
-    ensures { Writes (W.written out.old) (W.written out.new) (W.faults out.old) (W.faults out.new) (row_line board.now row.now) result }
+fn write_row<W: Sink>(out: &mut W, view: &CheckView<'_>, row: &Row) -> Result<(), Failed>
+    requires items { HasItems view.now.board.now row.now }
+    requires source { HasSource (map plain_rule view.now.rules.now) row.now }
+    ensures { Writes (W.written out.old) (W.written out.new) (W.faults out.old) (W.faults out.new) (row_line view.now.board.now (map plain_rule view.now.rules.now) row.now) result }
 {
     let mut line = Line::new();
-    push_row(&mut line, out, board, row)?;
+    push_row(&mut line, out, view, row)?;
     line.end(out)
 }
 
-/// Writes the lines of rows, in their order. Their items are in the board. `Failed` comes only where the sink's count of
-/// faults rose, and then a front part of the lines was written.
-pub fn write_rows<W: Sink>(board: &Board, rows: &[Row], out: &mut W) -> Result<(), Failed>
-    requires { All (HasItems board.now) rows.now }
-    ensures { Writes (W.written out.old) (W.written out.new) (W.faults out.old) (W.faults out.new) (flat_map (row_line board.now) rows.now) result }
+/// Writes the lines of rows, in their order. Their items are in the board of the view, and the rules that ask for them are
+/// among its rules. `Failed` comes only where the sink's count of faults rose, and then a front part of the lines was
+/// written. It takes no memory.
+pub fn write_rows<W: Sink>(view: &CheckView<'_>, rows: &[Row], out: &mut W) -> Result<(), Failed>
+    requires items { All (HasItems view.now.board.now) rows.now }
+    requires sources { All (HasSource (map plain_rule view.now.rules.now)) rows.now }
+    ensures { Writes (W.written out.old) (W.written out.new) (W.faults out.old) (W.faults out.new) (flat_map (row_line view.now.board.now (map plain_rule view.now.rules.now)) rows.now) result }
 {
     for row in rows {
-        write_row(out, board, row)?;
+        write_row(out, view, row)?;
     }
     Ok(())
 }

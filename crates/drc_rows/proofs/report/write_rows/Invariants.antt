@@ -1,7 +1,8 @@
-use Rattle.std.proofs.Common.{take, Ok}
+use Rattle.std.proofs.Common.{take, map, Ok}
 use Rattle.std.specs.List.{flat_map}
 use Rattle.drc_io.specs.declared.Failed.{Failed}
 use Rattle.drc_io.specs.Sinks.{Writes}
+use Rattle.cond_lang.specs.Rules.{plain_rule}
 use Rattle.drc_rows.specs.Report.{row_line}
 use Rattle.drc_rows.proofs.report.write_rows.Given as goal
 
@@ -9,4 +10,4 @@ use Rattle.drc_rows.proofs.report.write_rows.Given as goal
 abbrev pub invariant-loop-row : goal.invariant-loop-row
 invariant-loop-row g l =
     Writes {T = Unit {0}} {E = Failed} (g.W.Sink.written l.initial.out) (g.W.Sink.written l.out) (g.W.Sink.faults l.initial.out) (g.W.Sink.faults l.out)
-    (flat_map (row_line l.board) (take l.row-index l.rows)) (Ok tt)
+    (flat_map (row_line l.view.board.now (map plain_rule l.view.rules.now)) (take l.row-index l.rows)) (Ok tt)

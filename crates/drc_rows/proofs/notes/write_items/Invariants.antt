@@ -4,7 +4,7 @@ use Rattle.drc_io.specs.declared.Failed.{Failed}
 use Rattle.drc_io.specs.Sinks.{Writes}
 use Rattle.board_items.specs.Walks.{items_left}
 use Rattle.drc_rows.specs.Notes.{note_lines_after}
-use Rattle.drc_rows.proofs.notes.write_notes.Given as goal
+use Rattle.drc_rows.proofs.notes.write_items.Given as goal
 
 -- the lines of the items that have passed are written
 abbrev pub invariant-loop-item : goal.invariant-loop-item
