@@ -1,4 +1,4 @@
-//! Checks a circuit board: `drc BOARD [--project FILE]`.
+//! Checks a circuit board: `drc BOARD [--project FILE] [--rules FILE]`.
 //!
 //! The report goes to standard output, and the exit status says how the run ended.
 #![tactic(auto)]

@@ -1,19 +1,20 @@
 -- From the texts one by one to the output of all.
-use Rattle.std.proofs.Common.{◌≡◌, ℕ, ◌+◌, ◌<◌, ◌≤◌, List, [], ◌∷◌, length, Option, Some, None, Result, Ok, Err, IfErr, MatchResult, inl, inr, refl, sym, subst, arith}
+use Rattle.std.proofs.Common.{◌≡◌, ℕ, ◌+◌, ◌<◌, ◌≤◌, List, [], ◌∷◌, ◌++◌, length, append-nil, Option, Some, None, Result, Ok, Err, IfErr, MatchResult, inl, inr, refl, sym, subst, arith}
 use Rattle.std.specs.Prelude.{replicate}
 use Rattle.std.proofs.Math.ListN.{length-replicate}
 use Rattle.drc_io.specs.Causes.{Rose}
 use Rattle.drc_io.specs.Files.{IsLonger, IsWhole, HasMore, file_of}
 use Rattle.board_items.specs.Boards.{PlainBoard}
-use Rattle.net_class.specs.Classes.{PlainClasses}
+use Rattle.net_class.specs.Classes.{PlainClasses, plain_classes}
+use Rattle.rule_text.specs.RulesOf.{PlainRules, no_rules}
 use Rattle.drc_run.specs.declared.texts.Which.{Which}
-use Rattle.drc_run.specs.declared.texts.Which.TheVariants.{Board, Project}
+use Rattle.drc_run.specs.declared.texts.Which.TheVariants.{Board, Project, Rules}
 use Rattle.drc_run.specs.declared.texts.Stop.{Stop}
 use Rattle.drc_run.specs.declared.texts.Stop.TheVariants.{Refused, Unread, OutOfMemory}
 use Rattle.drc_run.specs.Words.{Reading}
-use Rattle.drc_run.specs.Texts.{Named, optional, texts_of, a_board, a_project, Said, accepted, refused, at_place, ReaderSays, longer, read, too_long}
-use Rattle.drc_run.specs.Output.{Output, FileSays, IsReached, IsOutputFor, HasReadFault, stopped, reported, IsReportOf}
-use Rattle.drc_run.specs.Refusing.{reason, StopsReading, StopsText, StopsTexts, GivesClasses, StopsProject, AreChecked, IsLineOf}
+use Rattle.drc_run.specs.Texts.{Named, optional, texts_of, Value, a_board, a_project, a_rules, Said, accepted, refused, ReaderSays, longer, read, too_long}
+use Rattle.drc_run.specs.Output.{Output, FileSays, AreAccepted, IsReached, IsOutputFor, HasReadFault, stopped, reported, IsReportOf, classes_among, rules_among}
+use Rattle.drc_run.specs.Refusing.{why_of, StopsReading, StopsText, StopsTexts, Gives, StopsOption, AreChecked, IsLineOf}
 
 module _ (told : Option (List (List ℕ × List ℕ))) where
   -- ---- one text
@@ -25,7 +26,7 @@ module _ (told : Option (List (List ℕ × List ℕ))) where
   -- a reader that refuses the bytes of a file refuses the text
   pub reading_stops : (before now : List ℕ → ℕ) (which : Which) (file bytes : List ℕ) (stop : Stop) → IsWhole told file bytes → length bytes ≤ 33554432 → StopsReading which bytes stop
       → StopsText told before now (record { which = which; file = file }) stop
-  reading_stops before now which file bytes (Refused it name code at) whole short says = (says.0, file_says which file bytes _ whole short says.1)
+  reading_stops before now which file bytes (Refused r) whole short says = (says.0, file_says which file bytes _ whole short says.1)
   reading_stops before now which file bytes (Unread it) whole short says = absurd says
   reading_stops before now which file bytes OutOfMemory whole short says = tt
 
@@ -54,22 +55,65 @@ longer_says (Some files) which name h = longer_of files which name (file_of file
 module _ (told : Option (List (List ℕ × List ℕ))) where
   -- ---- all texts
 
-  -- the board's turn comes first
-  board_reached : (file : List ℕ) (texts : List Named) → IsReached told (record { which = Board; file = file } ∷ texts) (record { which = Board; file = file })
-  board_reached file texts = record { before = []; after = texts; among = refl; values = []; before_accepted = tt }
+  -- the text whose turn comes once those before it are accepted
+  reached : (before after : List Named) (values : List Value) (text : Named) → AreAccepted told before values → IsReached told (before ++ text ∷ after) text
+  reached before after values text are = record { before = before; after = after; among = refl; values = values; before_accepted = are }
 
-  -- once the board is accepted, the project's turn comes
-  project_reached : (file project : List ℕ) (board : PlainBoard) → FileSays told (record { which = Board; file = file }) (accepted (a_board board))
-      → IsReached told (record { which = Board; file = file } ∷ record { which = Project; file = project } ∷ []) (record { which = Project; file = project })
-  project_reached file project board says =
-      record { before = record { which = Board; file = file } ∷ []; after = []; among = refl; values = a_board board ∷ []; before_accepted = (says, tt) }
+  -- the value of an option's text
+  abbrev given : Option (List ℕ) → Value → List Value
+  given None value = []
+  given (Some file) value = value ∷ []
 
-  pub are_checked : (file : List ℕ) (project : Option (List ℕ)) (board : PlainBoard) (classes : PlainClasses) → FileSays told (record { which = Board; file = file }) (accepted (a_board board))
-      → GivesClasses told project classes → AreChecked told (texts_of (record { board = file; project = project })) board classes
-  are_checked file None board classes says plain =
-      record { values = a_board board ∷ []; are_accepted = (says, tt); reported = λ out is. subst (λ (c : PlainClasses). IsReportOf board c out) plain is }
-  are_checked file (Some project) board classes says gives =
-      record { values = a_board board ∷ a_project classes ∷ []; are_accepted = (says, (gives, tt)); reported = λ out is. is }
+  given_accepted : (which : Which) (file : Option (List ℕ)) (plain value : Value) → Gives told which file plain value → AreAccepted told (optional which file) (given file value)
+  given_accepted which None plain value gives = tt
+  given_accepted which (Some file) plain value gives = (gives, tt)
+
+  both_accepted : (first second : List Named) (vs ws : List Value) → AreAccepted told first vs → AreAccepted told second ws → AreAccepted told (first ++ second) (vs ++ ws)
+  both_accepted [] second [] ws p q = q
+  both_accepted [] second (v ∷ vs) ws p q = absurd p
+  both_accepted (text ∷ first) second [] ws p q = absurd p
+  both_accepted (text ∷ first) second (v ∷ vs) ws p q = (p.0, both_accepted first second vs ws p.1 q)
+
+  same_classes : (c d : PlainClasses) → a_project c ≡ a_project d → c ≡ d
+  same_classes c d e = cc
+
+  same_rules : (r s : PlainRules) → a_rules r ≡ a_rules s → r ≡ s
+  same_rules r s e = cc
+
+  -- the classes and the rules among the values are those that were given
+  classes_are : (board : PlainBoard) (project rules : Option (List ℕ)) (classes : PlainClasses) (r : PlainRules) → Gives told Project project (a_project plain_classes) (a_project classes)
+      → classes ≡ classes_among (a_board board ∷ (given project (a_project classes) ++ given rules (a_rules r)))
+  classes_are board None None classes r gives = same_classes classes plain_classes gives
+  classes_are board None (Some file) classes r gives = same_classes classes plain_classes gives
+  classes_are board (Some file) rules classes r gives = refl
+
+  rules_are : (board : PlainBoard) (project rules : Option (List ℕ)) (classes : PlainClasses) (r : PlainRules) → Gives told Rules rules (a_rules no_rules) (a_rules r)
+      → r ≡ rules_among (a_board board ∷ (given project (a_project classes) ++ given rules (a_rules r)))
+  rules_are board None None classes r gives = same_rules r no_rules gives
+  rules_are board None (Some file) classes r gives = refl
+  rules_are board (Some project) None classes r gives = same_rules r no_rules gives
+  rules_are board (Some project) (Some file) classes r gives = refl
+
+  pub are_checked : (file : List ℕ) (project rules : Option (List ℕ)) (board : PlainBoard) (classes : PlainClasses) (r : PlainRules)
+      → FileSays told (record { which = Board; file = file }) (accepted (a_board board)) → Gives told Project project (a_project plain_classes) (a_project classes)
+      → Gives told Rules rules (a_rules no_rules) (a_rules r) → AreChecked told (texts_of (record { board = file; project = project; rules = rules })) board classes r
+  are_checked file project rules board classes r says gives_classes gives_rules =
+      let values = a_board board ∷ (given project (a_project classes) ++ given rules (a_rules r)) in
+      record {
+        values = values;
+        are_accepted = (
+          says,
+          both_accepted (optional Project project) (optional Rules rules) (given project (a_project classes)) (given rules (a_rules r))
+              (given_accepted Project project (a_project plain_classes) (a_project classes) gives_classes) (given_accepted Rules rules (a_rules no_rules) (a_rules r) gives_rules),
+        );
+        reported = λ out is. record {
+          board = board;
+          has_board = refl;
+          is_report =
+              subst (λ (s : PlainRules). IsReportOf board (classes_among values) s out) (rules_are board project rules classes r gives_rules)
+              (subst (λ (c : PlainClasses). IsReportOf board c r out) (classes_are board project rules classes r gives_classes) is);
+        };
+      }
 
   -- the count of a file that rose later has risen
   rose_later : (m n k : ℕ) → m ≤ n → Rose n k → Rose m k
@@ -79,43 +123,60 @@ module _ (told : Option (List (List ℕ × List ℕ))) where
   module _ (before now : List ℕ → ℕ) where
     -- the text whose turn came is not accepted
     stops_at : (texts : List Named) (text : Named) (stop : Stop) → IsReached told texts text → StopsText told before now text stop → StopsTexts told texts before now stop
-    stops_at texts text (Refused it name code at) reached s = (
+    stops_at texts text (Refused r) turn s = (
       text.file,
-      subst (λ (w : Which). IsReached told texts (record { which = w; file = text.file })) (sym s.0) reached,
-      subst (λ (w : Which). FileSays told (record { which = w; file = text.file }) (refused (at_place (reason name.now code.now) at))) (sym s.0) s.1,
+      subst (λ (w : Which). IsReached told texts (record { which = w; file = text.file })) (sym s.0) turn,
+      subst (λ (w : Which). FileSays told (record { which = w; file = text.file }) (refused (why_of r))) (sym s.0) s.1,
     )
-    stops_at texts text (Unread it) reached s =
-        record { file = text.file; reached = subst (λ (w : Which). IsReached told texts (record { which = w; file = text.file })) (sym s.0) reached; rose = s.1 }
-    stops_at texts text OutOfMemory reached s = tt
+    stops_at texts text (Unread it) turn s =
+        record { file = text.file; reached = subst (λ (w : Which). IsReached told texts (record { which = w; file = text.file })) (sym s.0) turn; rose = s.1 }
+    stops_at texts text OutOfMemory turn s = tt
 
-    pub board_stops : (file : List ℕ) (project : Option (List ℕ)) (stop : Stop) → StopsText told before now (record { which = Board; file = file }) stop
-        → StopsTexts told (texts_of (record { board = file; project = project })) before now stop
-    board_stops file project stop s = stops_at (texts_of (record { board = file; project = project })) (record { which = Board; file = file }) stop (board_reached file (optional Project project)) s
+    pub board_stops : (file : List ℕ) (project rules : Option (List ℕ)) (stop : Stop) → StopsText told before now (record { which = Board; file = file }) stop
+        → StopsTexts told (texts_of (record { board = file; project = project; rules = rules })) before now stop
+    board_stops file project rules stop s =
+        stops_at (texts_of (record { board = file; project = project; rules = rules })) (record { which = Board; file = file }) stop
+        (reached [] (optional Project project ++ optional Rules rules) [] (record { which = Board; file = file }) tt) s
 
     -- counts only rise
     later : (middle : List ℕ → ℕ) (text : Named) (stop : Stop) → ((other : List ℕ) → before other ≤ middle other) → StopsText told middle now text stop → StopsText told before now text stop
-    later middle text (Refused it name code at) up s = s
+    later middle text (Refused r) up s = s
     later middle text (Unread it) up s = (s.0, rose_later (before text.file) (middle text.file) (now text.file) (up text.file) s.1)
     later middle text OutOfMemory up s = tt
 
-    pub project_stops : (file : List ℕ) (project : Option (List ℕ)) (board : PlainBoard) (middle : List ℕ → ℕ) (stop : Stop) → FileSays told (record { which = Board; file = file }) (accepted (a_board board))
-        → ((other : List ℕ) → before other ≤ middle other) → StopsProject told middle now project stop → StopsTexts told (texts_of (record { board = file; project = project })) before now stop
-    project_stops file None board middle stop says up s =
-        subst (λ (x : Stop). StopsTexts told (texts_of (record { board = file; project = None })) before now x) (sym s) tt
-    project_stops file (Some project) board middle stop says up s =
-        stops_at (texts_of (record { board = file; project = Some project })) (record { which = Project; file = project }) stop (project_reached file project board says)
-        (later middle (record { which = Project; file = project }) stop up s)
+    -- the text of an option is not accepted, those before it are
+    option_stops : (which : Which) (option : Option (List ℕ)) (first last : List Named) (values : List Value) (middle : List ℕ → ℕ) (stop : Stop) → AreAccepted told first values
+        → ((other : List ℕ) → before other ≤ middle other) → StopsOption told middle now which option stop → StopsTexts told (first ++ (optional which option ++ last)) before now stop
+    option_stops which None first last values middle stop are up s = subst (λ (x : Stop). StopsTexts told (first ++ last) before now x) (sym s) tt
+    option_stops which (Some file) first last values middle stop are up s =
+        let text : Named = record { which = which; file = file } in
+        stops_at (first ++ text ∷ last) text stop (reached first last values text are) (later middle text stop up s)
+
+    pub project_stops : (file : List ℕ) (project rules : Option (List ℕ)) (board : PlainBoard) (middle : List ℕ → ℕ) (stop : Stop)
+        → FileSays told (record { which = Board; file = file }) (accepted (a_board board)) → ((other : List ℕ) → before other ≤ middle other) → StopsOption told middle now Project project stop
+        → StopsTexts told (texts_of (record { board = file; project = project; rules = rules })) before now stop
+    project_stops file project rules board middle stop says up s =
+        option_stops Project project (record { which = Board; file = file } ∷ []) (optional Rules rules) (a_board board ∷ []) middle stop (says, tt) up s
+
+    pub rules_stop : (file : List ℕ) (project rules : Option (List ℕ)) (board : PlainBoard) (classes : PlainClasses) (middle : List ℕ → ℕ) (stop : Stop)
+        → FileSays told (record { which = Board; file = file }) (accepted (a_board board)) → Gives told Project project (a_project plain_classes) (a_project classes)
+        → ((other : List ℕ) → before other ≤ middle other) → StopsOption told middle now Rules rules stop
+        → StopsTexts told (texts_of (record { board = file; project = project; rules = rules })) before now stop
+    rules_stop file project rules board classes middle stop says gives up s =
+        subst (λ (l : List Named). StopsTexts told (record { which = Board; file = file } ∷ (optional Project project ++ l)) before now stop) (append-nil (optional Rules rules))
+        (option_stops Rules rules (record { which = Board; file = file } ∷ optional Project project) [] (a_board board ∷ given project (a_project classes)) middle stop
+        (says, given_accepted Project project (a_project plain_classes) (a_project classes) gives) up s)
 
     -- ---- the output
 
     pub line_is_output : (reading : Reading) (stop : Stop) (out : Output) → StopsTexts told (texts_of reading) before now stop → IsLineOf stop out → IsOutputFor (Some reading) told out
-    line_is_output reading (Refused which name code at) out s line = stopped (record { which = which; file = s.0 }) (at_place (reason name.now code.now) at) s.1 s.2 line
+    line_is_output reading (Refused r) out s line = stopped (record { which = r.which; file = s.0 }) (why_of r) s.1 s.2 line
     line_is_output reading (Unread which) out s line = absurd line
     line_is_output reading OutOfMemory out s line = absurd line
 
     pub unread_has_fault : (reading : Reading) (stop : Stop) (which : Which) → StopsTexts told (texts_of reading) before now stop → stop ≡ Unread which → HasReadFault (Some reading) told before now which
     unread_has_fault reading stop which s e = subst (λ (x : Stop). StopsTexts told (texts_of reading) before now x) e s
 
-  pub report_is_output : (reading : Reading) (board : PlainBoard) (classes : PlainClasses) (out : Output) → AreChecked told (texts_of reading) board classes → IsReportOf board classes out
-      → IsOutputFor (Some reading) told out
-  report_is_output reading board classes out are is = reported are.values are.are_accepted (are.reported out is)
+  pub report_is_output : (reading : Reading) (board : PlainBoard) (classes : PlainClasses) (rules : PlainRules) (out : Output) → AreChecked told (texts_of reading) board classes rules
+      → IsReportOf board classes rules out → IsOutputFor (Some reading) told out
+  report_is_output reading board classes rules out are is = reported are.values are.are_accepted (are.reported out is)

@@ -2,5 +2,10 @@ pub mod Read
 pub mod Written
 pub mod Accepting
 pub mod OneProject
+pub mod FewRules
+pub mod Holding
+pub mod Parts
+pub mod Held
+pub mod OneFindings
 pub mod OneOutput
 pub mod Promised

@@ -1,30 +1,34 @@
 -- The words and the files have one output.
-use Rattle.std.proofs.Common.{◌≡◌, ℕ, List, [], ◌∷◌, ◌++◌, Option, Some, None, Result, Ok, Err, sym, ap, subst, ◌∙◌, refl, arith}
+use Rattle.std.proofs.Common.{◌≡◌, ℕ, List, [], ◌∷◌, ◌++◌, length, Option, Some, None, Result, Ok, Err, sym, ap, subst, ◌∙◌, refl, arith}
 use Rattle.board_items.specs.declared.errors.BoardError.{BoardError}
 use Rattle.board_items.specs.Boards.{PlainBoard}
 use Rattle.pcb_read.specs.BoardText.{Says}
-use Rattle.net_class.specs.declared.error.ProjectError.{ProjectError}
-use Rattle.net_class.specs.Classes.{PlainClasses, plain_classes}
+use Rattle.net_class.specs.Classes.{PlainClasses}
 use Rattle.net_class.specs.ProjectText.{Says as ProjectSays}
 use Rattle.net_class.specs.Reasons.{reason_of as project_reason_of, place_of as project_place_of}
-use Rattle.row_check.proofs.OneList.{one_list}
-use Rattle.drc_rows.specs.Report.{report}
+use Rattle.rule_text.specs.declared.error.RuleError.{RuleError}
+use Rattle.rule_text.specs.Reasons.{reason_of as rules_reason_of, place_of as rules_place_of, inner_place_of as rules_inner_place_of}
+use Rattle.rule_text.specs.RulesOf.{PlainRules}
+use Rattle.rule_text.specs.RuleText.{Says as RulesSays}
+use Rattle.row_check.specs.Rows.{Checked}
+use Rattle.drc_rows.specs.ReportOf.{report}
+use Rattle.drc_run.specs.Findings.{Found, AreFindings}
 use Rattle.drc_io.specs.Files.{file_of}
 use Rattle.board_items.specs.Reasons.{board_reason_of, board_place_of}
 use Rattle.drc_run.specs.declared.texts.Which.{Which}
-use Rattle.drc_run.specs.declared.texts.Which.TheVariants.{Board, Project}
+use Rattle.drc_run.specs.declared.texts.Which.TheVariants.{Board, Project, Rules}
 use Rattle.drc_run.specs.Words.{Reading}
-use Rattle.drc_run.specs.Texts.{Named, texts_of, Value, a_board, a_project, Said, accepted, refused, at_place, IsWritten, ReaderSays, TextSays, longer, read}
-use Rattle.drc_run.specs.Output.{Output, IsReportOf, FileSays, AreAccepted, IsReached, IsReported, IsOutputOf, IsOutputFor, stopped, reported, refusal, status_of}
+use Rattle.drc_run.specs.Texts.{Named, texts_of, Value, a_board, a_project, a_rules, Said, accepted, refused, at_place, IsWritten, ReaderSays, TextSays, longer, read}
+use Rattle.drc_run.specs.Output.{Output, checked, IsReportOf, FileSays, AreAccepted, IsReached, classes_among, rules_among, IsReported, IsOutputOf, IsOutputFor, stopped, reported, refusal, status_of}
 use Rattle.drc_run.proofs.OneProject.{one_project}
 
 -- ---- what a text says
 
-same_line : (reason : List ℕ) (place : Option ℕ) (a b : List ℕ) → IsWritten reason place a → IsWritten reason place b → a ≡ b
-same_line reason place a b p q =
+same_line : (reason : List ℕ) (place inner : Option ℕ) (a b : List ℕ) → IsWritten reason place inner a → IsWritten reason place inner b → a ≡ b
+same_line reason place inner a b p q =
     let both : Some p.at ≡ Some q.at = sym p.has_place ∙ q.has_place in
     let at : p.at ≡ q.at = cc in
-    p.text_is ∙ (ap (at_place reason) at ∙ sym q.text_is)
+    p.text_is ∙ (ap (λ (n : ℕ). at_place reason n inner) at ∙ sym q.text_is)
 
 same_file : (files : List (List ℕ × List ℕ)) (name a b : List ℕ) → file_of files name ≡ Some a → file_of files name ≡ Some b → a ≡ b
 same_file files name a b p q = let both : Some a ≡ Some b = sym p ∙ q in cc
@@ -39,59 +43,86 @@ same_whys : (a b : List ℕ) → refused a ≡ refused b → a ≡ b
 same_whys a b e = cc
 
 -- the report of a board
-one_report : (board : PlainBoard) (classes : PlainClasses) (a b : Output) → IsReportOf board classes a → IsReportOf board classes b → a ≡ b
-one_report board classes a b p q =
-    let rows = one_list classes board p.rows q.rows p.are_rows q.are_rows in
-    let text : a.text ≡ b.text = p.text ∙ (ap (report board) rows ∙ sym q.text) in
-    let status : a.status ≡ b.status = p.status ∙ (ap status_of rows ∙ sym q.status) in
-    ap (λ t. record { text = t; status = a.status }) text ∙ ap (λ s. record { text = b.text; status = s }) status
+module _ (one_found : (c : Checked) (a b : Found) → AreFindings c a → AreFindings c b → a ≡ b) where
+  one_report : (board : PlainBoard) (classes : PlainClasses) (rules : PlainRules) (a b : Output) → IsReportOf board classes rules a → IsReportOf board classes rules b → a ≡ b
+  one_report board classes rules a b p q =
+      let found = one_found (checked board classes rules) p.found q.found p.are_findings q.are_findings in
+      let text : a.text ≡ b.text = p.text ∙ (ap (λ (f : Found). report board rules f.rows f.parts (length f.tiles)) found ∙ sym q.text) in
+      let status : a.status ≡ b.status = p.status ∙ (ap (λ (f : Found). status_of f.rows) found ∙ sym q.status) in
+      ap (λ t. record { text = t; status = a.status }) text ∙ ap (λ s. record { text = b.text; status = s }) status
 
-one_reported : (values : List Value) (a b : Output) → IsReported values a → IsReported values b → a ≡ b
-one_reported [] a b p q = absurd p
-one_reported (a_project classes ∷ values) a b p q = absurd p
-one_reported (a_board board ∷ []) a b p q = one_report board plain_classes a b p q
-one_reported (a_board board ∷ a_project classes ∷ []) a b p q = one_report board classes a b p q
-one_reported (a_board board ∷ a_board other ∷ values) a b p q = absurd p
-one_reported (a_board board ∷ a_project classes ∷ value ∷ values) a b p q = absurd p
+  one_reported : (values : List Value) (a b : Output) → IsReported values a → IsReported values b → a ≡ b
+  one_reported values a b p q =
+      let both : Some p.board ≡ Some q.board = sym p.has_board ∙ q.has_board in
+      let board : p.board ≡ q.board = cc in
+      let classes = classes_among values in
+      let rules = rules_among values in
+      one_report q.board classes rules a b (subst (λ (x : PlainBoard). IsReportOf x classes rules a) board p.is_report) q.is_report
 
-module _ (one_reading : (text : List ℕ) (a b : Result PlainBoard BoardError) → Says text a → Says text b → a ≡ b) where
-  board_once : (bytes : List ℕ) (x y : PlainBoard) → Says bytes (Ok x) → Says bytes (Ok y) → x ≡ y
-  board_once bytes x y p q = let both = one_reading bytes (Ok x) (Ok y) p q in cc
+-- what a reader finds, where its bytes say one thing
+module _ {A E : Type 0} (Says : Result A E → Type 0) (one : (a b : Result A E) → Says a → Says b → a ≡ b)
+    (value : A → Value) (reason : E → List ℕ) (place inner : E → Option ℕ) where
+  abbrev Refuses : List ℕ → Type 0
+  Refuses why = (e : E) × Says (Err e) × IsWritten (reason e) (place e) (inner e) why
 
-  board_or_not : (bytes : List ℕ) (x : PlainBoard) (e : BoardError) → Says bytes (Ok x) → Says bytes (Err e) → ⊥
-  board_or_not bytes x e p q = let both = one_reading bytes (Ok x) (Err e) p q in cc
+  value_once : (x y : A) → Says (Ok x) → Says (Ok y) → accepted (value x) ≡ accepted (value y)
+  value_once x y p q =
+      let both : Ok x ≡ Ok y = one (Ok x) (Ok y) p q in
+      let same : x ≡ y = cc in
+      ap (λ (z : A). accepted (value z)) same
 
-  board_error_once : (bytes : List ℕ) (e f : BoardError) → Says bytes (Err e) → Says bytes (Err f) → e ≡ f
-  board_error_once bytes e f p q = let both = one_reading bytes (Err e) (Err f) p q in cc
+  value_or_not : (x : A) (why : List ℕ) → Says (Ok x) → Refuses why → ⊥
+  value_or_not x why p q = let both : Ok x ≡ Err q.0 = one (Ok x) (Err q.0) p q.1 in cc
 
-  project_once : (bytes : List ℕ) (x y : PlainClasses) → ProjectSays bytes (Ok x) → ProjectSays bytes (Ok y) → x ≡ y
-  project_once bytes x y p q = let both = one_project bytes (Ok x) (Ok y) p q in cc
+  why_once : (a b : List ℕ) → Refuses a → Refuses b → refused a ≡ refused b
+  why_once a b p q =
+      let both : Err p.0 ≡ Err q.0 = one (Err p.0) (Err q.0) p.1 q.1 in
+      let same : p.0 ≡ q.0 = cc in
+      ap refused (same_line (reason q.0) (place q.0) (inner q.0) a b (subst (λ (e : E). IsWritten (reason e) (place e) (inner e) a) same p.2) q.2)
 
-  project_or_not : (bytes : List ℕ) (x : PlainClasses) (e : ProjectError) → ProjectSays bytes (Ok x) → ProjectSays bytes (Err e) → ⊥
-  project_or_not bytes x e p q = let both = one_project bytes (Ok x) (Err e) p q in cc
+module _ (one_reading : (text : List ℕ) (a b : Result PlainBoard BoardError) → Says text a → Says text b → a ≡ b)
+    (one_rules : (text : List ℕ) (a b : Result PlainRules RuleError) → RulesSays text a → RulesSays text b → a ≡ b)
+    (one_found : (c : Checked) (a b : Found) → AreFindings c a → AreFindings c b → a ≡ b) where
+  board_once : (bytes : List ℕ) (s t : Said) → ReaderSays Board bytes s → ReaderSays Board bytes t → s ≡ t
+  board_once bytes (accepted (a_board x)) (accepted (a_board y)) p q = value_once (Says bytes) (one_reading bytes) a_board board_reason_of board_place_of (λ e. None) x y p q
+  board_once bytes (accepted (a_board x)) (accepted (a_project y)) p q = absurd q
+  board_once bytes (accepted (a_board x)) (accepted (a_rules y)) p q = absurd q
+  board_once bytes (accepted (a_board x)) (refused b) p q = absurd (value_or_not (Says bytes) (one_reading bytes) a_board board_reason_of board_place_of (λ e. None) x b p q)
+  board_once bytes (accepted (a_project x)) t p q = absurd p
+  board_once bytes (accepted (a_rules x)) t p q = absurd p
+  board_once bytes (refused a) (accepted (a_board y)) p q = absurd (value_or_not (Says bytes) (one_reading bytes) a_board board_reason_of board_place_of (λ e. None) y a q p)
+  board_once bytes (refused a) (accepted (a_project y)) p q = absurd q
+  board_once bytes (refused a) (accepted (a_rules y)) p q = absurd q
+  board_once bytes (refused a) (refused b) p q = why_once (Says bytes) (one_reading bytes) a_board board_reason_of board_place_of (λ e. None) a b p q
 
-  project_error_once : (bytes : List ℕ) (e f : ProjectError) → ProjectSays bytes (Err e) → ProjectSays bytes (Err f) → e ≡ f
-  project_error_once bytes e f p q = let both = one_project bytes (Err e) (Err f) p q in cc
+  project_once : (bytes : List ℕ) (s t : Said) → ReaderSays Project bytes s → ReaderSays Project bytes t → s ≡ t
+  project_once bytes (accepted (a_project x)) (accepted (a_project y)) p q = value_once (ProjectSays bytes) (one_project bytes) a_project project_reason_of project_place_of (λ e. None) x y p q
+  project_once bytes (accepted (a_project x)) (accepted (a_board y)) p q = absurd q
+  project_once bytes (accepted (a_project x)) (accepted (a_rules y)) p q = absurd q
+  project_once bytes (accepted (a_project x)) (refused b) p q = absurd (value_or_not (ProjectSays bytes) (one_project bytes) a_project project_reason_of project_place_of (λ e. None) x b p q)
+  project_once bytes (accepted (a_board x)) t p q = absurd p
+  project_once bytes (accepted (a_rules x)) t p q = absurd p
+  project_once bytes (refused a) (accepted (a_project y)) p q = absurd (value_or_not (ProjectSays bytes) (one_project bytes) a_project project_reason_of project_place_of (λ e. None) y a q p)
+  project_once bytes (refused a) (accepted (a_board y)) p q = absurd q
+  project_once bytes (refused a) (accepted (a_rules y)) p q = absurd q
+  project_once bytes (refused a) (refused b) p q = why_once (ProjectSays bytes) (one_project bytes) a_project project_reason_of project_place_of (λ e. None) a b p q
+
+  rules_once : (bytes : List ℕ) (s t : Said) → ReaderSays Rules bytes s → ReaderSays Rules bytes t → s ≡ t
+  rules_once bytes (accepted (a_rules x)) (accepted (a_rules y)) p q = value_once (RulesSays bytes) (one_rules bytes) a_rules rules_reason_of rules_place_of rules_inner_place_of x y p q
+  rules_once bytes (accepted (a_rules x)) (accepted (a_board y)) p q = absurd q
+  rules_once bytes (accepted (a_rules x)) (accepted (a_project y)) p q = absurd q
+  rules_once bytes (accepted (a_rules x)) (refused b) p q = absurd (value_or_not (RulesSays bytes) (one_rules bytes) a_rules rules_reason_of rules_place_of rules_inner_place_of x b p q)
+  rules_once bytes (accepted (a_board x)) t p q = absurd p
+  rules_once bytes (accepted (a_project x)) t p q = absurd p
+  rules_once bytes (refused a) (accepted (a_rules y)) p q = absurd (value_or_not (RulesSays bytes) (one_rules bytes) a_rules rules_reason_of rules_place_of rules_inner_place_of y a q p)
+  rules_once bytes (refused a) (accepted (a_board y)) p q = absurd q
+  rules_once bytes (refused a) (accepted (a_project y)) p q = absurd q
+  rules_once bytes (refused a) (refused b) p q = why_once (RulesSays bytes) (one_rules bytes) a_rules rules_reason_of rules_place_of rules_inner_place_of a b p q
 
   reader_once : (which : Which) (bytes : List ℕ) (s t : Said) → ReaderSays which bytes s → ReaderSays which bytes t → s ≡ t
-  reader_once Board bytes (accepted (a_board x)) (accepted (a_board y)) p q = ap (λ (z : PlainBoard). accepted (a_board z)) (board_once bytes x y p q)
-  reader_once Board bytes (accepted (a_board x)) (accepted (a_project c)) p q = absurd q
-  reader_once Board bytes (accepted (a_board x)) (refused b) p q = absurd (board_or_not bytes x q.0 p q.1)
-  reader_once Board bytes (accepted (a_project c)) t p q = absurd p
-  reader_once Board bytes (refused a) (accepted (a_board y)) p q = absurd (board_or_not bytes y p.0 q p.1)
-  reader_once Board bytes (refused a) (accepted (a_project c)) p q = absurd q
-  reader_once Board bytes (refused a) (refused b) p q =
-      let same : p.0 ≡ q.0 = board_error_once bytes p.0 q.0 p.1 q.1 in
-      ap refused (same_line (board_reason_of q.0) (board_place_of q.0) a b (subst (λ (e : BoardError). IsWritten (board_reason_of e) (board_place_of e) a) same p.2) q.2)
-  reader_once Project bytes (accepted (a_project x)) (accepted (a_project y)) p q = ap (λ (z : PlainClasses). accepted (a_project z)) (project_once bytes x y p q)
-  reader_once Project bytes (accepted (a_project x)) (accepted (a_board c)) p q = absurd q
-  reader_once Project bytes (accepted (a_project x)) (refused b) p q = absurd (project_or_not bytes x q.0 p q.1)
-  reader_once Project bytes (accepted (a_board c)) t p q = absurd p
-  reader_once Project bytes (refused a) (accepted (a_project y)) p q = absurd (project_or_not bytes y p.0 q p.1)
-  reader_once Project bytes (refused a) (accepted (a_board c)) p q = absurd q
-  reader_once Project bytes (refused a) (refused b) p q =
-      let same : p.0 ≡ q.0 = project_error_once bytes p.0 q.0 p.1 q.1 in
-      ap refused (same_line (project_reason_of q.0) (project_place_of q.0) a b (subst (λ (e : ProjectError). IsWritten (project_reason_of e) (project_place_of e) a) same p.2) q.2)
+  reader_once Board bytes s t p q = board_once bytes s t p q
+  reader_once Project bytes s t p q = project_once bytes s t p q
+  reader_once Rules bytes s t p q = rules_once bytes s t p q
 
   text_once : (which : Which) (bytes : List ℕ) (s t : Said) → TextSays which bytes s → TextSays which bytes t → s ≡ t
   text_once which bytes s t (longer h e) (longer k f) = e ∙ sym f
@@ -165,7 +196,7 @@ module _ (one_reading : (text : List ℕ) (a b : Result PlainBoard BoardError) �
     one_output_of texts a b (stopped t why r f e) (reported vs p q) = absurd (not_stopped texts t why vs r f p)
     one_output_of texts a b (reported vs p q) (stopped t why r f e) = absurd (not_stopped texts t why vs r f p)
     one_output_of texts a b (reported vs p q) (reported ws r s) =
-        one_reported ws a b (subst (λ (l : List Value). IsReported l a) (values_once texts vs ws p r) q) s
+        one_reported one_found ws a b (subst (λ (l : List Value). IsReported l a) (values_once texts vs ws p r) q) s
 
   pub one_output : (reading : Option Reading) (files : List (List ℕ × List ℕ)) (a b : Output) → IsOutputFor reading (Some files) a → IsOutputFor reading (Some files) b → a ≡ b
   one_output None files a b p q = p ∙ sym q

@@ -16,7 +16,7 @@ simple = refl
 
 -- the reading of the matches
 abbrev of_rows : List Row → Option Reading
-of_rows rows = reading_with (first_of (codes "BOARD") rows) (first_of (codes "project") rows)
+of_rows rows = reading_with (first_of (codes "BOARD") rows) (first_of (codes "project") rows) (first_of (codes "rules") rows)
 
 if_none : (kinds : Kinds) (rows : List Row) → kinds ≡ [] → of_rows rows ≡ reading_if kinds rows
 if_none kinds rows e = ap (λ (k : Kinds). reading_if k rows) (sym e)

@@ -2,7 +2,7 @@
 use Rattle.std.proofs.Common.{◌≡◌, ℕ, List, [], ◌∷◌, Option, Result, Ok, Err, MatchResult, inl, inr, refl, sym, subst, arith}
 use Rattle.drc_io.specs.declared.Failed.{Failed}
 use Rattle.drc_io.specs.Sinks.{Writes}
-use Rattle.row_check.specs.declared.rows.Row.{Row}
+use Rattle.row_check.specs.PlainRow.{PlainRow}
 use Rattle.drc_run.specs.declared.status.Status.{Status}
 use Rattle.drc_run.specs.declared.status.Status.TheVariants.{Clean, Rows, Usage, Refused, ReadFault, WriteFault, OutOfMemory}
 use Rattle.drc_run.specs.declared.texts.Which.{Which}
@@ -23,7 +23,7 @@ faulted IsIt Fault old new m n which (Ok x) s fault w e = subst (Ends IsIt Fault
 faulted IsIt Fault old new m n which (Err x) s fault w e = subst (Ends IsIt Fault old new) (sym e) (inr (which, fault, w.bytes))
 
 -- a report was written, with the status of its rows
-pub reporting : (IsIt : Output → Type 0) (Fault : Which → Type 0) (old new : Option (List ℕ)) (rows : List Row) (s : Status) → number_of s ≡ status_of rows → Whole IsIt old new (status_of rows)
+pub reporting : (IsIt : Output → Type 0) (Fault : Which → Type 0) (old new : Option (List ℕ)) (rows : List PlainRow) (s : Status) → number_of s ≡ status_of rows → Whole IsIt old new (status_of rows)
     → Ends IsIt Fault old new s
 reporting IsIt Fault old new [] Clean e w = w
 reporting IsIt Fault old new [] Rows e w = absurd (omega arith)

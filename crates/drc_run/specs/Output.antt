@@ -1,15 +1,17 @@
 -- The whole output of the program, as a relation between its words, the files of its shelf and what it writes.
-use Rattle.std.specs.Prelude.{◌≡◌, ℕ, List, [], ◌∷◌, ◌++◌, Option, None, Some, codes}
+use Rattle.std.specs.Prelude.{◌≡◌, ℕ, List, [], ◌∷◌, ◌++◌, length, Option, None, Some, codes}
 use Rattle.drc_io.specs.Causes.{Rose}
 use Rattle.drc_io.specs.Files.{IsWhole}
 use Rattle.board_items.specs.Boards.{PlainBoard}
-use Rattle.row_check.specs.declared.rows.Row.{Row}
-use Rattle.row_check.specs.Rows.{AreRows}
 use Rattle.net_class.specs.Classes.{PlainClasses, plain_classes}
-use Rattle.drc_rows.specs.Report.{report}
+use Rattle.rule_text.specs.RulesOf.{PlainRules, no_rules}
+use Rattle.row_check.specs.PlainRow.{PlainRow}
+use Rattle.row_check.specs.Rows.{Checked}
+use Rattle.drc_rows.specs.ReportOf.{report}
+use Rattle.drc_run.specs.Findings.{Found, AreFindings}
 use Rattle.drc_run.specs.declared.texts.Which.{Which}
 use Rattle.drc_run.specs.Words.{Reading}
-use Rattle.drc_run.specs.Texts.{Named, texts_of, word_of, Value, a_board, a_project, Said, accepted, refused, TextSays}
+use Rattle.drc_run.specs.Texts.{Named, texts_of, word_of, Value, a_board, a_project, a_rules, Said, accepted, refused, TextSays}
 
 -- a text, and the status with which the program ends once it is written
 pub record Output : Type 0 where
@@ -17,7 +19,7 @@ pub record Output : Type 0 where
   pub status : ℕ
 
 abbrev pub usage : Output
-usage = record { text = codes "usage: drc BOARD [--project FILE]\n"; status = 2 }
+usage = record { text = codes "usage: drc BOARD [--project FILE] [--rules FILE]\n"; status = 2 }
 
 -- the line of a text that is refused
 abbrev pub refusal : Which → List ℕ → Output
@@ -28,16 +30,20 @@ abbrev pub cannot_read : Which → List ℕ
 cannot_read which = codes "cannot read " ++ word_of which ++ codes "\n"
 
 -- the status of a board with these rows
-abbrev pub status_of : List Row → ℕ
+abbrev pub status_of : List PlainRow → ℕ
 status_of [] = 0
 status_of (row ∷ rows) = 1
 
--- the report of a board under these classes: with its rows, and status 1 exactly where it has one
-pub record IsReportOf (board : PlainBoard) (classes : PlainClasses) (out : Output) : Type 0 where
-  pub rows : List Row
-  pub are_rows : AreRows classes board rows
-  pub text : out.text ≡ report board rows
-  pub status : out.status ≡ status_of rows
+-- what is checked
+abbrev pub checked : PlainBoard → PlainClasses → PlainRules → Checked
+checked board classes rules = record { board = board; classes = classes; rules = rules.rules }
+
+-- the report of a board under these classes and rules: it tells all that is found, and the status is 1 exactly where there is a row
+pub record IsReportOf (board : PlainBoard) (classes : PlainClasses) (rules : PlainRules) (out : Output) : Type 0 where
+  pub found : Found
+  pub are_findings : AreFindings (checked board classes rules) found
+  pub text : out.text ≡ report board rules found.rows found.parts (length found.tiles)
+  pub status : out.status ≡ status_of found.rows
 
 -- ---- the texts
 
@@ -62,14 +68,29 @@ pub record IsReached (told : Option (List (List ℕ × List ℕ))) (texts : List
   pub values : List Value
   pub before_accepted : AreAccepted told before values
 
--- the report of what the texts stand for: of the board under the classes of the project, or without one under the plain classes
-abbrev pub IsReported : List Value → Output → Type 0
-IsReported [] out = ⊥
-IsReported (a_project classes ∷ values) out = ⊥
-IsReported (a_board board ∷ []) out = IsReportOf board plain_classes out
-IsReported (a_board board ∷ a_project classes ∷ []) out = IsReportOf board classes out
-IsReported (a_board board ∷ a_board other ∷ values) out = ⊥
-IsReported (a_board board ∷ a_project classes ∷ value ∷ values) out = ⊥
+-- the board among the values
+abbrev pub board_among : List Value → Option PlainBoard
+board_among [] = None
+board_among (a_board board ∷ values) = Some board
+board_among (_ ∷ values) = board_among values
+
+-- the classes of the project, or without one the plain classes
+abbrev pub classes_among : List Value → PlainClasses
+classes_among [] = plain_classes
+classes_among (a_project classes ∷ values) = classes
+classes_among (_ ∷ values) = classes_among values
+
+-- the rules of the rule file, or without one no rules
+abbrev pub rules_among : List Value → PlainRules
+rules_among [] = no_rules
+rules_among (a_rules rules ∷ values) = rules
+rules_among (_ ∷ values) = rules_among values
+
+-- the report of what the texts stand for: of the board under the classes and the rules
+pub record IsReported (values : List Value) (out : Output) : Type 0 where
+  pub board : PlainBoard
+  pub has_board : board_among values ≡ Some board
+  pub is_report : IsReportOf board (classes_among values) (rules_among values) out
 
 -- the output for these texts: the line of the first that is refused, or the report of all
 pub data IsOutputOf (told : Option (List (List ℕ × List ℕ))) (texts : List Named) (out : Output) : Type 0 where

@@ -14,12 +14,17 @@ settings_of shape = record shape { no_binary_name = true; disable_help_flag = tr
 abbrev pub board_rule : Rule
 board_rule = record (new_rule (codes "BOARD")) { required = true }
 
--- `--project` and the project's file
-abbrev pub project_rule : Rule
-project_rule = record (new_rule (codes "project")) { long = Some (codes "project") }
+-- an option that has a value, as `--NAME VALUE`
+abbrev pub option_rule : List ℕ → Rule
+option_rule name = record (new_rule name) { long = Some name }
 
+-- the program without its arguments
+abbrev pub bare_app : App
+bare_app = on_top settings_of (new_app (codes "drc"))
+
+-- the board's file, and after `--project` and `--rules` those of the project and of the rules
 abbrev pub drc_app : App
-drc_app = with_rule (with_rule (on_top settings_of (new_app (codes "drc"))) board_rule) project_rule
+drc_app = with_rule (with_rule (with_rule bare_app board_rule) (option_rule (codes "project"))) (option_rule (codes "rules"))
 
 -- ---- the reading
 
@@ -27,14 +32,15 @@ drc_app = with_rule (with_rule (on_top settings_of (new_app (codes "drc"))) boar
 pub record Reading : Type 0 where
   pub board : List ℕ
   pub project : Option (List ℕ)
+  pub rules : Option (List ℕ)
 
-abbrev pub reading_with : Option (List ℕ) → Option (List ℕ) → Option Reading
-reading_with None project = None
-reading_with (Some board) project = Some (record { board = board; project = project })
+abbrev pub reading_with : Option (List ℕ) → Option (List ℕ) → Option (List ℕ) → Option Reading
+reading_with None project rules = None
+reading_with (Some board) project rules = Some (record { board = board; project = project; rules = rules })
 
 -- what the matches give, where the words have no fault
 abbrev pub reading_if : Kinds → List Row → Option Reading
-reading_if [] rows = reading_with (first_of (codes "BOARD") rows) (first_of (codes "project") rows)
+reading_if [] rows = reading_with (first_of (codes "BOARD") rows) (first_of (codes "project") rows) (first_of (codes "rules") rows)
 reading_if (fault ∷ faults) rows = None
 
 -- the reading of the words, which have none where `clap` refuses them

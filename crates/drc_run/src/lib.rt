@@ -6,12 +6,15 @@ ghost use Rattle.drc_run.specs.Words.{reading_of, words_of};
 ghost use Rattle.drc_run.specs.Endings.{Promises};
 
 mod check;
+mod findings;
+mod index;
 pub mod laws;
 mod lines;
-mod report;
+mod nets;
 mod status;
 mod texts;
 mod words;
+mod writing;
 
 use crate::check::{check, usage};
 use crate::laws::one_output;
@@ -20,7 +23,8 @@ use crate::words::reading;
 use drc_io::{Shelf, Sink};
 pub use texts::Which;
 
-/// Checks the board that the words name, under the classes of the project if they name one, and writes its report. The words are those after the program's name.
+/// Checks the board that the words name, under the classes of the project and the rules of the rule file if they name these,
+/// and writes its report. The words are those after the program's name.
 ///
 /// The status is 0 where the board has no row, 1 where it has one, 2 where the words are no command line, 3 where
 /// a text is refused, 4 where a file was not read, 5 where a write failed and 6 where memory ran out.

@@ -2,16 +2,21 @@
 
 ghost use Rattle.std.specs.Prelude.{◌≡◌, ◌≤◌, ℕ, List, Option, Some, None, IfOk, IfErr, MatchResult, Ok, Err, length, option_map};
 ghost use Rattle.drc_io.specs.Files.{IsWhole};
+ghost use Rattle.net_class.specs.Classes.{plain_classes};
+ghost use Rattle.rule_text.specs.RulesOf.{no_rules};
+ghost use Rattle.rule_text.specs.Views.{plain_rules};
 ghost use Rattle.drc_run.specs.Names.{reading_in};
-ghost use Rattle.drc_run.specs.Texts.{word_of, texts_of, optional, a_board, a_project, accepted, ReaderSays};
+ghost use Rattle.drc_run.specs.Texts.{word_of, texts_of, a_board, a_project, a_rules, accepted, ReaderSays};
 ghost use Rattle.drc_run.specs.Output.{FileSays};
-ghost use Rattle.drc_run.specs.Refusing.{StopsReading, StopsText, StopsTexts, StopsProject, GivesClasses, AreChecked, stop_of};
+ghost use Rattle.drc_run.specs.Refusing.{StopsReading, StopsText, StopsTexts, StopsOption, Gives, AreChecked, stop_of};
 
 use crate::words::Names;
 use board_items::Board;
 use drc_io::{FetchError, Shelf, fetch};
 use net_class::{Classes, read_project};
 use pcb_read::read_board;
+use rule_text::{RuleList, RuleNotes, Rules, read_rules};
+use sexpr_read::laws::spans_in_order;
 use std::alloc::Global;
 
 /// The most bytes of a text.
@@ -22,6 +27,7 @@ const LIMIT: u32 = 33_554_432;
 pub enum Which {
     Board,
     Project,
+    Rules,
 }
 
 impl Which {
@@ -32,45 +38,63 @@ impl Which {
         match self {
             Which::Board => b"board",
             Which::Project => b"project",
+            Which::Rules => b"rules",
         }
     }
+}
+
+/// Why a text is refused, and where.
+#[derive(Clone, Copy)]
+pub(crate) struct Refusal {
+    pub(crate) which: Which,
+    /// The name of the reason.
+    pub(crate) name: &'static str,
+    /// Its number.
+    pub(crate) code: &'static str,
+    /// The byte of the text.
+    pub(crate) at: u32,
+    /// For a condition, the byte of what its text stands for.
+    pub(crate) inner: Option<u32>,
 }
 
 /// Why there is no report.
 #[derive(Clone, Copy)]
 pub(crate) enum Stop {
-    /// The text is refused at this byte. The reason has a name and a number.
-    Refused {
-        which: Which,
-        name: &'static str,
-        code: &'static str,
-        at: u32,
-    },
+    /// A text is refused.
+    Refused(Refusal),
     /// The file of the text was not read.
     Unread(Which),
     /// Memory ran out.
     OutOfMemory,
 }
 
-/// What the texts stand for: a board, and the classes of its nets.
+/// What the texts stand for: a board, the classes of its nets, and the rules of its design.
 #[derive(Drop)]
 pub(crate) struct Texts {
     pub(crate) board: Board,
     pub(crate) classes: Classes,
+    pub(crate) rules: Rules,
 }
 
 /// The refusal of a text. Want of memory has no place.
-fn refused(which: Which, name: &'static str, code: &'static str, place: Option<u32>) -> Stop
-    ensures { result ≡ stop_of which name.entry code.entry place }
+fn refused(
+    which: Which,
+    name: &'static str,
+    code: &'static str,
+    place: Option<u32>,
+    inner: Option<u32>,
+) -> Stop
+    ensures { result ≡ stop_of which name.entry code.entry place inner }
 {
     match place {
         None => Stop::OutOfMemory,
-        Some(at) => Stop::Refused {
+        Some(at) => Stop::Refused(Refusal {
             which,
             name,
             code,
             at,
-        },
+            inner,
+        }),
     }
 }
 
@@ -89,12 +113,7 @@ fn fetch_text<F: Shelf>(
 {
     match fetch(alloc, shelf, name, LIMIT) {
         Ok(text) => Ok(text),
-        Err(FetchError::TooLong) => Err(Stop::Refused {
-            which,
-            name: "TooLong",
-            code: "0",
-            at: LIMIT,
-        }),
+        Err(FetchError::TooLong) => Err(refused(which, "TooLong", "0", Some(LIMIT), None)),
         Err(FetchError::Failed) => Err(Stop::Unread(which)),
         Err(FetchError::OutOfMemory) => Err(Stop::OutOfMemory),
     }
@@ -107,7 +126,7 @@ fn board_in(alloc: Global, text: &[u8]) -> Result<Board, Stop>
 {
     match read_board(alloc, text) {
         Ok(board) => Ok(board),
-        Err(e) => Err(refused(Which::Board, e.name(), e.code(), e.place())),
+        Err(e) => Err(refused(Which::Board, e.name(), e.code(), e.place(), None)),
     }
 }
 
@@ -118,7 +137,21 @@ fn classes_in(alloc: Global, text: &[u8]) -> Result<Classes, Stop>
 {
     match read_project(alloc, text) {
         Ok(classes) => Ok(classes),
-        Err(e) => Err(refused(Which::Project, e.name(), e.code(), e.place())),
+        Err(e) => Err(refused(Which::Project, e.name(), e.code(), e.place(), None)),
+    }
+}
+
+/// The rules of the text of a rule file.
+fn rules_in(alloc: Global, text: &[u8]) -> Result<Rules, Stop>
+    requires { length text.now ≤ 33_554_432 }
+    ensures says { MatchResult result (λ rules. ReaderSays Which.Rules text.now (accepted (a_rules (plain_rules rules)))) (StopsReading Which.Rules text.now) }
+    ensures few { IfOk result (λ rules. length rules.rules ≤ 33_554_432) }
+{
+    // A text has no more rules than bytes.
+    spans_in_order();
+    match read_rules(alloc, text) {
+        Ok(rules) => Ok(rules),
+        Err(e) => Err(refused(Which::Rules, e.name(), e.code(), e.place(), e.inner_place())),
     }
 }
 
@@ -140,6 +173,7 @@ fn project_of<F: Shelf>(alloc: Global, name: &str, shelf: &mut F) -> Result<Clas
     ensures ok { IfOk result (λ classes. FileSays (F.files shelf.old) (record { which = Which.Project; file = name.now }) (accepted (a_project classes))) }
     ensures stop { IfErr result (StopsText (F.files shelf.old) (F.faults shelf.old) (F.faults shelf.new) (record { which = Which.Project; file = name.now })) }
     ensures same { F.files shelf.new ≡ F.files shelf.old }
+    ensures counts { (other : List ℕ) → F.faults shelf.old other ≤ F.faults shelf.new other }
 {
     match fetch_text(alloc, Which::Project, name, shelf) {
         Ok(text) => classes_in(alloc, &text),
@@ -147,11 +181,25 @@ fn project_of<F: Shelf>(alloc: Global, name: &str, shelf: &mut F) -> Result<Clas
     }
 }
 
+/// Fetches the text of the rule file and reads it.
+fn rule_file_of<F: Shelf>(alloc: Global, name: &str, shelf: &mut F) -> Result<Rules, Stop>
+    ensures ok { IfOk result (λ rules. FileSays (F.files shelf.old) (record { which = Which.Rules; file = name.now }) (accepted (a_rules (plain_rules rules)))) }
+    ensures few { IfOk result (λ rules. length rules.rules ≤ 33_554_432) }
+    ensures stop { IfErr result (StopsText (F.files shelf.old) (F.faults shelf.old) (F.faults shelf.new) (record { which = Which.Rules; file = name.now })) }
+    ensures same { F.files shelf.new ≡ F.files shelf.old }
+{
+    match fetch_text(alloc, Which::Rules, name, shelf) {
+        Ok(text) => rules_in(alloc, &text),
+        Err(stop) => Err(stop),
+    }
+}
+
 /// The classes of the project, or without one the plain ones.
 fn classes_of<F: Shelf>(alloc: Global, name: Option<&str>, shelf: &mut F) -> Result<Classes, Stop>
-    ensures ok { IfOk result (GivesClasses (F.files shelf.old) (option_map (λ file. file.now) name.entry)) }
-    ensures stop { IfErr result (StopsProject (F.files shelf.old) (F.faults shelf.old) (F.faults shelf.new) (option_map (λ file. file.now) name.entry)) }
+    ensures ok { IfOk result (λ classes. Gives (F.files shelf.old) Which.Project (option_map (λ file. file.now) name.entry) (a_project plain_classes) (a_project classes)) }
+    ensures stop { IfErr result (StopsOption (F.files shelf.old) (F.faults shelf.old) (F.faults shelf.new) Which.Project (option_map (λ file. file.now) name.entry)) }
     ensures same { F.files shelf.new ≡ F.files shelf.old }
+    ensures counts { (other : List ℕ) → F.faults shelf.old other ≤ F.faults shelf.new other }
 {
     match name {
         Some(name) => project_of(alloc, name, shelf),
@@ -162,13 +210,38 @@ fn classes_of<F: Shelf>(alloc: Global, name: Option<&str>, shelf: &mut F) -> Res
     }
 }
 
-/// Fetches and reads the texts, the project where the board is accepted.
+/// No rules.
+fn no_rules(alloc: Global) -> Rules
+    ensures none { plain_rules result ≡ no_rules }
+    ensures few { length result.rules ≤ 33_554_432 }
+{
+    Rules {
+        rules: RuleList::of(Vec::new(alloc)),
+        notes: RuleNotes::of(Vec::new(alloc)),
+    }
+}
+
+/// The rules of the rule file, or without one none.
+fn rules_of<F: Shelf>(alloc: Global, name: Option<&str>, shelf: &mut F) -> Result<Rules, Stop>
+    ensures ok { IfOk result (λ rules. Gives (F.files shelf.old) Which.Rules (option_map (λ file. file.now) name.entry) (a_rules no_rules) (a_rules (plain_rules rules))) }
+    ensures few { IfOk result (λ rules. length rules.rules ≤ 33_554_432) }
+    ensures stop { IfErr result (StopsOption (F.files shelf.old) (F.faults shelf.old) (F.faults shelf.new) Which.Rules (option_map (λ file. file.now) name.entry)) }
+    ensures same { F.files shelf.new ≡ F.files shelf.old }
+{
+    match name {
+        Some(name) => rule_file_of(alloc, name, shelf),
+        None => Ok(no_rules(alloc)),
+    }
+}
+
+/// Fetches and reads the texts, each where those before it are accepted.
 pub(crate) fn texts_of<F: Shelf>(
     alloc: Global,
     names: Names<'_>,
     shelf: &mut F,
 ) -> Result<Texts, Stop>
-    ensures ok { IfOk result (λ texts. AreChecked (F.files shelf.old) (texts_of (reading_in names.entry)) texts.board texts.classes) }
+    ensures ok { IfOk result (λ texts. AreChecked (F.files shelf.old) (texts_of (reading_in names.entry)) texts.board texts.classes (plain_rules texts.rules)) }
+    ensures few { IfOk result (λ texts. length texts.rules.rules ≤ 33_554_432) }
     ensures stop { IfErr result (StopsTexts (F.files shelf.old) (texts_of (reading_in names.entry)) (F.faults shelf.old) (F.faults shelf.new)) }
     ensures same { F.files shelf.new ≡ F.files shelf.old }
 {
@@ -176,8 +249,16 @@ pub(crate) fn texts_of<F: Shelf>(
         Ok(board) => board,
         Err(stop) => return Err(stop),
     };
-    match classes_of(alloc, names.project, shelf) {
-        Ok(classes) => Ok(Texts { board, classes }),
+    let classes = match classes_of(alloc, names.project, shelf) {
+        Ok(classes) => classes,
+        Err(stop) => return Err(stop),
+    };
+    match rules_of(alloc, names.rules, shelf) {
+        Ok(rules) => Ok(Texts {
+            board,
+            classes,
+            rules,
+        }),
         Err(stop) => Err(stop),
     }
 }

@@ -1,13 +1,13 @@
 use Rattle.std.proofs.Common.{refl, subst, sym}
 use Rattle.drc_run.specs.declared.status.Status.TheVariants.{Refused}
 use Rattle.drc_run.specs.declared.texts.Stop.{Stop}
-use Rattle.drc_run.specs.Texts.{at_place}
 use Rattle.drc_run.specs.Output.{refusal}
-use Rattle.drc_run.specs.Refusing.{IsLineOf, reason}
+use Rattle.drc_run.specs.Refusing.{IsLineOf, why_of}
 use Rattle.drc_run.proofs.Written.{written}
 use Rattle.drc_run.proofs.check.write_stop.Goals as goal
 
 pub returns-in-Refused-clause-ends : goal.returns-in-Refused-clause-ends
 returns-in-Refused-clause-ends g c =
-    let w = c.in-Refused in
-    written (IsLineOf c.args.stop) _ _ _ _ _ (refusal w.which (at_place (reason w.name.now w.code.now) w.at)) c.write_refusal.result Refused c.after.result (subst (λ (x : Stop). IsLineOf x (refusal w.which (at_place (reason w.name.now w.code.now) w.at))) (sym w.is) refl) (λ w. w) c.write_refusal.ensures c.after.ensures
+    let r = c.in-Refused.why in
+    let line = refusal r.which (why_of r) in
+    written (IsLineOf c.args.stop) _ _ _ _ _ line c.write_refusal.result Refused c.after.result (subst (λ (x : Stop). IsLineOf x line) (sym c.in-Refused.is) refl) (λ w. w) c.write_refusal.ensures c.after.ensures

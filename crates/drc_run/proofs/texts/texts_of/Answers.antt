@@ -1,21 +1,52 @@
-use Rattle.std.proofs.Common.{option_map, subst}
-use Rattle.drc_run.proofs.Accepting.{board_stops, are_checked, project_stops}
-use Rattle.drc_run.specs.Refusing.{GivesClasses, StopsProject}
+use Rattle.std.proofs.Common.{◌∙◌, ◌≤◌, ℕ, List, option_map, subst, arith}
+use Rattle.net_class.specs.Classes.{plain_classes}
+use Rattle.rule_text.specs.RulesOf.{no_rules}
+use Rattle.rule_text.specs.Views.{plain_rules}
+use Rattle.drc_run.specs.declared.texts.Which.TheVariants.{Project, Rules}
+use Rattle.drc_run.specs.Texts.{a_project, a_rules}
+use Rattle.drc_run.specs.Refusing.{Gives, StopsOption}
+use Rattle.drc_run.proofs.Accepting.{board_stops, are_checked, project_stops, rules_stop}
 use Rattle.drc_run.proofs.texts.texts_of.Goals as goal
 
 pub returns-in-Err-clause-stop : goal.returns-in-Err-clause-stop
-returns-in-Err-clause-stop g c = board_stops _ _ _ _ (option_map (λ name. name.now) c.args.names.project) c.in-Err.stop c.in-Err.ensures.stop
+returns-in-Err-clause-stop g c =
+    board_stops _ _ _ _ (option_map (λ name. name.now) c.args.names.project) (option_map (λ name. name.now) c.args.names.rules) c.in-Err.stop c.in-Err.ensures.stop
 
-pub returns-in-Ok-classes_of-clause-ok : goal.returns-in-Ok-classes_of-clause-ok
-returns-in-Ok-classes_of-clause-ok g c =
+pub returns-in-Ok-rules_of-clause-ok : goal.returns-in-Ok-rules_of-clause-ok
+returns-in-Ok-rules_of-clause-ok g c =
     let told = g.F.Shelf.files c.args.shelf.now in
     let project = option_map (λ name. name.now) c.args.names.project in
-    are_checked told c.args.names.board.now project c.in-Ok.board c.in-Ok-classes_of.classes c.in-Ok.ensures.ok
-    (subst (λ t. GivesClasses t project c.in-Ok-classes_of.classes) c.in-Ok.ensures.same c.in-Ok-classes_of.ensures.ok)
+    let rules = option_map (λ name. name.now) c.args.names.rules in
+    let classes = c.in-Ok-classes_of.classes in
+    let r = plain_rules c.in-Ok-rules_of.rules in
+    are_checked told c.args.names.board.now project rules c.in-Ok.board classes r c.in-Ok.ensures.ok
+    (subst (λ t. Gives t Project project (a_project plain_classes) (a_project classes)) c.in-Ok.ensures.same c.in-Ok-classes_of.ensures.ok)
+    (subst (λ t. Gives t Rules rules (a_rules no_rules) (a_rules r)) (c.in-Ok-classes_of.ensures.same ∙ c.in-Ok.ensures.same) c.in-Ok-rules_of.ensures.ok)
 
 pub returns-in-Err-classes_of-clause-stop : goal.returns-in-Err-classes_of-clause-stop
 returns-in-Err-classes_of-clause-stop g c =
     let told = g.F.Shelf.files c.args.shelf.now in
+    let before = g.F.Shelf.faults c.args.shelf.now in
+    let middle = g.F.Shelf.faults c.board_of.new.shelf in
+    let now = g.F.Shelf.faults c.classes_of.new.shelf in
     let project = option_map (λ name. name.now) c.args.names.project in
-    project_stops told (g.F.Shelf.faults c.args.shelf.now) (g.F.Shelf.faults c.classes_of.new.shelf) c.args.names.board.now project c.in-Ok.board (g.F.Shelf.faults c.board_of.new.shelf) c.in-Err-classes_of.stop c.in-Ok.ensures.ok c.in-Ok.ensures.counts
-    (subst (λ t. StopsProject t (g.F.Shelf.faults c.board_of.new.shelf) (g.F.Shelf.faults c.classes_of.new.shelf) project c.in-Err-classes_of.stop) c.in-Ok.ensures.same c.in-Err-classes_of.ensures.stop)
+    let rules = option_map (λ name. name.now) c.args.names.rules in
+    let stop = c.in-Err-classes_of.stop in
+    project_stops told before now c.args.names.board.now project rules c.in-Ok.board middle stop c.in-Ok.ensures.ok c.in-Ok.ensures.counts
+    (subst (λ t. StopsOption t middle now Project project stop) c.in-Ok.ensures.same c.in-Err-classes_of.ensures.stop)
+
+pub returns-in-Err-rules_of-clause-stop : goal.returns-in-Err-rules_of-clause-stop
+returns-in-Err-rules_of-clause-stop g c =
+    let told = g.F.Shelf.files c.args.shelf.now in
+    let before = g.F.Shelf.faults c.args.shelf.now in
+    let first = g.F.Shelf.faults c.board_of.new.shelf in
+    let middle = g.F.Shelf.faults c.classes_of.new.shelf in
+    let now = g.F.Shelf.faults c.rules_of.new.shelf in
+    let project = option_map (λ name. name.now) c.args.names.project in
+    let rules = option_map (λ name. name.now) c.args.names.rules in
+    let classes = c.in-Ok-classes_of.classes in
+    let stop = c.in-Err-rules_of.stop in
+    let rises : (other : List ℕ) → before other ≤ middle other = λ other. (let a = c.in-Ok.ensures.counts other in let b = c.in-Ok-classes_of.ensures.counts other in omega (arith, a, b)) in
+    rules_stop told before now c.args.names.board.now project rules c.in-Ok.board classes middle stop c.in-Ok.ensures.ok
+    (subst (λ t. Gives t Project project (a_project plain_classes) (a_project classes)) c.in-Ok.ensures.same c.in-Ok-classes_of.ensures.ok) rises
+    (subst (λ t. StopsOption t middle now Rules rules stop) (c.in-Ok-classes_of.ensures.same ∙ c.in-Ok.ensures.same) c.in-Err-rules_of.ensures.stop)

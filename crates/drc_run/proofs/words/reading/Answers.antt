@@ -15,7 +15,11 @@ returns-in-Ok c =
     let rows = (c.in-Ok.ensures.matches (ap is_simple app ∙ simple)).0 ∙ ap (λ (a : App). matches_of a words) app in
     let board = first_value-rows found (codes "BOARD") in
     let project = first_value-rows found (codes "project") in
-    c.names_in.ensures ∙ ap (λ (b : Option Text). reading_with b (first_value found (codes "project"))) board ∙ ap (reading_with (first_of (codes "BOARD") (rows_of found))) project
+    let rules = first_value-rows found (codes "rules") in
+    c.names_in.ensures
+    ∙ ap (λ (b : Option Text). reading_with b (first_value found (codes "project")) (first_value found (codes "rules"))) board
+    ∙ ap (λ (p : Option Text). reading_with (first_of (codes "BOARD") (rows_of found)) p (first_value found (codes "rules"))) project
+    ∙ ap (reading_with (first_of (codes "BOARD") (rows_of found)) (first_of (codes "project") (rows_of found))) rules
     ∙ reading_is words (rows_of found) kinds rows
 
 pub returns : goal.returns

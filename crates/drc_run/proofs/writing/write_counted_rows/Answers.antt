@@ -1,6 +1,6 @@
 use Rattle.std.proofs.lemmas.Result.{err_from_is_err_and}
 use Rattle.drc_io.proofs.Writing.{Writes-then, Writes-stop}
-use Rattle.drc_run.proofs.report.write_counted_rows.Goals as goal
+use Rattle.drc_run.proofs.writing.write_counted_rows.Goals as goal
 
 pub returns-in_err-write_rows : goal.returns-in_err-write_rows
 returns-in_err-write_rows g c =

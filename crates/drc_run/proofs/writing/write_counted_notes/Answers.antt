@@ -2,7 +2,7 @@ use Rattle.std.proofs.Common.{ℕ, ap, [], codes}
 use Rattle.std.proofs.lemmas.Result.{err_from_is_err_and}
 use Rattle.drc_io.proofs.Writing.{Writes-then, Writes-stop, Writes-text}
 use Rattle.drc_rows.specs.Report.{number_line}
-use Rattle.drc_run.proofs.report.write_counted_notes.Goals as goal
+use Rattle.drc_run.proofs.writing.write_counted_notes.Goals as goal
 
 pub returns-in_err-write_notes : goal.returns-in_err-write_notes
 returns-in_err-write_notes g c =

@@ -1,0 +1,30 @@
+use Rattle.std.proofs.Common.{◌≡◌, ◌∙◌, sym, ap, subst, refl, List, map, length, ℕ}
+use Rattle.drc_io.proofs.Writing.{Writes-text}
+use Rattle.cond_lang.specs.declared.constraints.Rule.{Rule}
+use Rattle.cond_lang.specs.Rules.{plain_rule}
+use Rattle.rule_text.specs.Views.{plain_rules}
+use Rattle.row_check.specs.Rows.{Checked}
+use Rattle.drc_rows.specs.ReportOf.{report}
+use Rattle.drc_run.specs.Findings.{Found, AreFindings}
+use Rattle.drc_run.specs.Output.{IsReportOf, status_of}
+use Rattle.drc_run.specs.Endings.{number_of}
+use Rattle.drc_run.proofs.Written.{written, reporting}
+use Rattle.drc_run.proofs.check.write_checked.Goals as goal
+
+pub returns-in-Ok-clause-ends : goal.returns-in-Ok-clause-ends
+returns-in-Ok-clause-ends g c =
+    let view = c.args.view.now in
+    let board = view.board.now in
+    let classes = view.classes.now in
+    let rules = plain_rules c.args.rules.now in
+    let found = c.in-Ok.found in
+    let are = c.in-Ok.ensures in
+    let all : Found = record { rows = found.rows.items; parts = found.parts.items; tiles = are.tiles } in
+    let findings =
+    subst (λ (rs : List Rule). AreFindings (record { board = board; classes = classes; rules = map plain_rule rs }) all) c.requires.rules are.findings in
+    let IsIt = IsReportOf board classes rules in
+    let status : number_of c.report_status.result ≡ status_of all.rows = c.report_status.ensures ∙ ap status_of c.deref.ensures.value in
+    written IsIt _ _ _ _ _ (record { text = report board rules all.rows all.parts (length all.tiles); status = status_of all.rows }) c.write_report.result c.report_status.result c.after.result
+    (record { found = all; are_findings = findings; text = refl; status = refl })
+    (λ w. reporting IsIt _ _ _ all.rows c.report_status.result status w)
+    (Writes-text _ _ _ _ _ _ _ (ap (λ (n : ℕ). report board rules all.rows all.parts n) are.count) c.write_report.ensures) c.after.ensures
