@@ -1,10 +1,12 @@
 // Reads a text, and prints how many bytes it has and how many parts its root.
 //
 // Without words it reads small texts of its own a few times. With `plain FILE` it adds the file's bytes up, with
-// `sexpr FILE` it reads the file as one S-expression, with `board FILE` as a board, whose items it counts, and with
-// `json FILE` as JSON.
+// `sexpr FILE` it reads the file as one S-expression, with `board FILE` as a board, whose items it counts, with
+// `facts FILE` as a board, the facts of whose items it finds and counts, and with `json FILE` as JSON.
 #![tactic(auto)]
 
+use item_facts::all_facts;
+use net_class::Classes;
 use pcb_read::read_board;
 use sexpr_read::parse_one;
 use std::alloc::Global;
@@ -50,6 +52,17 @@ fn items_on_board(alloc: Global, text: &[u8]) -> Option<u64> {
     Some(count)
 }
 
+/// How many items of the board of the text have facts, under the plain classes.
+fn facts_on_board(alloc: Global, text: &[u8]) -> Option<u64> {
+    if text.len() > LIMIT {
+        return None;
+    }
+    let board = read_board(alloc, text).ok()?;
+    let classes = Classes::plain(alloc).ok()?;
+    let facts = all_facts(alloc, &board, &classes).ok()?;
+    Some(facts.len() as u64)
+}
+
 /// How many items the list of the JSON text has.
 fn items(alloc: Global, text: &[u8]) -> Option<u64> {
     if text.len() > LIMIT {
@@ -82,6 +95,7 @@ fn stored<R: Print + AllocGlobal>(rt: &R) -> anyhow::Result<()> {
         b"(kicad_pcb (version 20221018) (layers (0 F.Cu signal)) (segment (start 1 2) (end 3 4) (width 0.2) (layer F.Cu)))";
     show(rt, "board", track.len(), items_on_board(rt.alloc(), track))?;
     show(rt, "board", text.len(), items_on_board(rt.alloc(), text))?;
+    show(rt, "facts", track.len(), facts_on_board(rt.alloc(), track))?;
     show(rt, "json", 15, items(rt.alloc(), b"[1, {}, \"a\", 2]"))?;
     show(rt, "json", 3, items(rt.alloc(), b"[1,"))
 }
@@ -91,6 +105,7 @@ fn bench<R: Runtime + Print + AllocGlobal>(rt: &R, kind: &str, path: &str) -> an
     match kind {
         "sexpr" => show(rt, kind, text.len(), parts(rt.alloc(), &text)),
         "board" => show(rt, kind, text.len(), items_on_board(rt.alloc(), &text)),
+        "facts" => show(rt, kind, text.len(), facts_on_board(rt.alloc(), &text)),
         "json" => show(rt, kind, text.len(), items(rt.alloc(), &text)),
         _ => show(rt, "plain", text.len(), Some(checksum(&text))),
     }
