@@ -1,15 +1,12 @@
 -- A call or a comparison that is read stands there, and one that stands there is read.
-use Rattle.std.proofs.Common.{◌≡◌, ◌⊎◌, inl, inr, ℕ, zero, suc, ◌<◌, Bool, true, false, IsTrue, ◌==◌, ◌||◌, if◌then◌else◌, List, [], ◌∷◌, ◌++◌, length, refl, sym, ◌∙◌, ap, subst, arith, bytes_eq, ℤ}
+use Rattle.std.proofs.Common.{◌≡◌, ℕ, zero, suc, ◌<◌, Bool, true, false, ◌==◌, ◌||◌, if◌then◌else◌, List, [], ◌∷◌, ◌++◌, refl, sym, ◌∙◌, ap, subst, arith, bytes_eq, ℤ}
 use Rattle.std.specs.Str.{is_utf8}
-use Rattle.std.specs.Str.Lossy.{utf8_valid_len}
 use Rattle.std.proofs.lemmas.Slice.Eq.{bytes_eq-Decides}
-use Rattle.cond_lang.specs.declared.error.CondError.{CondError}
-use Rattle.cond_lang.specs.declared.error.CondError.TheVariants.{Bad, UnknownName, TypeClash, TooDeep}
+use Rattle.cond_lang.specs.declared.error.CondError.TheVariants.{UnknownName, TypeClash, TooDeep}
 use Rattle.cond_lang.specs.declared.terms.Side.{Side}
 use Rattle.cond_lang.specs.declared.terms.Side.TheVariants.{A, B}
 use Rattle.cond_lang.specs.declared.terms.Func.{Func}
 use Rattle.cond_lang.specs.declared.terms.Func.TheVariants.{ExistsOnLayer, IsPlated, IntersectsArea, IntersectsCourtyard}
-use Rattle.cond_lang.specs.declared.terms.Prop.{Prop}
 use Rattle.cond_lang.specs.declared.terms.Op.{Op}
 use Rattle.cond_lang.specs.declared.terms.Op.TheVariants.{Same, Differs, Less, AtMost, More, AtLeast}
 use Rattle.cond_lang.specs.declared.terms.Term.{Term}
@@ -22,8 +19,8 @@ use Rattle.cond_lang.specs.Found.{Found, read, fault, and_then, place, stuck, by
 use Rattle.cond_lang.specs.Signs.{is_blank, after_blanks, is_letter, is_digit, is_in_name, front_name, after_name, begins_name, name, word_of, side_of, side, front_text, after_text, text_of, quoted}
 use Rattle.cond_lang.specs.Numbers.{measure}
 use Rattle.cond_lang.specs.Trees.{Tree, any, all, negated, call, compare}
-use Rattle.cond_lang.specs.Values.{meant, selected, member, begins_number, head, argument, opened, called, with_equals, operator, clash, compared, comparison_at, comparison, atom_of, atom}
-use Rattle.cond_lang.specs.Atoms.{AreBlanks, Blanks, AreInName, goes_on, Named, side_letter, Selected, HasNoQuote, Quoted, Measured, Valued, Argued, Called, no_equals, Operates, Compared, Atom}
+use Rattle.cond_lang.specs.Values.{meant, member, begins_number, head, argument, opened, called, with_equals, operator, clash, compared, comparison, atom_of, atom}
+use Rattle.cond_lang.specs.Atoms.{Blanks, AreInName, goes_on, Named, side_letter, Selected, HasNoQuote, Quoted, Measured, Valued, Argued, Called, no_equals, Operates, Compared, Atom}
 use Rattle.cond_lang.proofs.Steps.{then_read}
 use Rattle.cond_lang.proofs.Blanks.{then_back, blanks_of, byte_back, skipped}
 
@@ -49,7 +46,7 @@ module _ (P : ℕ → Bool) (p32 : P 32 ≡ false) (p9 : P 9 ≡ false) (p10 : P
       by_test true e = absurd (grind (arith, e, at_32, at_9, at_10, at_13))
       by_test false e = e
 
-stays : (c : ℕ) (cs : List ℕ) → is_blank c ≡ false → after_blanks (c ∷ cs) ≡ c ∷ cs
+pub stays : (c : ℕ) (cs : List ℕ) → is_blank c ≡ false → after_blanks (c ∷ cs) ≡ c ∷ cs
 stays c cs e = ap (λ b. if b then after_blanks cs else (c ∷ cs)) e
 
 -- ---- names
@@ -123,7 +120,7 @@ name_stays text (c ∷ cs) r h =
 same_bytes : (v w : List ℕ) → bytes_eq v w ≡ true → v ≡ w
 same_bytes v w h = let d = bytes_eq-Decides v w in d.0 h
 
-side_sound : (n : ℕ) (text : List ℕ) (s : Side) (r : List ℕ) → side n text ≡ read s r → Named (side_letter s) text r
+pub side_sound : (n : ℕ) (text : List ℕ) (s : Side) (r : List ℕ) → side n text ≡ read s r → Named (side_letter s) text r
 unfolding side
 side_sound n text s r h =
     let first = then_back (name n text) (side_of n text) s r h in
@@ -144,7 +141,7 @@ side_sound n text s r h =
         let one : fault (UnknownName (place n text)) ≡ read s r = sym (ap (λ b. if b then read A u else (if bytes_eq w (66 ∷ []) then read B u else fault (UnknownName (place n text)))) e ∙ ap (λ b. if b then read B u else fault (UnknownName (place n text))) f) ∙ k in
         absurd (grind (arith, one))
 
-side_complete : (n : ℕ) (text : List ℕ) (s : Side) (r : List ℕ) → Named (side_letter s) text r → side n text ≡ read s r
+pub side_complete : (n : ℕ) (text : List ℕ) (s : Side) (r : List ℕ) → Named (side_letter s) text r → side n text ≡ read s r
 unfolding side
 side_complete n text A r h = then_read (name n text) (side_of n text) (65 ∷ []) r (read A r) (name_complete n text (65 ∷ []) r h) refl
 side_complete n text B r h = then_read (name n text) (side_of n text) (66 ∷ []) r (read B r) (name_complete n text (66 ∷ []) r h) refl
@@ -187,7 +184,7 @@ member_complete n calls s w text r x (u, v, y, word, sided, dot, blanks, named, 
 
 -- ---- texts
 
-split_text : (text : List ℕ) → text ≡ front_text text ++ after_text text
+pub split_text : (text : List ℕ) → text ≡ front_text text ++ after_text text
 split_text [] = refl
 split_text (c ∷ cs) = by_test (split_text cs) (c == 39) refl
   where
@@ -195,7 +192,7 @@ split_text (c ∷ cs) = by_test (split_text cs) (c == 39) refl
     by_test h true e = rw e refl
     by_test h false e = rw e (ap (λ y. c ∷ y) h)
 
-front_has_none : (text : List ℕ) → HasNoQuote (front_text text)
+pub front_has_none : (text : List ℕ) → HasNoQuote (front_text text)
 front_has_none [] = tt
 front_has_none (c ∷ cs) = by_test (front_has_none cs) (c == 39) refl
   where
@@ -203,7 +200,7 @@ front_has_none (c ∷ cs) = by_test (front_has_none cs) (c == 39) refl
     by_test h true e = subst HasNoQuote (sym (ap (λ b. if b then [] else (c ∷ front_text cs)) e)) tt
     by_test h false e = subst HasNoQuote (sym (ap (λ b. if b then [] else (c ∷ front_text cs)) e)) ((λ same. let k : (39 == 39) ≡ false = subst (λ y. (y == 39) ≡ false) same e in grind (arith, k)), h)
 
-quoted_sound : (n : ℕ) (text signs r : List ℕ) → quoted n text ≡ read signs r → Quoted signs (39 ∷ text) r
+pub quoted_sound : (n : ℕ) (text signs r : List ℕ) → quoted n text ≡ read signs r → Quoted signs (39 ∷ text) r
 unfolding quoted
 quoted_sound n text signs r h = by_test (is_utf8 (front_text text)) refl
   where
@@ -235,7 +232,7 @@ after_text_of : (signs r : List ℕ) → HasNoQuote signs → after_text (signs 
 after_text_of [] r h = refl
 after_text_of (c ∷ cs) r h = ap (λ b. if b then (c ∷ cs ++ (39 ∷ r)) else after_text (cs ++ (39 ∷ r))) (no_quote c h.0) ∙ after_text_of cs r h.1
 
-quoted_complete : (n : ℕ) (signs r : List ℕ) → HasNoQuote signs → is_utf8 signs ≡ true → quoted n (signs ++ (39 ∷ r)) ≡ read signs r
+pub quoted_complete : (n : ℕ) (signs r : List ℕ) → HasNoQuote signs → is_utf8 signs ≡ true → quoted n (signs ++ (39 ∷ r)) ≡ read signs r
 unfolding quoted
 quoted_complete n signs r h e =
     let front = front_text_of signs r h in
@@ -452,7 +449,7 @@ operator_sound n (c ∷ cs) op r h = by_tests (c == 61) refl (c == 33) refl (c =
     by_tests false e false f false g false k =
         let none = turned false false false false e f g k in absurd (grind (arith, none))
 
-with_none : (short long : Op) (r : List ℕ) → no_equals r ≡ true → with_equals short long r ≡ read short r
+pub with_none : (short long : Op) (r : List ℕ) → no_equals r ≡ true → with_equals short long r ≡ read short r
 with_none short long [] h = refl
 with_none short long (c ∷ cs) h = by_test (c == 61) refl
   where

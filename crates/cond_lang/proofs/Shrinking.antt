@@ -63,7 +63,7 @@ digits_shorter (c ∷ cs) = by_test (is_ascii_digit c) (digits_shorter cs)
     by_test true h = omega (arith, h)
     by_test false h = omega arith
 
-sign_shorter : (text : List ℕ) → length (after_sign text) ≤ length text
+pub sign_shorter : (text : List ℕ) → length (after_sign text) ≤ length text
 sign_shorter [] = omega arith
 sign_shorter (c ∷ cs) = by_test ((c == 43) || (c == 45))
   where
@@ -93,7 +93,7 @@ quoted_shrinks n text = by_test (is_utf8 _)
 digits_shrinks : (n : ℕ) (text : List ℕ) → Shrinks (digits n text) text
 digits_shrinks n text = either {A = List ℕ} (nat_lt 0 (length (front_digits text))) (read (front_digits text) (after_digits text)) (stuck n text) text (digits_shorter text) tt
 
-fraction_shrinks : (zero_so_far : Bool) (text : List ℕ) → Shrinks (fraction zero_so_far text) text
+pub fraction_shrinks : (zero_so_far : Bool) (text : List ℕ) → Shrinks (fraction zero_so_far text) text
 fraction_shrinks z [] = omega arith
 fraction_shrinks z (c ∷ cs) = either (c == 46) _ _ (c ∷ cs) (let h = digits_shorter cs in omega (arith, h)) (omega arith)
 
@@ -111,7 +111,7 @@ pass a rest = read tt rest
 digits_skipped : (n : ℕ) (text : List ℕ) → Shrinks (and_then (digits n text) pass) text
 digits_skipped n text = shrinks_then (digits n text) pass text (digits_shrinks n text) (λ ds rest. omega arith)
 
-power_shrinks : (n : ℕ) (text : List ℕ) → Shrinks (power n text) text
+pub power_shrinks : (n : ℕ) (text : List ℕ) → Shrinks (power n text) text
 unfolding power
 power_shrinks n [] = omega arith
 power_shrinks n (c ∷ cs) = either {A = Unit {0}} ((c == 101) || (c == 69)) (and_then (digits n (after_sign cs)) pass) (read tt (c ∷ cs)) (c ∷ cs)
@@ -123,7 +123,7 @@ metric_shrinks n [] = tt
 metric_shrinks n (c ∷ cs) = either (c == 109) _ _ (c ∷ cs) (omega arith)
     (either (c == 105) _ _ (c ∷ cs) (longer (byte n 108 cs) cs (c ∷ cs) (byte_shrinks n 108 cs) (omega arith)) tt)
 
-unit_shrinks : (n : ℕ) (z : Bool) (text : List ℕ) → Shrinks (unit n z text) text
+pub unit_shrinks : (n : ℕ) (z : Bool) (text : List ℕ) → Shrinks (unit n z text) text
 unfolding unit
 unit_shrinks n z [] = either z _ _ [] (omega arith) tt
 unit_shrinks n z (c ∷ cs) = either (c == 109) _ _ (c ∷ cs) (longer (metric n cs) cs (c ∷ cs) (metric_shrinks n cs) (omega arith))

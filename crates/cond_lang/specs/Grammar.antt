@@ -1,6 +1,6 @@
 -- Which conditions a text spells, as a relation that knows no faults and no order of reading:
 --   cond = and ("||" and)*     and = not ("&&" not)*     not = "!" not | "(" cond ")" | call | value op value
-use Rattle.std.specs.Prelude.{◌≡◌, ◌⊎◌, ℕ, zero, suc, IsTrue, List, [], ◌∷◌, ◌++◌, length}
+use Rattle.std.specs.Prelude.{◌≡◌, ◌⊎◌, ℕ, zero, suc, List, [], ◌∷◌, length}
 use Rattle.cond_lang.specs.Trees.{Tree, Trees, any, all, negated}
 use Rattle.cond_lang.specs.Atoms.{Blanks, Atom}
 use Rattle.cond_lang.specs.Conditions.{joined}

@@ -1,6 +1,7 @@
 pub mod Atoms
 pub mod Conditions
 pub mod Found
+pub mod Fronts
 pub mod Grammar
 pub mod Kinds
 pub mod Numbers

@@ -35,6 +35,3 @@ fn all_cross() {
     crosses::<Kind>();
     crosses::<Rule>();
 }
-
-#[cfg(test)]
-mod tests;
