@@ -122,7 +122,8 @@ impl TileIndex {
     /// index. It takes no memory.
     pub fn area(&self, bounds: Bounds) -> Area
         requires { FitsWithin (pos 2000000000) bounds }
-        ensures { (tile : ℕ) → has_tile result tile ≡ meets_tile (widened bounds (margin self.now)) tile }
+        ensures tiles { (tile : ℕ) → has_tile result tile ≡ meets_tile (widened bounds (margin self.now)) tile }
+        ensures sound { IsSound self.now }
     {
         Area::around(2 * self.reach, bounds)
     }
@@ -152,7 +153,8 @@ impl TileIndex {
     /// `all`, of all tiles with an entry. Only want of memory refuses it.
     pub fn dirty(&self, boxes: &[Bounds], all: bool) -> Result<Vec<u32>, AllocError>
         requires { All (λ b. FitsWithin (pos 2000000000) b) boxes.now }
-        ensures { IfOk result (λ tiles. tiles.items ≡ dirty_of self.now boxes.now all) }
+        ensures tiles { IfOk result (λ tiles. tiles.items ≡ dirty_of self.now boxes.now all) }
+        ensures sound { IsSound self.now }
     {
         let alloc = *self.tiles.allocator();
         let mut marks = new_marks(alloc, TILES, all)?;

@@ -12,8 +12,6 @@ mod index;
 mod kept;
 mod lanes;
 mod lists;
-#[cfg(test)]
-mod tests;
 mod walks;
 
 pub use area::Area;

@@ -1,17 +1,16 @@
 //! The areas and bodies near an item. An index of their boxes tells them, so that an item is not asked against all of them.
 
 ghost use Rattle.std.specs.Prelude.{◌≡◌, ℕ, pos, List, IfOk, OnOk, IfSome};
-ghost use Rattle.geo_seg.specs.Boxes.{FitsWithin, widened};
+ghost use Rattle.geo_seg.specs.Boxes.{FitsWithin};
 ghost use Rattle.board_items.specs.declared.item.Item.{Item};
 ghost use Rattle.board_items.specs.Boards.{is_mark};
 ghost use Rattle.board_items.specs.Parts.{parts_of};
 ghost use Rattle.board_items.specs.Extents.{AreBoundsOf};
-ghost use Rattle.box_index.specs.Areas.{has_tile};
-ghost use Rattle.box_index.specs.Tiles.{IsAbsent, IsSound, margin, meets_tile, near_of};
+ghost use Rattle.box_index.specs.Tiles.{IsAbsent, near_of};
 ghost use Rattle.item_facts.specs.Near.{DoRise, IsWith, HasMet, HoldsMarks, IsMarked, AreEnough};
 
 use board_items::{Board, Item, What};
-use box_index::{Area, TileIndex, do_boxes_meet};
+use box_index::{TileIndex, do_boxes_meet};
 use geo_seg::Bounds;
 use std::alloc::{AllocError, Global};
 
@@ -86,24 +85,13 @@ fn visit_tile(
     Ok(())
 }
 
-// The tiles that the box meets.
-fn area_of(index: &TileIndex, bounds: Bounds) -> Area
-    requires { FitsWithin (pos 2000000000) bounds }
-    ensures tiles { (tile : ℕ) → has_tile result tile ≡ meets_tile (widened bounds (margin index.now)) tile }
-    ensures sound { IsSound index.now }
-{
-    // the index says here that its boxes fit
-    let _ = index.near(0);
-    index.area(bounds)
-}
-
 // Asks each tile that the box meets.
 fn visit_tiles(index: &TileIndex, bounds: Bounds, ids: &mut Vec<u32>) -> Result<(), AllocError>
     requires rises { DoRise 0 ids.old.items }
     requires fits { FitsWithin (pos 2000000000) bounds }
     ensures { (items : List (ℕ × Item)) (item : Item) → HoldsMarks items index.now → AreBoundsOf (parts_of item) (Some bounds) → OnOk result (AreEnough item items ids.new.items) }
 {
-    let area = area_of(index, bounds);
+    let area = index.area(bounds);
     let end = area.end();
     let mut tile = area.first();
     'tiles: while tile < end {

@@ -1,11 +1,10 @@
 //! Labels: the search that gives each item of a net the number of its group.
 
-ghost use Rattle.std.specs.Prelude.{◌≡◌, ◌+◌, ◌<◌, pos, IsTrue, ℕ, List, [], Option, None, Some, IfOk, OnOk, MatchOption, Contains, length, slice_index};
+ghost use Rattle.std.specs.Prelude.{◌≡◌, ◌+◌, ◌<◌, pos, IsTrue, [], Option, None, Some, IfOk, OnOk, MatchOption, Contains, length, slice_index};
 ghost use Rattle.net_groups.specs.Touching.{TouchOn};
 ghost use Rattle.net_groups.specs.Classes.{Rises};
-ghost use Rattle.geo_seg.specs.Boxes.{FitsWithin, widened};
-ghost use Rattle.box_index.specs.Areas.{has_tile};
-ghost use Rattle.box_index.specs.Tiles.{IsSound, margin, meets_tile};
+ghost use Rattle.geo_seg.specs.Boxes.{FitsWithin};
+ghost use Rattle.box_index.specs.Tiles.{margin};
 ghost use Rattle.net_groups.specs.Holding.{HoldsItems};
 ghost use Rattle.net_groups.specs.Asking.{is_asked, asked_in, IsOwn, IsAskedNew, IsVisitedWhole};
 ghost use Rattle.net_groups.specs.Labels.{label_at, IsPassedOver, IsNew, IsVisited, AreLabels};
@@ -13,8 +12,7 @@ ghost use Rattle.net_groups.specs.Labels.{label_at, IsPassedOver, IsNew, IsVisit
 use crate::pairs::{is_asked, own_entry};
 use crate::touch::touch_on;
 use board_items::Board;
-use box_index::{Area, Entry, TileIndex};
-use geo_seg::Bounds;
+use box_index::{Entry, TileIndex};
 use std::alloc::{AllocError, Global};
 
 /// The label of each place, and how many labels there are.
@@ -103,17 +101,6 @@ fn visit_tile(
     Ok(())
 }
 
-// The tiles that the bounds meet where they are widened by the reach.
-fn area_of(index: &TileIndex, bounds: Bounds) -> Area
-    requires { FitsWithin (pos 2000000000) bounds }
-    ensures tiles { (tile : ℕ) → has_tile result tile ≡ meets_tile (widened bounds (margin index.now)) tile }
-    ensures sound { IsSound index.now }
-{
-    // the index says here that its ids rise
-    let _ = index.near(0);
-    index.area(bounds)
-}
-
 // Visits a place in each tile that its item meets.
 fn visit_tiles(
     board: &Board,
@@ -133,7 +120,7 @@ fn visit_tiles(
     requires own { FitsWithin (pos 2000000000) own.bounds }
     ensures { OnOk result (IsVisitedWhole (TouchOn board.now) ids.now place label labels.old labels.new stack.old.items stack.new.items) }
 {
-    let area = area_of(index, own.bounds);
+    let area = index.area(own.bounds);
     let end = area.end();
     let mut tile = area.first();
     'tiles: while tile < end {

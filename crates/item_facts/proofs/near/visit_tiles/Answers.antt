@@ -4,10 +4,10 @@ use Rattle.item_facts.proofs.near.visit_tiles.Goals as goal
 
 pub tiles-preserved : goal.tiles-preserved
 tiles-preserved c =
-    walk_more c.args.index.now c.area_of-area.result c.args.bounds c.tiles.ids.items c.visit_tile.new.ids.items c.tiles.tile c.tiles.invariant c.in_ok-visit_tile.ensures
+    walk_more c.args.index.now c.area-area.result c.args.bounds c.tiles.ids.items c.visit_tile.new.ids.items c.tiles.tile c.tiles.invariant c.in_ok-visit_tile.ensures
     c.after-tile.result c.after-tile.ensures.rises c.after-tile.ensures.none_between c.after-tile.ensures.inside
 
 pub returns : goal.returns
 returns c = λ items item holds own.
-    walk_done c.args.index.now c.area_of-area.result c.args.bounds c.tiles.ids.items c.tiles.tile c.tiles.invariant c.area_of-area.ensures.sound c.requires.fits c.area_of-area.ensures.tiles
+    walk_done c.args.index.now c.area-area.result c.args.bounds c.tiles.ids.items c.tiles.tile c.tiles.invariant c.area-area.ensures.sound c.requires.fits c.area-area.ensures.tiles
     (λ tile past. c.end-end.ensures.none_after tile (omega arith)) items item holds own

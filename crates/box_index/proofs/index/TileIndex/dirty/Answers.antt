@@ -4,8 +4,8 @@ use Rattle.std.proofs.lemmas.Result.{IfOk-weaker}
 use Rattle.box_index.proofs.Buckets.{index_of, dirty_is}
 use Rattle.box_index.proofs.index.TileIndex.dirty.Goals as goal
 
-pub returns : goal.returns
-returns c =
+pub returns-clause-tiles : goal.returns-clause-tiles
+returns-clause-tiles c =
     let now = c.deref.ensures.value ∙ take_at c.mark_boxes.new.marks _ _ (c.mark_boxes.auto.marks ∙ c.deref_mut.ensures.len) in
     let same = dirty_is (index_of c.self.inside.reach c.self.inside.boxes) c.args.self.now c.args.boxes.now c.args.all c.deref_mut.result.now c.mark_boxes.new.marks c.deref.result.now c.self.view_is c.self.invariant.0
     (λ tile d l. ap (λ ms. slice_index_or ms tile d) c.deref_mut.ensures.value ∙ c.in_ok-marks.ensures.each tile d l) c.mark_boxes.ensures now in
