@@ -1,5 +1,4 @@
 pub mod Chosen
-pub mod ClearLists
 pub mod Far
 pub mod Gaps
 pub mod Meeting

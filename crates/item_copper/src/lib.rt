@@ -4,13 +4,11 @@
 //! Shapes are in half nanometres; the distances that are kept are nanometres. No call takes memory.
 #![tactic(auto)]
 
-mod copper;
 mod facing;
 mod layers;
 mod side;
 mod touch;
 
-pub use copper::are_clear;
 pub use facing::{is_empty, sides_gap, sides_meet};
 pub use layers::share_layer;
 pub use side::{ListedParts, Side, SinglePart};
