@@ -1,9 +1,3 @@
-pub mod Gathering
-pub mod Ratios
-pub mod Padding
-pub mod Adding
-pub mod Making
-pub mod Corners
 pub mod Counting
 pub mod Closed
 pub mod Courting

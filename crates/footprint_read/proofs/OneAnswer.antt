@@ -12,7 +12,7 @@ use Rattle.courtyard.specs.declared.ends.LineEnd.{LineEnd}
 use Rattle.courtyard.specs.Ends.{IsJoined}
 use Rattle.courtyard.specs.Outlines.{AreChained, corners}
 use Rattle.courtyard.proofs.Unique.{one_list}
-use Rattle.footprint_read.specs.declared.head.Head.{Head}
+use Rattle.pad_read.specs.declared.head.Head.{Head}
 use Rattle.footprint_read.specs.declared.sides.Side.{Side}
 use Rattle.footprint_read.specs.declared.contents.Contents.{Contents}
 use Rattle.footprint_read.specs.declared.courts.Court.{Court}

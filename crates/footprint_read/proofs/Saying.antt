@@ -8,7 +8,7 @@ use Rattle.board_items.specs.declared.errors.BoardError.TheVariants.{OutOfMemory
 use Rattle.board_items.specs.declared.item.Item.{Item}
 use Rattle.board_items.specs.Boards.{PlainBoard}
 use Rattle.part_read.specs.Lists.{GivesItems}
-use Rattle.footprint_read.specs.declared.head.Head.{Head}
+use Rattle.pad_read.specs.declared.head.Head.{Head}
 use Rattle.footprint_read.specs.declared.contents.Contents.{Contents}
 use Rattle.footprint_read.specs.declared.courts.Court.{Court}
 use Rattle.footprint_read.specs.Courtyards.{IsCourt}

@@ -20,7 +20,7 @@ use Rattle.part_read.specs.Stances.{IsWithin}
 use Rattle.part_read.specs.Ready.{IsReady, AreReady}
 use Rattle.part_read.proofs.Layering.{none_within}
 use Rattle.part_read.proofs.Graphical.{note_ready}
-use Rattle.footprint_read.specs.declared.head.Head.{Head}
+use Rattle.pad_read.specs.declared.head.Head.{Head}
 use Rattle.footprint_read.specs.declared.contents.Given.{Given}
 use Rattle.footprint_read.specs.declared.courts.Court.{Court}
 use Rattle.footprint_read.specs.declared.courts.Court.TheVariants.{Unchecked, Parts, Off}

@@ -1,39 +1,14 @@
 -- The head of a footprint: (footprint .. (layer F.Cu) (at X Y ANGLE) (fp_text reference "R1" ..) (clearance C) ..), its elements in
 -- this order.
-use Rattle.std.specs.Prelude.{ℕ, ℤ, pos, ◌/◌, ◌%◌, ◌==◌, ◌&&◌, unsigned_abs, Bool, true, false, List, [], codes, Option, None, Some, slice_get, find, Result, Ok, Err, if◌then◌else◌}
-use Rattle.std.specs.Int.{int_rem_euclid}
-use Rattle.sexpr_read.specs.Tree.{Tree, parts, is_list}
+use Rattle.std.specs.Prelude.{ℕ, ◌==◌, ◌&&◌, Bool, true, false, List, [], codes, Option, None, Some, slice_get, find, Result, Ok, Err, if◌then◌else◌}
+use Rattle.sexpr_read.specs.Tree.{Tree, parts}
 use Rattle.board_items.specs.declared.errors.BoardError.{BoardError}
 use Rattle.board_items.specs.declared.errors.BoardError.TheVariants.{Missing, Turned, UnknownLayer}
 use Rattle.board_items.specs.declared.layers.LayerSet.{LayerSet}
-use Rattle.part_read.specs.Elements.{◌>>=◌, needed, place, text_of, is_text, has_head, element, atom_of, in_needed}
-use Rattle.part_read.specs.Numbers.{length_in, spot_at}
+use Rattle.part_read.specs.Elements.{◌>>=◌, needed, place, text_of, is_text, has_head, element, atom_of}
 use Rattle.part_read.specs.LayersOf.{copper_in}
-use Rattle.footprint_read.specs.declared.head.Head.{Head}
-use Rattle.footprint_read.specs.declared.head.Posture.{Posture}
-
--- ---- angles, read as lengths are: a quarter turn is 90,000,000
-
-abbrev pub angle_by : Option Tree → Result ℤ BoardError
-angle_by None = Ok (pos 0)
-angle_by (Some t) = if is_list t then Ok (pos 0) else length_in t
-
--- the position and the angle of (at X Y ANGLE); an angle that is missing is 0
-unfoldable pub posture_at : Tree → Result Posture BoardError
-posture_at list = do
-  spot ← spot_at list
-  angle ← angle_by (slice_get (parts list) 3)
-  Ok (record { at = spot; angle = angle })
-
-abbrev pub posture_of : Tree → Result Posture BoardError
-posture_of tree = in_needed posture_at tree (element (codes "at") tree)
-
--- how many quarter turns an angle is, of whole turns none, if it is a multiple of one
-abbrev pub quarters_by : ℕ → Option ℕ
-quarters_by rest = if rest % 90000000 == 0 then Some (rest / 90000000) else None
-
-abbrev pub quarters_of : ℤ → Option ℕ
-quarters_of angle = quarters_by (unsigned_abs (int_rem_euclid angle (pos 360000000)))
+use Rattle.pad_read.specs.declared.head.Head.{Head}
+use Rattle.pad_read.specs.Postures.{posture_of, quarters_of, clearance_of}
 
 -- ---- the side
 
@@ -69,15 +44,6 @@ reference_by None None = Ok []
 -- the text of the first (fp_text reference "R1" ..), else that of the first (property "Reference" "R1" ..), or the empty one
 unfoldable pub reference_of : Tree → Result (List ℕ) BoardError
 reference_of tree = reference_by (find (says (codes "fp_text") (codes "reference")) (parts tree)) (find (says (codes "property") (codes "Reference")) (parts tree))
-
--- ---- clearances, of which 0 and less count as none
-
-abbrev pub clearance_by : Option Tree → Result ℤ BoardError
-clearance_by None = Ok (pos 0)
-clearance_by (Some list) = atom_of 1 list >>= length_in
-
-unfoldable pub clearance_of : Tree → Result ℤ BoardError
-clearance_of tree = clearance_by (element (codes "clearance") tree)
 
 -- ---- the whole head
 

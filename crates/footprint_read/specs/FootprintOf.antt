@@ -19,12 +19,12 @@ use Rattle.part_read.specs.Elements.{◌>>=◌, check, place, has_head, name_in}
 use Rattle.part_read.specs.OnBoard.{fits_board}
 use Rattle.part_read.specs.PlainItems.{plain_item}
 use Rattle.part_read.specs.Graphics.{ground_of, graphic_by, curve_by, text_by, note_of}
-use Rattle.footprint_read.specs.declared.head.Head.{Head}
+use Rattle.pad_read.specs.declared.head.Head.{Head}
 use Rattle.footprint_read.specs.declared.sides.Side.{Side}
 use Rattle.footprint_read.specs.declared.contents.Contents.{Contents}
 use Rattle.footprint_read.specs.declared.contents.Given.{Given}
 use Rattle.footprint_read.specs.FootHead.{head_of}
-use Rattle.footprint_read.specs.PadOf.{pad_of}
+use Rattle.pad_read.specs.PadOf.{pad_of}
 use Rattle.footprint_read.specs.declared.courts.Court.{Court}
 use Rattle.footprint_read.specs.declared.courts.Court.TheVariants.{Unchecked}
 use Rattle.footprint_read.specs.Courtyards.{IsCourt, empty_side, parts_in, lies_on_board, with_curve, with_graphic}

@@ -1,12 +1,5 @@
-pub mod Halves
 pub mod FootHead
-pub mod PadSizes
-pub mod PadShapes
-pub mod CustomPads
-pub mod PadFrames
-pub mod PadOf
 pub mod Courtyards
 pub mod FootprintOf
-pub mod Taking
 pub mod Closing
 pub mod Bare

@@ -15,10 +15,9 @@ ghost use Rattle.footprint_read.specs.FootprintOf.{items_of, with_items, with_dr
 
 use crate::contents::Contents;
 use crate::court_lists::with_graphic;
-use crate::head::Head;
 use crate::notes::{note_on, one_item};
-use crate::pad::pad_of;
 use board_items::{About, Board, BoardError, Item};
+use pad_read::{Head, pad_of};
 use part_read::{Ground, Kind, curve_by, ground_of, has_head, place, read_graphic, read_text};
 use sexpr_read::Node;
 use std::alloc::{AllocError, Global};

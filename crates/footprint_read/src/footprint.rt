@@ -14,9 +14,10 @@ ghost use Rattle.footprint_read.specs.FootprintOf.{items_of, body_of, court_note
 use crate::children::contents_of;
 use crate::contents::{AllGiven, Given};
 use crate::courts::{Court, court_of};
-use crate::head::{Head, head_of};
+use crate::head::head_of;
 use crate::notes::{note_on, one_item};
 use board_items::{About, Board, BoardError, Boxed, Item, Parts, What};
+use pad_read::Head;
 use part_read::{fits_board, name_of_list, no_parts, place, plain_item};
 use sexpr_read::Node;
 use std::alloc::{AllocError, Global};

@@ -1,0 +1,14 @@
+use Rattle.std.proofs.Common.{◌∙◌, sym, w64, rules}
+use mir.Val.{SFits}
+use Rattle.pad_read.specs.Halves.{fits_half, half_point_at}
+use Rattle.part_read.proofs.Shapes.{is_tested, one_point, clean}
+use Rattle.pad_read.proofs.halves.half_point.Goals as goal
+
+pub returns : goal.returns
+returns c =
+    let spot = c.args.spot in
+    let fits_x : SFits w64 spot.x = search rules in
+    let fits_y : SFits w64 spot.y = search rules in
+    is_tested (fits_half spot) (half_point_at spot) _
+    (λ h. one_point _ (half_point_at spot h) (clean spot.x fits_x) (clean spot.y fits_y))
+    (sym c.fits_half.ensures ∙ c.if-not-fits_half.false)

@@ -1,0 +1,67 @@
+-- Custom pads: an anchor, and primitives around it.
+use Rattle.std.specs.Prelude.{◌||◌, not, List, [], ◌∷◌, ◌++◌, codes, Option, None, Some, Result, Ok, Err, if◌then◌else◌}
+use Rattle.sexpr_read.specs.Tree.{Tree, parts}
+use Rattle.board_items.specs.declared.errors.BoardError.{BoardError}
+use Rattle.board_items.specs.declared.errors.BoardError.TheVariants.{PadShape, Arc, Ring}
+use Rattle.part_read.specs.declared.drawings.Kind.{Kind}
+use Rattle.part_read.specs.declared.drawings.Kind.TheVariants.{Line, Rect, Circle, Outline}
+use Rattle.part_read.specs.declared.figures.Drawing.{Drawing}
+use Rattle.part_read.specs.Elements.{◌>>=◌, check, place, is_text, has_head, element, atom_of}
+use Rattle.part_read.specs.Figures.{is_ring}
+use Rattle.part_read.specs.Drawings.{drawing_of}
+use Rattle.pad_read.specs.declared.sizes.Sizes.{Sizes}
+use Rattle.pad_read.specs.declared.sizes.Cushion.{Cushion}
+use Rattle.pad_read.specs.PadShapes.{circle_cushion, rect_cushion}
+
+-- ---- the anchor: a disc or a rectangle
+
+abbrev pub anchor_by_word : Tree → Sizes → Tree → Result Cushion BoardError
+anchor_by_word pad s atom =
+    if is_text atom (codes "circle") then Ok (circle_cushion s)
+    else if is_text atom (codes "rect") then Ok (rect_cushion s)
+    else Err (PadShape (place pad))
+
+abbrev pub anchor_by : Tree → Sizes → Option Tree → Result Cushion BoardError
+anchor_by pad s None = Ok (circle_cushion s)
+anchor_by pad s (Some list) = atom_of 1 list >>= anchor_by_word pad s
+
+abbrev pub in_options : Option Tree → Option Tree
+in_options None = None
+in_options (Some options) = element (codes "anchor") options
+
+-- that of (options (anchor WORD)), a disc where it is missing
+unfoldable pub anchor_of : Sizes → Tree → Result Cushion BoardError
+anchor_of s pad = anchor_by pad s (in_options (element (codes "options") pad))
+
+-- ---- the primitives
+
+abbrev pub primitive_kind : Tree → Option Kind
+primitive_kind t =
+    if has_head (codes "gr_line") t then Some Line
+    else if has_head (codes "gr_rect") t then Some Rect
+    else if has_head (codes "gr_circle") t then Some Circle
+    else if has_head (codes "gr_poly") t then Some Outline
+    else None
+
+-- an open circle is refused at the pad; arcs and curves are refused where they stand; others are passed over
+abbrev pub primitive_by : Tree → Tree → Option Kind → Result (List Drawing) BoardError
+primitive_by pad t (Some kind) = do
+  drawing ← drawing_of kind t
+  solid ← check (Ring (place pad)) (not (is_ring drawing))
+  Ok (drawing ∷ [])
+primitive_by pad t None = if has_head (codes "gr_arc") t || has_head (codes "gr_curve") t then Err (Arc (place t)) else Ok []
+
+abbrev pub primitives_among : Tree → List Tree → Result (List Drawing) BoardError
+primitives_among pad [] = Ok []
+primitives_among pad (t ∷ ts) = do
+  first ← primitive_by pad t (primitive_kind t)
+  others ← primitives_among pad ts
+  Ok (first ++ others)
+
+abbrev pub primitives_by : Tree → Option Tree → Result (List Drawing) BoardError
+primitives_by pad None = Ok []
+primitives_by pad (Some list) = primitives_among pad (parts list)
+
+-- what (primitives ..) draws
+unfoldable pub primitives_of : Tree → Result (List Drawing) BoardError
+primitives_of pad = primitives_by pad (element (codes "primitives") pad)

@@ -1,0 +1,184 @@
+-- Pads: (pad "NUMBER" TYPE SHAPE (at X Y ANGLE) (size W H) (drill ..) (layers NAME ..) .. (net N) (clearance C)), its elements in this
+-- order. An offset moves the copper of a pad and not its hole.
+use Rattle.std.specs.Prelude.{◌≡◌, ℕ, ℤ, pos, int_lt, Bool, true, false, ◌&&◌, not, ◌==◌, List, [], ◌∷◌, codes, Option, None, Some, Result, Ok, refl, if◌then◌else◌}
+use Rattle.std.proofs.Common.{subst}
+use Rattle.sexpr_read.specs.Tree.{Tree}
+use Rattle.geo_seg.specs.declared.shapes.Shape.{Shape}
+use Rattle.drc_io.specs.Lengths.{IsLengthIfSome}
+use Rattle.board_items.specs.declared.errors.BoardError.{BoardError}
+use Rattle.board_items.specs.declared.errors.BoardError.TheVariants.{OutOfBoard}
+use Rattle.board_items.specs.declared.layers.LayerSet.{LayerSet}
+use Rattle.board_items.specs.declared.parts.Part.{Part}
+use Rattle.board_items.specs.declared.item.Hole.{Hole}
+use Rattle.board_items.specs.declared.item.What.TheVariants.{Pad}
+use Rattle.board_items.specs.declared.item.Item.{Item}
+use Rattle.board_items.specs.Boards.{PlainBoard}
+use Rattle.part_read.specs.declared.numbers.Spot.{Spot}
+use Rattle.part_read.specs.declared.stances.Stance.{Stance}
+use Rattle.part_read.specs.declared.figures.Drawing.{Drawing}
+use Rattle.part_read.specs.Elements.{◌>>=◌, needed, place, text_of, element, atom_of, in_needed, name_in}
+use Rattle.part_read.specs.OnBoard.{tested, is_length, fits_board, length_in_range}
+use Rattle.part_read.specs.LayersOf.{layers_named}
+use Rattle.part_read.specs.NetsOf.{net_of}
+use Rattle.part_read.specs.Stances.{stood}
+use Rattle.part_read.specs.PlainItems.{unmeasured}
+use Rattle.part_read.specs.Figures.{added, drawn}
+use Rattle.pad_read.specs.declared.sizes.Sizes.{Sizes}
+use Rattle.pad_read.specs.declared.sizes.Cushion.{Cushion}
+use Rattle.pad_read.specs.declared.pads.PadType.{PadType}
+use Rattle.pad_read.specs.declared.pads.PadType.TheVariants.{NpThruHole}
+use Rattle.pad_read.specs.declared.pads.PadWord.{PadWord}
+use Rattle.pad_read.specs.declared.pads.PadWord.TheVariants.{Circle, Rect, Oval, RoundRect, Custom}
+use Rattle.pad_read.specs.declared.pads.Frame.{Frame}
+use Rattle.pad_read.specs.declared.forms.Form.{Form}
+use Rattle.pad_read.specs.declared.labels.Label.{Label}
+use Rattle.pad_read.specs.declared.head.Head.{Head}
+use Rattle.pad_read.specs.Postures.{clearance_of}
+use Rattle.pad_read.specs.PadSizes.{least_of, are_equal}
+use Rattle.pad_read.specs.PadShapes.{circle_cushion, rect_cushion, oval_cushion, round_cushion, round_radius, turned_cushion, cushion_at}
+use Rattle.pad_read.specs.CustomPads.{anchor_of, primitives_of}
+use Rattle.pad_read.specs.PadFrames.{hole_sizes, is_plated, frame_of}
+
+-- ---- its form: what is all within a radius of a box, and what else is drawn
+
+abbrev pub without_primitives : Cushion → Form
+without_primitives cushion = record { cushion = cushion; primitives = [] }
+
+abbrev pub form_of : PadWord → Sizes → Tree → Result Form BoardError
+form_of Circle s tree = Ok (without_primitives (circle_cushion s))
+form_of Rect s tree = Ok (without_primitives (rect_cushion s))
+form_of Oval s tree = Ok (without_primitives (oval_cushion s))
+form_of RoundRect s tree = round_radius s tree >>= λ r. Ok (without_primitives (round_cushion s r))
+form_of Custom s tree = do
+  anchor ← anchor_of s tree
+  primitives ← primitives_of tree
+  Ok (record { cushion = anchor; primitives = primitives })
+
+-- ---- its copper, if it lies on the board
+
+abbrev pub with_parts : Option (List Part) → Option (List Part) → Option (List Part)
+with_parts None more = None
+with_parts (Some parts) more = added parts more
+
+abbrev pub all_drawn : LayerSet → Stance → List Drawing → Option (List Part)
+all_drawn layers stance [] = Some []
+all_drawn layers stance (d ∷ ds) = with_parts (drawn layers stance d) (all_drawn layers stance ds)
+
+abbrev pub part_of : LayerSet → Option Shape → Option (List Part)
+part_of layers None = None
+part_of layers (Some shape) = Some (record { layers = layers; shape = shape } ∷ [])
+
+-- what stands so has its cushion in the middle, and the primitives around it
+abbrev pub copper_of : LayerSet → Stance → Form → Option (List Part)
+copper_of layers stance form =
+    with_parts (part_of layers (cushion_at stance.at (turned_cushion stance.quarter form.cushion))) (all_drawn layers stance form.primitives)
+
+abbrev pub equals_drill : Sizes → Option Sizes → Bool
+equals_drill s None = false
+equals_drill s (Some d) = are_equal s d
+
+-- a pad on no copper layer has none, nor has a hole that is not plated and as large as its pad
+abbrev pub has_copper : PadType → LayerSet → Sizes → Option Sizes → Bool
+has_copper NpThruHole layers s drill = not (layers.bits == 0) && not (equals_drill s drill)
+has_copper type layers s drill = not (layers.bits == 0)
+
+-- the middle of the copper: the offset is turned with the pad
+abbrev pub middle_of : Frame → Stance
+middle_of f = record { quarter = f.quarter; at = stood (record { quarter = f.quarter; at = f.at }) f.drilling.offset }
+
+abbrev pub frame_copper : LayerSet → Frame → Form → Option (List Part)
+frame_copper layers f form = if has_copper f.pad_type layers f.sizes f.drilling.sizes then copper_of layers (middle_of f) form else Some []
+
+-- ---- its hole, if it lies on the board
+
+abbrev pub hole_with : LayerSet → Bool → (s : Sizes) → Shape → is_length (least_of s) ≡ true → Hole
+hole_with layers plated s shape fits = record { shape = shape; layers = layers; plated = plated; least = least_of s; least_in_range = length_in_range (least_of s) fits }
+
+abbrev pub with_hole : Option Hole → Option (Option Hole)
+with_hole None = None
+with_hole (Some hole) = Some (Some hole)
+
+abbrev pub hole_by : LayerSet → Bool → Sizes → Option Shape → Option (Option Hole)
+hole_by layers plated s None = None
+hole_by layers plated s (Some shape) = with_hole (tested (is_length (least_of s)) (hole_with layers plated s shape))
+
+-- round or oval, through all copper layers
+abbrev pub hole_of : LayerSet → Spot → ℕ → Bool → Option Sizes → Option (Option Hole)
+hole_of copper at quarter plated None = Some None
+hole_of copper at quarter plated (Some s) = hole_by copper plated s (cushion_at at (turned_cushion quarter (oval_cushion s)))
+
+-- at the position of the pad, and turned with it
+abbrev pub frame_hole : LayerSet → Frame → Option (Option Hole)
+frame_hole copper f = hole_of copper f.at f.quarter (is_plated f.pad_type) (hole_sizes f.pad_type f.drilling.sizes)
+
+-- ---- its clearance: its own, else that of the footprint
+
+abbrev pub if_above_0 : ℤ → Option ℤ → Option ℤ
+if_above_0 n otherwise = if int_lt (pos 0) n then Some n else otherwise
+
+abbrev pub local_of : ℤ → ℤ → Option ℤ
+local_of own of_footprint = if_above_0 own (if_above_0 of_footprint None)
+
+-- ---- what must lie on the board, and be at most 500 mm
+
+abbrev pub sizes_fit : Sizes → Bool
+sizes_fit s = is_length s.w && is_length s.h
+
+abbrev pub some_fit : Option Sizes → Bool
+some_fit None = true
+some_fit (Some s) = sizes_fit s
+
+abbrev pub frame_fits : Frame → Bool
+frame_fits f = fits_board f.at && (sizes_fit f.sizes && some_fit f.drilling.sizes)
+
+abbrev pub local_fits : Option ℤ → Bool
+local_fits None = true
+local_fits (Some n) = is_length n
+
+pub local_in_range : (local : Option ℤ) → local_fits local ≡ true → IsLengthIfSome local
+local_in_range None h = λ n e. absurd cc
+local_in_range (Some m) h = λ n e. length_in_range n (subst (λ (z : ℤ). is_length z ≡ true) (same e) h)
+  where
+    same : {a b : ℤ} → Some a ≡ Some b → a ≡ b
+    same e = cc
+
+-- ---- the item
+
+abbrev pub pad_item : (label : Label) → Spot → List Part → Option Hole → local_fits label.local ≡ true → Item
+pad_item label at copper hole fits = record {
+  name = label.name;
+  unit = label.unit;
+  net = label.net;
+  x = at.x;
+  y = at.y;
+  copper = copper;
+  hole = hole;
+  local = label.local;
+  what = Pad label.number label.reference;
+  local_in_range = local_in_range label.local fits;
+  what_in_range = unmeasured (Pad label.number label.reference) refl;
+}
+
+abbrev pub pad_with : Label → Spot → Option (List Part) → Option (Option Hole) → Option Item
+pad_with label at None hole = None
+pad_with label at (Some copper) None = None
+pad_with label at (Some copper) (Some hole) = tested (local_fits label.local) (pad_item label at copper hole)
+
+-- the pad, if it lies on the board and no size of it is above 500 mm
+abbrev pub placed : LayerSet → LayerSet → Label → Frame → Form → Option Item
+placed copper layers label f form = if frame_fits f then pad_with label f.at (frame_copper layers f form) (frame_hole copper f) else None
+
+abbrev pub label_of : ℕ → ℕ → ℤ → Head → Tree → Tree → Label
+label_of unit net own head number tree =
+    record { name = name_in tree; unit = unit; net = net; number = text_of number; reference = head.reference; local = local_of own head.clearance }
+
+-- the pad of a footprint with this head
+unfoldable pub pad_of : PlainBoard → ℕ → Head → Tree → Result Item BoardError
+pad_of board unit head tree = do
+  number ← atom_of 1 tree
+  frame ← frame_of head.stance tree
+  layers ← in_needed (layers_named board.copper) tree (element (codes "layers") tree)
+  form ← form_of frame.word frame.sizes tree
+  net ← net_of board tree
+  own ← clearance_of tree
+  needed (OutOfBoard (place tree)) (placed board.copper layers (label_of unit net own head number tree) frame form)

@@ -1,0 +1,83 @@
+-- The shapes of pads that are all within a radius of a box: discs, rectangles, ovals and rounded rectangles. Both numbers of a box count
+-- half nanometres from its middle to an edge: as many as its side has nanometres.
+use Rattle.std.specs.Prelude.{ℕ, ◌≤◌, ℤ, pos, unsigned_abs, ◌+ℤ◌, ◌-ℤ◌, ◌*ℤ◌, ◌%◌, ◌==◌, codes, Option, None, Some, int_le, Result, Ok, if◌then◌else◌}
+use Rattle.sexpr_read.specs.Tree.{Tree, content}
+use Rattle.exact_dec.specs.Computed.{ratio_near_answer}
+use Rattle.geo_seg.specs.declared.points.Point.{Point}
+use Rattle.geo_seg.specs.declared.shapes.Shape.{Shape}
+use Rattle.board_items.specs.declared.errors.BoardError.{BoardError}
+use Rattle.board_items.specs.declared.errors.BoardError.TheVariants.{BadNumber}
+use Rattle.part_read.specs.declared.numbers.Spot.{Spot}
+use Rattle.part_read.specs.Elements.{◌>>=◌, needed, place, element, atom_of}
+use Rattle.part_read.specs.Numbers.{read_as}
+use Rattle.part_read.specs.declared.radii.Radius.{Radius}
+use Rattle.pad_read.specs.Halves.{half_point}
+use Rattle.part_read.specs.Figures.{box_core, radius_of, around}
+use Rattle.pad_read.specs.declared.sizes.Sizes.{Sizes}
+use Rattle.pad_read.specs.declared.sizes.Cushion.{Cushion}
+use Rattle.pad_read.specs.PadSizes.{least_of}
+
+-- a disc as wide as the first size; the second one is not looked at
+abbrev pub circle_cushion : Sizes → Cushion
+circle_cushion s = record { x = pos 0; y = pos 0; radius = s.w }
+
+-- a rectangle with sharp corners
+abbrev pub rect_cushion : Sizes → Cushion
+rect_cushion s = record { x = s.w; y = s.h; radius = pos 0 }
+
+-- a line in its middle, drawn as wide as the smaller size
+abbrev pub oval_cushion : Sizes → Cushion
+oval_cushion s = let least = least_of s in record { x = s.w -ℤ least; y = s.h -ℤ least; radius = least }
+
+-- a box that the radius makes as large as the rectangle
+abbrev pub round_cushion : Sizes → ℤ → Cushion
+round_cushion s r = record { x = s.w -ℤ r; y = s.h -ℤ r; radius = r }
+
+-- what was read lies within reach of all sums
+pub record IsSmall (c : Cushion) : Type 0 where
+  pub x : unsigned_abs c.x ≤ 3000000000000
+  pub y : unsigned_abs c.y ≤ 3000000000000
+  pub radius : unsigned_abs c.radius ≤ 3000000000000
+
+-- ---- the radius of a rounded rectangle
+
+abbrev pub least_number : ℤ → ℤ → ℤ
+least_number a b = if int_le a b then a else b
+
+-- the ratio times a size, to the nearest nanometre; a size above 500 mm is refused after all elements, whatever its radius is
+unfoldable pub share_of : ℤ → Tree → Result ℤ BoardError
+share_of size atom = do
+  text ← needed (BadNumber (place atom)) (content atom)
+  read_as (BadNumber (place atom)) (ratio_near_answer text (least_number size (pos 500000000)))
+
+abbrev pub ratio_in : ℤ → Tree → Result ℤ BoardError
+ratio_in least atom = share_of least atom >>= λ share. Ok (least_number (pos 2 *ℤ share) least)
+
+abbrev pub round_by : ℤ → Option Tree → Result ℤ BoardError
+round_by least None = Ok (pos 0)
+round_by least (Some list) = atom_of 1 list >>= ratio_in least
+
+-- the radius in half nanometres: that share of the smaller size, or half of the size where the share is more
+unfoldable pub round_radius : Sizes → Tree → Result ℤ BoardError
+round_radius s tree = round_by (least_of s) (element (codes "roundrect_rratio") tree)
+
+-- ---- on the board
+
+-- turned by so many quarter turns
+abbrev pub turned_cushion : ℕ → Cushion → Cushion
+turned_cushion quarter c = if quarter % 2 == 0 then c else record { x = c.y; y = c.x; radius = c.radius }
+
+abbrev pub shape_between : Option Radius → Option Point → Option Point → Option Shape
+shape_between (Some r) (Some p) (Some q) = Some (around r (box_core p q))
+shape_between r p q = None
+
+-- the two corners of the box around this spot, if they lie on the board
+abbrev pub low_point : Spot → Cushion → Option Point
+low_point s c = half_point (record { x = (pos 2 *ℤ s.x) -ℤ c.x; y = (pos 2 *ℤ s.y) -ℤ c.y })
+
+abbrev pub high_point : Spot → Cushion → Option Point
+high_point s c = half_point (record { x = (pos 2 *ℤ s.x) +ℤ c.x; y = (pos 2 *ℤ s.y) +ℤ c.y })
+
+-- the shape around this spot, if it lies on the board
+abbrev pub cushion_at : Spot → Cushion → Option Shape
+cushion_at s c = shape_between (radius_of c.radius) (low_point s c) (high_point s c)

@@ -1,0 +1,41 @@
+-- Where something stands and how it is turned, as (at X Y ANGLE) says it, and its clearance, as (clearance C) does: of a footprint and of
+-- a pad alike.
+use Rattle.std.specs.Prelude.{ℕ, ℤ, pos, ◌/◌, ◌%◌, ◌==◌, unsigned_abs, codes, Option, None, Some, slice_get, Result, Ok, if◌then◌else◌}
+use Rattle.std.specs.Int.{int_rem_euclid}
+use Rattle.sexpr_read.specs.Tree.{Tree, parts, is_list}
+use Rattle.board_items.specs.declared.errors.BoardError.{BoardError}
+use Rattle.part_read.specs.Elements.{◌>>=◌, element, atom_of, in_needed}
+use Rattle.part_read.specs.Numbers.{length_in, spot_at}
+use Rattle.pad_read.specs.declared.postures.Posture.{Posture}
+
+-- ---- angles, read as lengths are: a quarter turn is 90,000,000
+
+abbrev pub angle_by : Option Tree → Result ℤ BoardError
+angle_by None = Ok (pos 0)
+angle_by (Some t) = if is_list t then Ok (pos 0) else length_in t
+
+-- the position and the angle of (at X Y ANGLE); an angle that is missing is 0
+unfoldable pub posture_at : Tree → Result Posture BoardError
+posture_at list = do
+  spot ← spot_at list
+  angle ← angle_by (slice_get (parts list) 3)
+  Ok (record { at = spot; angle = angle })
+
+abbrev pub posture_of : Tree → Result Posture BoardError
+posture_of tree = in_needed posture_at tree (element (codes "at") tree)
+
+-- how many quarter turns an angle is, of whole turns none, if it is a multiple of one
+abbrev pub quarters_by : ℕ → Option ℕ
+quarters_by rest = if rest % 90000000 == 0 then Some (rest / 90000000) else None
+
+abbrev pub quarters_of : ℤ → Option ℕ
+quarters_of angle = quarters_by (unsigned_abs (int_rem_euclid angle (pos 360000000)))
+
+-- ---- clearances, of which 0 and less count as none
+
+abbrev pub clearance_by : Option Tree → Result ℤ BoardError
+clearance_by None = Ok (pos 0)
+clearance_by (Some list) = atom_of 1 list >>= length_in
+
+unfoldable pub clearance_of : Tree → Result ℤ BoardError
+clearance_of tree = clearance_by (element (codes "clearance") tree)

@@ -1,0 +1,154 @@
+//! Custom pads.
+
+ghost use Rattle.std.specs.Prelude.{◌≡◌, ◌⊎◌, ◌++◌, ◌∷◌, [], OnOk, IfOk, All, option_map};
+ghost use Rattle.sexpr_read.specs.Tree.{parts};
+ghost use Rattle.sexpr_read.specs.Views.{tree_of, trees_left};
+ghost use Rattle.part_read.specs.Lists.{GivesItems, before};
+ghost use Rattle.part_read.specs.Nodes.{Gives};
+ghost use Rattle.part_read.specs.Figures.{IsDrawable};
+ghost use Rattle.pad_read.specs.PadSizes.{AreRead};
+ghost use Rattle.pad_read.specs.PadShapes.{IsSmall};
+ghost use Rattle.pad_read.specs.Taking.{TakesPrimitive};
+ghost use Rattle.pad_read.specs.CustomPads.{anchor_by_word, anchor_of, primitive_kind, primitive_by, primitives_among, primitives_of};
+
+use crate::cushions::{circle_cushion, rect_cushion};
+use crate::primitives::Primitives;
+use crate::sizes::{Cushion, Sizes};
+use board_items::BoardError;
+use part_read::{Drawing, Kind, drawing_of, element, first_atom, has_head, is_ring, place};
+use sexpr_read::Node;
+use std::alloc::{AllocError, Global};
+
+fn primitive_kind(node: Node<'_, '_>) -> Option<Kind>
+    ensures { result ≡ primitive_kind (tree_of node.entry) }
+{
+    if has_head(node, b"gr_line") {
+        return Some(Kind::Line);
+    }
+    if has_head(node, b"gr_rect") {
+        return Some(Kind::Rect);
+    }
+    if has_head(node, b"gr_circle") {
+        return Some(Kind::Circle);
+    }
+    if has_head(node, b"gr_poly") {
+        return Some(Kind::Outline);
+    }
+    None
+}
+
+fn one_drawing(alloc: Global, drawing: Drawing) -> Result<Vec<Drawing>, AllocError>
+    ensures { IfOk result (λ drawings. drawings.items ≡ drawing ∷ []) }
+{
+    let mut drawings = Vec::with_capacity(alloc, 1)?;
+    drawings.push(drawing)?;
+    Ok(drawings)
+}
+
+/// What a primitive draws: an open circle is refused at the pad, and a curve where it stands.
+fn primitive_by(
+    alloc: Global,
+    pad: Node<'_, '_>,
+    node: Node<'_, '_>,
+    kind: Option<Kind>,
+) -> Result<Vec<Drawing>, BoardError>
+    ensures drawings { GivesItems result (primitive_by (tree_of pad.entry) (tree_of node.entry) kind) }
+    ensures drawable { IfOk result (λ drawings. All IsDrawable drawings.items) }
+{
+    let Some(kind) = kind else {
+        if has_head(node, b"gr_arc") || has_head(node, b"gr_curve") {
+            return Err(BoardError::Arc { at: place(node) });
+        }
+        return Ok(Vec::new(alloc));
+    };
+    let drawing = drawing_of(alloc, kind, node)?;
+    if is_ring(&drawing) {
+        return Err(BoardError::Ring { at: place(pad) });
+    }
+    Ok(one_drawing(alloc, drawing)?)
+}
+
+fn anchor_by_word(
+    pad: Node<'_, '_>,
+    sizes: Sizes,
+    atom: Node<'_, '_>,
+) -> Result<Cushion, BoardError>
+    requires { AreRead sizes }
+    ensures anchor { result ≡ anchor_by_word (tree_of pad.entry) sizes (tree_of atom.entry) }
+    ensures small { IfOk result IsSmall }
+{
+    if atom.is(b"circle") {
+        return Ok(circle_cushion(sizes));
+    }
+    if atom.is(b"rect") {
+        return Ok(rect_cushion(sizes));
+    }
+    Err(BoardError::PadShape { at: place(pad) })
+}
+
+/// The anchor of a custom pad, a disc where it is missing.
+#[tactic(auto, unfolding(crate::specs::CustomPads::anchor_of))]
+pub fn anchor_of(sizes: Sizes, pad: Node<'_, '_>) -> Result<Cushion, BoardError>
+    requires { AreRead sizes }
+    ensures anchor { result ≡ anchor_of sizes (tree_of pad.entry) }
+    ensures small { IfOk result IsSmall }
+{
+    let Some(options) = element(pad, b"options") else {
+        return Ok(circle_cushion(sizes));
+    };
+    match element(options, b"anchor") {
+        None => Ok(circle_cushion(sizes)),
+        Some(list) => anchor_by_word(pad, sizes, first_atom(list)?),
+    }
+}
+
+fn append_all(drawings: &mut Vec<Drawing>, more: Vec<Drawing>) -> Result<(), AllocError>
+    ensures { OnOk result (drawings.new.items ≡ drawings.old.items ++ more.items) }
+{
+    for drawing in more {
+        drawings.push(drawing)?;
+    }
+    Ok(())
+}
+
+/// Takes what a part of the primitives draws.
+fn take_primitive(
+    alloc: Global,
+    pad: Node<'_, '_>,
+    part: Node<'_, '_>,
+    drawings: &mut Vec<Drawing>,
+) -> Result<(), BoardError>
+    requires { All IsDrawable drawings.old.items }
+    ensures taken { TakesPrimitive result (tree_of pad.entry) (tree_of part.entry) drawings.old.items drawings.new.items }
+    ensures drawable { OnOk result (All IsDrawable drawings.new.items) }
+{
+    let more = primitive_by(alloc, pad, part, primitive_kind(part))?;
+    append_all(drawings, more)?;
+    Ok(())
+}
+
+fn primitives_in(
+    alloc: Global,
+    pad: Node<'_, '_>,
+    list: Node<'_, '_>,
+) -> Result<Vec<Drawing>, BoardError>
+    ensures drawings { GivesItems result (primitives_among (tree_of pad.entry) (parts (tree_of list.entry))) }
+    ensures drawable { IfOk result (λ drawings. All IsDrawable drawings.items) }
+{
+    let mut drawings = Vec::new(alloc);
+    for part in list.children() {
+        take_primitive(alloc, pad, part, &mut drawings)?;
+    }
+    Ok(drawings)
+}
+
+/// What `(primitives ..)` draws.
+#[tactic(auto, unfolding(crate::specs::CustomPads::primitives_of))]
+pub fn primitives_of(alloc: Global, pad: Node<'_, '_>) -> Result<Primitives, BoardError>
+    ensures { Gives result (primitives_of (tree_of pad.entry)) }
+{
+    match element(pad, b"primitives") {
+        None => Ok(Primitives::none(alloc)),
+        Some(list) => Ok(Primitives::of(primitives_in(alloc, pad, list)?)),
+    }
+}

@@ -1,0 +1,64 @@
+//! The forms of pads.
+
+ghost use Rattle.std.specs.Prelude.{◌≡◌, [], All, IfOk};
+ghost use Rattle.sexpr_read.specs.Views.{tree_of};
+ghost use Rattle.part_read.specs.Nodes.{Gives};
+ghost use Rattle.part_read.specs.Figures.{IsDrawable};
+ghost use Rattle.pad_read.specs.PadSizes.{AreRead};
+ghost use Rattle.pad_read.specs.PadShapes.{IsSmall};
+ghost use Rattle.pad_read.specs.PadOf.{without_primitives, form_of};
+
+use crate::cushions::{circle_cushion, oval_cushion, rect_cushion, round_cushion, round_radius};
+use crate::customs::{anchor_of, primitives_of};
+use crate::pads::PadWord;
+use crate::primitives::Primitives;
+use crate::sizes::{Cushion, Sizes};
+use board_items::BoardError;
+use sexpr_read::Node;
+use std::alloc::Global;
+
+/// What a pad's copper is made of: all that is within a radius of a box, and what else is drawn.
+#[derive(Drop)]
+pub struct Form {
+    pub cushion: Cushion,
+    pub primitives: Primitives,
+}
+
+fn without_primitives(alloc: Global, cushion: Cushion) -> Form
+    ensures { result ≡ without_primitives cushion }
+{
+    Form {
+        cushion,
+        primitives: Primitives::none(alloc),
+    }
+}
+
+/// The form of a pad of this shape.
+pub fn form_of(
+    alloc: Global,
+    word: PadWord,
+    sizes: Sizes,
+    node: Node<'_, '_>,
+) -> Result<Form, BoardError>
+    requires { AreRead sizes }
+    ensures form { Gives result (form_of word sizes (tree_of node.entry)) }
+    ensures small { IfOk result (λ form. IsSmall form.cushion) }
+{
+    match word {
+        PadWord::Circle => Ok(without_primitives(alloc, circle_cushion(sizes))),
+        PadWord::Rect => Ok(without_primitives(alloc, rect_cushion(sizes))),
+        PadWord::Oval => Ok(without_primitives(alloc, oval_cushion(sizes))),
+        PadWord::RoundRect => {
+            let radius = round_radius(sizes, node)?;
+            Ok(without_primitives(alloc, round_cushion(sizes, radius)))
+        }
+        PadWord::Custom => {
+            let cushion = anchor_of(sizes, node)?;
+            let primitives = primitives_of(alloc, node)?;
+            Ok(Form {
+                cushion,
+                primitives,
+            })
+        }
+    }
+}

@@ -1,0 +1,35 @@
+//! Points at spots that count half nanometres.
+
+ghost use Rattle.std.specs.Prelude.{◌≡◌};
+ghost use Rattle.pad_read.specs.Halves.{is_near_half, fits_half, half_point};
+
+use geo_seg::Point;
+use part_read::Spot;
+
+/// The greatest coordinate: 500 mm.
+const GREATEST: u64 = 1_000_000_000;
+
+fn is_near_half(z: i64) -> bool
+    ensures { result ≡ is_near_half z }
+{
+    z.unsigned_abs() <= GREATEST
+}
+
+fn fits_half(spot: Spot) -> bool
+    ensures { result ≡ fits_half spot }
+{
+    is_near_half(spot.x) && is_near_half(spot.y)
+}
+
+/// The point at a spot that counts half nanometres, unless it lies off the board.
+pub fn half_point(spot: Spot) -> Option<Point>
+    ensures { result ≡ half_point spot }
+{
+    if !fits_half(spot) {
+        return None;
+    }
+    Some(Point {
+        x: spot.x,
+        y: spot.y,
+    })
+}

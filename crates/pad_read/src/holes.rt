@@ -1,0 +1,78 @@
+//! The holes of pads.
+
+ghost use Rattle.std.specs.Prelude.{◌≡◌, IfOk, IfSome};
+ghost use Rattle.part_read.specs.OnBoard.{tested, is_length};
+ghost use Rattle.part_read.specs.Stances.{IsWithin};
+ghost use Rattle.pad_read.specs.PadSizes.{AreRead, least_of};
+ghost use Rattle.pad_read.specs.PadFrames.{IsFramed, is_plated};
+ghost use Rattle.pad_read.specs.PadOf.{hole_with, hole_of, frame_hole};
+
+use crate::cushions::{cushion_at, oval_cushion, turned_cushion};
+use crate::pads::{Frame, PadType};
+use crate::sizes::{Sizes, least_of};
+use crate::turning::hole_sizes;
+use board_items::{Hole, LayerSet};
+use geo_seg::Shape;
+use part_read::{Spot, is_length};
+use std::alloc::{AllocError, Global};
+
+fn is_plated(pad_type: PadType) -> bool
+    ensures { result ≡ is_plated pad_type }
+{
+    matches!(pad_type, PadType::ThruHole)
+}
+
+fn hole_with(layers: LayerSet, plated: bool, sizes: Sizes, shape: Shape) -> Option<Hole>
+    ensures { result ≡ tested (is_length (least_of sizes)) (hole_with layers plated sizes shape) }
+{
+    let least = least_of(sizes);
+    if !is_length(least) {
+        return None;
+    }
+    Some(Hole {
+        shape,
+        layers,
+        plated,
+        least,
+    })
+}
+
+/// A hole of these sizes, round or oval, through these layers, unless it leaves the board.
+fn hole_of(
+    alloc: Global,
+    layers: LayerSet,
+    at: Spot,
+    quarter: u32,
+    plated: bool,
+    sizes: Option<Sizes>,
+) -> Result<Option<Option<Hole>>, AllocError>
+    requires at { IsWithin 3000000000000 at }
+    requires read { IfSome sizes AreRead }
+    ensures { IfOk result (λ hole. hole ≡ hole_of layers at quarter plated sizes) }
+{
+    let Some(sizes) = sizes else {
+        return Ok(Some(None));
+    };
+    let cushion = turned_cushion(quarter, oval_cushion(sizes));
+    let Some(shape) = cushion_at(alloc, at, cushion)? else {
+        return Ok(None);
+    };
+    match hole_with(layers, plated, sizes, shape) {
+        Some(hole) => Ok(Some(Some(hole))),
+        None => Ok(None),
+    }
+}
+
+/// The hole of a pad, if it has one, unless it leaves the board. It stands at the position of the pad and is turned with it.
+pub fn frame_hole(
+    alloc: Global,
+    copper: LayerSet,
+    frame: Frame,
+) -> Result<Option<Option<Hole>>, AllocError>
+    requires { IsFramed frame }
+    ensures { IfOk result (λ hole. hole ≡ frame_hole copper frame) }
+{
+    let sizes = hole_sizes(frame.pad_type, frame.drilling.sizes);
+    let plated = is_plated(frame.pad_type);
+    hole_of(alloc, copper, frame.at, frame.quarter, plated, sizes)
+}

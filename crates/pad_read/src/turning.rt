@@ -1,0 +1,117 @@
+//! How pads are turned, and what must be at most 500 mm.
+
+ghost use Rattle.std.specs.Prelude.{◌≡◌, ◌<◌, pos, IfSome};
+ghost use Rattle.part_read.specs.Stances.{IsWithin};
+ghost use Rattle.pad_read.specs.PadFrames.{hole_sizes, is_round_hole, is_turning, quarter_of};
+ghost use Rattle.pad_read.specs.PadOf.{sizes_fit, some_fit, local_of, equals_drill, has_copper};
+
+use crate::pads::{PadType, PadWord};
+use crate::postures::{Posture, quarters_of};
+use crate::sizes::{Drilling, Sizes, are_equal};
+use crate::words::has_hole;
+use board_items::{LayerSet, Nm};
+use part_read::{Spot, is_length};
+
+/// The sizes of the hole of a pad, if it has one.
+pub fn hole_sizes(pad_type: PadType, sizes: Option<Sizes>) -> Option<Sizes>
+    ensures { result ≡ hole_sizes pad_type sizes }
+{
+    if has_hole(pad_type) { sizes } else { None }
+}
+
+fn is_round_hole(hole: Option<Sizes>) -> bool
+    ensures { result ≡ is_round_hole hole }
+{
+    match hole {
+        None => true,
+        Some(sizes) => sizes.w == sizes.h,
+    }
+}
+
+/// Whether nothing shows how it is turned.
+fn is_turning(word: PadWord, offset: Spot, hole: Option<Sizes>) -> bool
+    ensures { result ≡ is_turning word offset hole }
+{
+    matches!(word, PadWord::Circle) && (offset.x == 0 && offset.y == 0) && is_round_hole(hole)
+}
+
+/// How many quarter turns a pad is turned, of whole turns none.
+pub fn quarter_of(
+    word: PadWord,
+    drilling: Drilling,
+    pad_type: PadType,
+    posture: Posture,
+) -> Option<u32>
+    ensures quarter { result ≡ quarter_of word drilling pad_type posture.angle }
+    ensures below { IfSome result (λ quarter. quarter < 4) }
+{
+    if let Some(quarter) = quarters_of(posture) {
+        return Some(quarter);
+    }
+    if is_turning(word, drilling.offset, hole_sizes(pad_type, drilling.sizes)) {
+        return Some(0);
+    }
+    None
+}
+
+/// Whether both sizes are at most 500 mm.
+pub fn sizes_fit(sizes: Sizes) -> bool
+    ensures { result ≡ sizes_fit sizes }
+{
+    is_length(sizes.w) && is_length(sizes.h)
+}
+
+/// Whether both are, if there are sizes.
+pub fn some_fit(sizes: Option<Sizes>) -> bool
+    ensures { result ≡ some_fit sizes }
+{
+    match sizes {
+        None => true,
+        Some(sizes) => sizes_fit(sizes),
+    }
+}
+
+// ---- clearances and copper
+
+/// The clearance of a pad: its own, else that of the footprint; 0 and less count as none.
+pub fn local_of(own: &Clearances) -> Option<Nm>
+    ensures { result ≡ local_of own.now.own own.now.of_footprint }
+{
+    if 0 < own.own {
+        return Some(own.own);
+    }
+    if 0 < own.of_footprint {
+        return Some(own.of_footprint);
+    }
+    None
+}
+
+/// The clearances that a pad may have.
+#[derive(Clone, Copy, Debug, PartialEq, Eq, Drop)]
+pub struct Clearances {
+    pub own: Nm,
+    pub of_footprint: Nm,
+}
+
+/// Whether the hole is as large as the pad.
+fn equals_drill(sizes: Sizes, drill: Option<Sizes>) -> bool
+    ensures { result ≡ equals_drill sizes drill }
+{
+    match drill {
+        None => false,
+        Some(hole) => are_equal(sizes, hole),
+    }
+}
+
+/// Whether a pad has copper: it lies on a copper layer, and is more than a hole that is not plated.
+pub fn has_copper(pad_type: PadType, layers: LayerSet, sizes: Sizes, drill: Option<Sizes>) -> bool
+    ensures { result ≡ has_copper pad_type layers sizes drill }
+{
+    if layers.bits == 0 {
+        return false;
+    }
+    match pad_type {
+        PadType::NpThruHole => !equals_drill(sizes, drill),
+        PadType::ThruHole | PadType::Smd | PadType::Connect => true,
+    }
+}
