@@ -3,6 +3,7 @@ pub mod Climbing
 pub mod Theory
 pub mod Squares
 pub mod Order
+pub mod Waits
 pub mod Grown
 pub mod Whole
 pub mod Pairs

@@ -1,9 +1,10 @@
 -- Words of the search that grows one group.
-use Rattle.std.specs.Prelude.{◌≡◌, ℕ, ◌+◌, ◌-◌, ◌*◌, ◌≤◌, ◌<◌, min, max, ◌⊎◌, Bool, true, false, List, length, slice_index, slice_index_or, count_by}
+use Rattle.std.specs.Prelude.{◌≡◌, ◌≢◌, All, Contains, ℕ, ◌+◌, ◌-◌, ◌*◌, ◌≤◌, ◌<◌, min, max, ◌⊎◌, Bool, true, false, List, length, slice_index, slice_index_or, count_by}
 use Rattle.ratsnest.specs.declared.anchor.Anchor.{Anchor}
 use Rattle.ratsnest.specs.declared.link.Link.{Link}
 use Rattle.ratsnest.specs.Mem.{Mem, Climbs}
-use Rattle.ratsnest.specs.NestOf.{group_at, group_count, square_between, IsLink, InNest}
+use Rattle.ratsnest.specs.declared.waiting.Waiting.{Waiting}
+use Rattle.ratsnest.specs.NestOf.{anchor_at, group_at, group_count, square_of, square_between, IsLink, InNest}
 
 -- the place of a link in the order, as one number
 abbrev pub rank : Link → ℕ
@@ -17,45 +18,69 @@ link_at anchors i j =
 abbrev pub rank_at : List Anchor → ℕ → ℕ → ℕ
 rank_at anchors i j = rank (link_at anchors i j)
 
--- the anchor that j was near, or i, whichever has the lesser link to j
-pub record IsNearer (anchors : List Anchor) (i j old new : ℕ) : Type 0 where
-  pub choice : (new ≡ old) ⊎ (new ≡ i)
-  pub not_old : rank_at anchors new j ≤ rank_at anchors old j
-  pub not_i : rank_at anchors new j ≤ rank_at anchors i j
+-- the link of two anchors
+unfoldable pub link_between : Waiting → Waiting → Link
+link_between m w = record { square = square_of m.anchor w.anchor; first = min m.place w.place; second = max m.place w.place }
 
--- the same over all anchors of a group
-pub record IsNearest (anchors : List Anchor) (group j old new : ℕ) : Type 0 where
-  pub choice : (new ≡ old) ⊎ (group_at anchors new ≡ group)
-  pub not_old : rank_at anchors new j ≤ rank_at anchors old j
-  pub not_others : (i : ℕ) → i < length anchors → group_at anchors i ≡ group → rank_at anchors new j ≤ rank_at anchors i j
+-- an anchor waits with its link from the first one
+pub record IsFirst (anchors : List Anchor) (j : ℕ) (w : Waiting) : Type 0 where
+  pub place : w.place ≡ j
+  pub anchor : w.anchor ≡ anchor_at anchors j
+  pub link : w.link ≡ link_at anchors 0 j
 
-abbrev pub AreWithin : List Anchor → List ℕ → Type 0
-AreWithin anchors near = (j : ℕ) → j < length near → slice_index near j < length anchors
+-- what waited keeps the link that it had, or that from m, whichever is less
+pub record IsDrawn (m old new : Waiting) : Type 0 where
+  pub place : new.place ≡ old.place
+  pub anchor : new.anchor ≡ old.anchor
+  pub choice : (new.link ≡ old.link) ⊎ (new.link ≡ link_between m old)
+  pub not_old : rank new.link ≤ rank old.link
+  pub not_m : rank new.link ≤ rank (link_between m old)
+
+-- the same over a list
+pub record IsDrawnToAll (joined : List Waiting) (old new : Waiting) : Type 0 where
+  pub place : new.place ≡ old.place
+  pub anchor : new.anchor ≡ old.anchor
+  pub choice : (new.link ≡ old.link) ⊎ ((m : Waiting) × Contains joined m × (new.link ≡ link_between m old))
+  pub not_old : rank new.link ≤ rank old.link
+  pub not_others : (k : ℕ) (d : Waiting) → k < length joined → rank new.link ≤ rank (link_between (slice_index_or joined k d) old)
+
+-- the same over all of a group that were waiting
+pub record IsNearest (group : ℕ) (were : List Waiting) (old new : Waiting) : Type 0 where
+  pub place : new.place ≡ old.place
+  pub anchor : new.anchor ≡ old.anchor
+  pub choice : (new.link ≡ old.link) ⊎ ((m : Waiting) × Contains were m × (m.anchor.group ≡ group) × (new.link ≡ link_between m old))
+  pub not_old : rank new.link ≤ rank old.link
+  pub not_others : (m : Waiting) → Contains were m → m.anchor.group ≡ group → rank new.link ≤ rank (link_between m old)
+
+-- the group is reached: what is not of it still waits, with the least links
+pub record IsReach (group : ℕ) (old new : List Waiting) : Type 0 where
+  pub rest : All (λ (w : Waiting). w.anchor.group ≢ group) new
+  pub from : All (λ (w : Waiting). (o : Waiting) × Contains old o × IsNearest group old o w) new
+  pub whole : (o : Waiting) → Contains old o → (o.anchor.group ≡ group) ⊎ ((w : Waiting) × Contains new w × (w.place ≡ o.place))
 
 -- the group of the anchor is reached
 abbrev pub is_reached : List Anchor → List Bool → ℕ → Bool
 is_reached anchors reached i = slice_index_or reached (group_at anchors i) false
 
--- the anchor is not reached, and no anchor that is not reached has a lesser link to what is near it
-pub record IsNext (anchors : List Anchor) (reached : List Bool) (near : List ℕ) (j : ℕ) : Type 0 where
-  pub within : j < length anchors
-  pub outside : is_reached anchors reached j ≡ false
-  pub least : (k : ℕ) → k < length anchors → is_reached anchors reached k ≡ false →
-      rank_at anchors (slice_index near j) j ≤ rank_at anchors (slice_index near k) k
+-- what waits is not reached, and its link is the least from what is reached
+pub record IsHeld (anchors : List Anchor) (reached : List Bool) (w : Waiting) : Type 0 where
+  pub within : w.place < length anchors
+  pub anchor : w.anchor ≡ anchor_at anchors w.place
+  pub outside : is_reached anchors reached w.place ≡ false
+  pub near : (i : ℕ) × (i < length anchors) × (is_reached anchors reached i ≡ true) × (w.link ≡ link_at anchors i w.place)
+  pub least : (i : ℕ) → i < length anchors → is_reached anchors reached i ≡ true → rank w.link ≤ rank_at anchors i w.place
 
 -- what holds while the search grows
-pub record IsGrown (anchors : List Anchor) (reached : List Bool) (near : List ℕ) (links : List Link) : Type 0 where
+pub record IsGrown (anchors : List Anchor) (reached : List Bool) (waiting : List Waiting) (links : List Link) : Type 0 where
   pub flags : length reached ≡ group_count anchors
-  pub places : length near ≡ length anchors
   pub counted : count_by (λ b. b) reached ≡ length links + 1
   pub climbs : Climbs rank links
   pub nest : (l : Link) → Mem l links → InNest anchors l
   pub inside : (l : Link) → Mem l links → (is_reached anchors reached l.first ≡ true) × (is_reached anchors reached l.second ≡ true)
   pub joined : (c : ℕ → ℕ) → ((l : Link) → Mem l links → c (group_at anchors l.first) ≡ c (group_at anchors l.second)) →
       (g h : ℕ) → slice_index_or reached g false ≡ true → slice_index_or reached h false ≡ true → c g ≡ c h
-  pub near_in : (j : ℕ) → j < length anchors → (slice_index near j < length anchors) × (is_reached anchors reached (slice_index near j) ≡ true)
-  pub nearest : (i j : ℕ) → i < length anchors → j < length anchors → is_reached anchors reached i ≡ true →
-      rank_at anchors (slice_index near j) j ≤ rank_at anchors i j
+  pub held : All (IsHeld anchors reached) waiting
+  pub whole : (j : ℕ) → j < length anchors → is_reached anchors reached j ≡ false → (w : Waiting) × Contains waiting w × (w.place ≡ j)
 
 -- what the search leaves: links of the nest that join all groups
 pub record AreChosen (anchors : List Anchor) (links : List Link) : Type 0 where

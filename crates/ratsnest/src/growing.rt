@@ -1,73 +1,21 @@
 //! The nest, found by growing one group: again and again the least link that leaves what is reached.
 //!
-//! Of each anchor the reached anchor is kept to which it has the least link. So growing takes the square of the number of
-//! anchors in time, and memory linear in it.
+//! Of each anchor that is not reached yet the least link from what is reached is kept. So each two anchors of different groups
+//! are measured once: growing takes the square of the number of anchors in time, and memory linear in it.
 
-ghost use Rattle.std.specs.Prelude.{◌≡◌, ◌<◌, ◌^◌, ◌+◌, ◌-◌, ◌≢◌, ℕ, length, OnOk, slice_index, MatchOption, ◌⊎◌, true, false, IfOk, All, replicate, []};
+ghost use Rattle.std.specs.Prelude.{◌≡◌, ◌<◌, ◌^◌, ◌+◌, ◌-◌, ◌≢◌, ℕ, length, OnOk, slice_index_or, ◌⊎◌, false, IfOk, All, replicate, []};
 ghost use Rattle.ratsnest.specs.declared.link.Link.{Link};
 ghost use Rattle.ratsnest.specs.NestOf.{group_at, group_count, Rise, GroupsOccur, IsNest, HasPlaces, IsLeast, JoinAll};
-ghost use Rattle.ratsnest.specs.Grow.{rank, IsNearer, IsNearest, AreWithin, IsNext, is_reached, AreChosen, IsGrown};
+ghost use Rattle.ratsnest.specs.Grow.{rank, AreChosen, IsGrown, IsFirst};
+ghost use Rattle.ratsnest.specs.declared.waiting.Waiting.{Waiting};
 ghost use Rattle.ratsnest.specs.Mem.{Mem, Climbs};
 
 use crate::anchor::Anchor;
 use crate::link::Link;
 use crate::links::{Links, Nest};
-use crate::places::{count_groups, group_of, link_of, precedes};
+use crate::places::{count_groups, group_of, precedes};
+use crate::waiting::{Waiting, all_waiting, least, reach};
 use std::alloc::{AllocError, Global};
-
-// Where the anchor i is nearer, it is put in.
-fn draw_near(anchors: &[Anchor], near: &mut [usize], i: usize)
-    requires few { length anchors.now < 2 ^ 32 }
-    requires i { i < length anchors.now }
-    requires len { length near.old ≡ length anchors.now }
-    requires within { AreWithin anchors.now near.old }
-    ensures within { AreWithin anchors.now near.new }
-    ensures nearer { (j : ℕ) → j < length near.new → IsNearer anchors.now i j (slice_index near.old j) (slice_index near.new j) }
-{
-    for j in 0..near.len() {
-        if precedes(link_of(anchors, i, j), link_of(anchors, near[j], j)) {
-            near[j] = i;
-        }
-    }
-}
-
-// The anchors of a group are reached.
-fn reach(anchors: &[Anchor], near: &mut [usize], group: u32)
-    requires few { length anchors.now < 2 ^ 32 }
-    requires len { length near.old ≡ length anchors.now }
-    requires within { AreWithin anchors.now near.old }
-    ensures within { AreWithin anchors.now near.new }
-    ensures nearest { (j : ℕ) → j < length near.new → IsNearest anchors.now group j (slice_index near.old j) (slice_index near.new j) }
-{
-    for i in 0..anchors.len() {
-        if group_of(anchors, i) == group {
-            draw_near(anchors, near, i);
-        }
-    }
-}
-
-// The anchor that is not reached with the least link to what is near it.
-fn least_leaving(anchors: &[Anchor], reached: &[bool], near: &[usize]) -> Option<usize>
-    requires few { length anchors.now < 2 ^ 32 }
-    requires len { length near.now ≡ length anchors.now }
-    requires within { AreWithin anchors.now near.now }
-    requires groups { (i : ℕ) → i < length anchors.now → group_at anchors.now i < length reached.now }
-    ensures { MatchOption result ((k : ℕ) → k < length anchors.now → is_reached anchors.now reached.now k ≡ true) (IsNext anchors.now reached.now near.now) }
-{
-    let mut next: Option<usize> = None;
-    for j in 0..anchors.len() {
-        if !reached[group_of(anchors, j) as usize] {
-            let nearer = match next {
-                None => true,
-                Some(k) => precedes(link_of(anchors, near[j], j), link_of(anchors, near[k], k)),
-            };
-            if nearer {
-                next = Some(j);
-            }
-        }
-    }
-    next
-}
 
 // Puts a link where it belongs in the order.
 fn add_link(links: &mut Vec<Link>, link: Link) -> Result<(), AllocError>
@@ -86,25 +34,25 @@ fn add_link(links: &mut Vec<Link>, link: Link) -> Result<(), AllocError>
     Ok(())
 }
 
-// The group of the anchor j is reached, by its least link.
+// The group of what waits with the least link is reached, by that link.
 fn take_in(
     anchors: &[Anchor],
     reached: &mut [bool],
-    near: &mut [usize],
+    waiting: &mut Vec<Waiting>,
+    joined: &mut Vec<Waiting>,
     links: &mut Vec<Link>,
-    j: usize,
 ) -> Result<(), AllocError>
     requires rise { Rise anchors.now }
     requires few { length anchors.now < 2 ^ 32 }
-    requires grown { IsGrown anchors.now reached.old near.old links.old.items }
-    requires next { IsNext anchors.now reached.old near.old j }
-    ensures grown { OnOk result (IsGrown anchors.now reached.new near.new links.new.items) }
+    requires grown { IsGrown anchors.now reached.old waiting.old.items links.old.items }
+    requires some { 0 < length waiting.old.items }
+    ensures grown { OnOk result (IsGrown anchors.now reached.new waiting.new.items links.new.items) }
     ensures len { OnOk result (length links.new.items ≡ length links.old.items + 1) }
 {
-    let group = group_of(anchors, j);
-    add_link(links, link_of(anchors, near[j], j))?;
-    reached[group as usize] = true;
-    reach(anchors, near, group);
+    let next = waiting[least(waiting)];
+    add_link(links, next.link)?;
+    reached[next.anchor.group as usize] = true;
+    reach(waiting, joined, next.anchor.group)?;
     Ok(())
 }
 
@@ -112,32 +60,40 @@ fn take_in(
 fn grow_on(
     anchors: &[Anchor],
     reached: &mut [bool],
-    near: &mut [usize],
+    waiting: &mut Vec<Waiting>,
+    joined: &mut Vec<Waiting>,
     links: &mut Vec<Link>,
 ) -> Result<(), AllocError>
     requires rise { Rise anchors.now }
     requires occur { GroupsOccur anchors.now }
     requires few { length anchors.now < 2 ^ 32 }
-    requires grown { IsGrown anchors.now reached.old near.old links.old.items }
+    requires grown { IsGrown anchors.now reached.old waiting.old.items links.old.items }
     ensures { OnOk result (AreChosen anchors.now links.new.items) }
 {
-    while let Some(j) = least_leaving(anchors, reached, near) {
-        take_in(anchors, reached, near, links, j)?;
+    'grow: while !waiting.is_empty() {
+        take_in(anchors, reached, waiting, joined, links)?;
     }
     Ok(())
 }
 
 // Only the first anchor's group is reached.
-fn start(anchors: &[Anchor], reached: &mut [bool], near: &mut [usize])
+fn start(
+    anchors: &[Anchor],
+    reached: &mut [bool],
+    waiting: &mut Vec<Waiting>,
+    joined: &mut Vec<Waiting>,
+) -> Result<(), AllocError>
     requires few { length anchors.now < 2 ^ 32 }
     requires some { 0 < length anchors.now }
     requires reached { reached.old ≡ replicate (group_count anchors.now) false }
-    requires near { near.old ≡ replicate (length anchors.now) 0 }
-    ensures { IsGrown anchors.now reached.new near.new [] }
+    requires len { length waiting.old.items ≡ length anchors.now }
+    requires each { (k : ℕ) (d : Waiting) → k < length waiting.old.items → IsFirst anchors.now k (slice_index_or waiting.old.items k d) }
+    ensures { OnOk result (IsGrown anchors.now reached.new waiting.new.items []) }
 {
     let group = group_of(anchors, 0);
     reached[group as usize] = true;
-    reach(anchors, near, group);
+    reach(waiting, joined, group)?;
+    Ok(())
 }
 
 // The links of the nest.
@@ -154,16 +110,18 @@ fn grow(alloc: Global, anchors: &[Anchor]) -> Result<Vec<Link>, AllocError>
         return Ok(links);
     }
     let mut reached = vec![in alloc; false; count]?;
-    let mut near = vec![in alloc; 0; anchors.len()]?;
-    start(anchors, &mut reached, &mut near);
-    grow_on(anchors, &mut reached, &mut near, &mut links)?;
+    let mut waiting = all_waiting(alloc, anchors)?;
+    let mut joined = Vec::new(alloc);
+    start(anchors, &mut reached, &mut waiting, &mut joined)?;
+    grow_on(anchors, &mut reached, &mut waiting, &mut joined, &mut links)?;
     Ok(links)
 }
 
 /// The nest of the anchors: in order, each link of two groups that all lesser links together leave apart. Links are ordered by
 /// the square of their distance, then by id and number of the first anchor, then of the second.
 ///
-/// The nest joins all groups, by one link less than there are groups, at the least sum of squares that does so. Anchors rise by id and number, and each group from 0 to the greatest occurs. Only want of memory refuses it.
+/// The nest joins all groups, by one link less than there are groups, at the least sum of squares that does so. Anchors rise by
+/// id and number, and each group from 0 to the greatest occurs. Only want of memory refuses it.
 /// Anchors of one group cost one look at each.
 pub fn nest(alloc: Global, anchors: &[Anchor]) -> Result<Nest, AllocError>
     requires rise { Rise anchors.now }

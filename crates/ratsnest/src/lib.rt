@@ -11,6 +11,7 @@ mod link;
 mod links;
 mod lists;
 mod places;
+mod waiting;
 
 pub use anchor::Anchor;
 pub use checking::check_nest;

@@ -1,6 +1,6 @@
 //! Anchors and links by their places in a list of anchors. None of these calls takes memory.
 
-ghost use Rattle.std.specs.Prelude.{◌≡◌, ◌<◌, ◌^◌, ◌↔◌, IsTrue, length, ◌≤◌, unsigned_abs, ◌-ℤ◌};
+ghost use Rattle.std.specs.Prelude.{◌≡◌, ◌<◌, ◌^◌, ◌↔◌, IsTrue, length, ◌≤◌, unsigned_abs, ◌-ℤ◌, ◌*◌};
 ghost use Rattle.ratsnest.specs.Reach.{IsInReach};
 ghost use Rattle.ratsnest.specs.NestOf.{group_at, group_count, square_of, square_between};
 ghost use Rattle.ratsnest.specs.Grow.{rank, link_at};
@@ -16,24 +16,22 @@ pub(crate) fn group_of(anchors: &[Anchor], i: usize) -> u32
     anchors[i].group
 }
 
-#[tactic(auto, using(crate::proofs::Squares::span))]
-fn gap(a: i64, b: i64) -> u64
+// The square of the difference.
+fn square_apart(a: i64, b: i64) -> u64
     requires a { IsInReach a }
     requires b { IsInReach b }
-    ensures value { result ≡ unsigned_abs (a -ℤ b) }
-    ensures bound { result ≤ 1000000000 }
+    ensures value { result ≡ unsigned_abs (a -ℤ b) * unsigned_abs (a -ℤ b) }
+    ensures bound { result ≤ 1000000000000000000 }
 {
-    a.abs_diff(b)
+    let apart = a - b;
+    (apart * apart) as u64
 }
 
 // The square of the distance.
-#[tactic(auto, using(crate::proofs::Squares::squares))]
-fn square(a: Anchor, b: Anchor) -> u64
+pub(crate) fn square(a: Anchor, b: Anchor) -> u64
     ensures { result ≡ square_of a b }
 {
-    let across = gap(a.x, b.x);
-    let up = gap(a.y, b.y);
-    across * across + up * up
+    square_apart(a.x, b.x) + square_apart(a.y, b.y)
 }
 
 #[tactic(auto, unfolding(crate::specs::NestOf::square_between))]
@@ -68,6 +66,13 @@ pub(crate) fn precedes(a: Link, b: Link) -> bool
 {
     a.square < b.square
         || a.square == b.square && (a.first < b.first || a.first == b.first && a.second < b.second)
+}
+
+// Whether the link stands before all links of this square.
+pub(crate) fn is_below(link: Link, square: u64) -> bool
+    ensures { IsTrue result → rank link < square * 18446744073709551616 }
+{
+    link.square < square
 }
 
 // How many groups there are.

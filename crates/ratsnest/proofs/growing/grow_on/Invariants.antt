@@ -3,8 +3,8 @@ use Rattle.ratsnest.specs.NestOf.{group_count}
 use Rattle.ratsnest.specs.Grow.{IsGrown}
 use Rattle.ratsnest.proofs.growing.grow_on.Given as goal
 
-abbrev pub invariant-loop-j : goal.invariant-loop-j
-invariant-loop-j l = IsGrown l.anchors l.reached l.near l.links.items
+abbrev pub invariant-grow : goal.invariant-grow
+invariant-grow l = IsGrown l.anchors l.reached l.waiting.items l.links.items
 
-abbrev pub decreases-loop-j : goal.decreases-loop-j
-decreases-loop-j l = group_count l.anchors - length l.links.items
+abbrev pub decreases-grow : goal.decreases-grow
+decreases-grow l = group_count l.anchors - length l.links.items

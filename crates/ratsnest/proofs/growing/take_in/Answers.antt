@@ -1,25 +1,34 @@
-use Rattle.std.proofs.Common.{◌≡◌, ◌<◌, length, get_or, arith}
-use Rattle.ratsnest.specs.NestOf.{group_at}
-use Rattle.ratsnest.specs.Grow.{link_at}
-use Rattle.ratsnest.proofs.Grown.{group_below, grown_step, next_is_new}
+use Rattle.std.proofs.Common.{◌<◌, length, Contains, sym}
+use Rattle.ratsnest.specs.declared.waiting.Waiting.{Waiting}
+use Rattle.ratsnest.proofs.Waits.{least_is}
+use Rattle.ratsnest.proofs.Grown.{next_is_new, group_fits, grown_taken}
 use Rattle.ratsnest.proofs.growing.take_in.Goals as goal
 
 pub add_link-requires-clause-other : goal.add_link-requires-clause-other
 add_link-requires-clause-other c =
-    λ l m. rw c.link_of.ensures (next_is_new c.args.anchors.now c.requires.rise c.requires.few c.args.reached.now c.args.near.now c.args.links.now.items
-    c.requires.grown c.args.j c.requires.next l m)
+    let waiting = c.args.waiting.now.items in
+    let e : Waiting = c.index-next.result.now in
+    let h : c.least.result < length waiting = rw c.deref.ensures.value at c.least.ensures.within in
+    let has : Contains waiting e = (c.least.result, h, sym c.index-next.ensures) in
+    next_is_new c.args.anchors.now c.requires.rise c.requires.few c.args.reached.now waiting c.args.links.now.items c.requires.grown e has
+    (least_is waiting c.least.result e h c.index-next.ensures (rw c.deref.ensures.value at c.least.ensures.least))
 
-pub bounds-reached-group : goal.bounds-reached-group
-bounds-reached-group c =
-    omega (arith, group_below c.args.anchors.now c.args.j c.requires.next.within, c.group_of-group.ensures, c.requires.grown.flags)
+pub bounds-reached-next : goal.bounds-reached-next
+bounds-reached-next c =
+    let waiting = c.args.waiting.now.items in
+    let e : Waiting = c.index-next.result.now in
+    let h : c.least.result < length waiting = rw c.deref.ensures.value at c.least.ensures.within in
+    let has : Contains waiting e = (c.least.result, h, sym c.index-next.ensures) in
+    group_fits c.args.anchors.now c.requires.rise c.requires.few c.args.reached.now waiting c.args.links.now.items c.requires.grown e has
+    (least_is waiting c.least.result e h c.index-next.ensures (rw c.deref.ensures.value at c.least.ensures.least))
 
 pub returns-clause-grown : goal.returns-clause-grown
 returns-clause-grown c =
-    let fits : group_at c.args.anchors.now c.args.j < length c.args.reached.now =
-    omega (arith, group_below c.args.anchors.now c.args.j c.requires.next.within, c.requires.grown.flags) in
-    let e : c.group_of-group.result ≡ group_at c.args.anchors.now c.args.j = c.group_of-group.ensures in
-    let k : c.link_of.result ≡ link_at c.args.anchors.now (get_or c.args.near.now c.args.j 0) c.args.j = c.link_of.ensures in
-    rw e (grown_step c.args.anchors.now c.requires.rise c.requires.few c.args.reached.now c.args.near.now c.args.links.now.items
-    c.requires.grown c.args.j c.requires.next fits c.reach.new.near c.add_link.new.links.items
-    c.reach.auto.near c.reach.ensures.within (rw e at c.reach.ensures.nearest) c.in_ok-add_link.ensures.climbs c.in_ok-add_link.ensures.len
-    (rw k at c.in_ok-add_link.ensures.whole) (rw k at c.in_ok-add_link.ensures.sound))
+    let waiting = c.args.waiting.now.items in
+    let e : Waiting = c.index-next.result.now in
+    let h : c.least.result < length waiting = rw c.deref.ensures.value at c.least.ensures.within in
+    let has : Contains waiting e = (c.least.result, h, sym c.index-next.ensures) in
+    grown_taken c.args.anchors.now c.requires.rise c.requires.few c.args.reached.now waiting c.args.links.now.items c.requires.grown e has
+    (least_is waiting c.least.result e h c.index-next.ensures (rw c.deref.ensures.value at c.least.ensures.least))
+    c.reach.new.waiting.items c.add_link.new.links.items c.in_ok-reach.ensures
+    c.in_ok-add_link.ensures.climbs c.in_ok-add_link.ensures.len c.in_ok-add_link.ensures.whole c.in_ok-add_link.ensures.sound

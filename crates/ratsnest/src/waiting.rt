@@ -1,0 +1,136 @@
+//! Anchors that are not reached yet, each with its least link from what is reached.
+
+ghost use Rattle.std.specs.Prelude.{◌≡◌, ◌≢◌, ◌<◌, ◌≤◌, ◌^◌, ◌++◌, IsTrue, ℕ, length, OnOk, IfOk, All, [], slice_index_or};
+ghost use Rattle.std.specs.List.Sorted.{IsPermutation};
+ghost use Rattle.ratsnest.specs.declared.waiting.Waiting.{Waiting};
+ghost use Rattle.ratsnest.specs.Grow.{rank, link_between, IsDrawn, IsDrawnToAll, IsReach, IsFirst};
+
+use crate::anchor::Anchor;
+use crate::link::Link;
+use crate::places::{is_below, link_of, precedes, square};
+use std::alloc::{AllocError, Global};
+
+/// An anchor that is not reached, its place in the list of anchors, and its least link from an anchor that is reached.
+#[derive(Clone, Copy, Drop)]
+pub(crate) struct Waiting {
+    pub(crate) anchor: Anchor,
+    pub(crate) place: u32,
+    pub(crate) link: Link,
+}
+
+// The link of two anchors.
+#[tactic(auto, unfolding(crate::specs::Grow::link_between))]
+fn link_between(from: &Waiting, to: &Waiting) -> Link
+    ensures { result ≡ link_between from.now to.now }
+{
+    Link {
+        square: square(from.anchor, to.anchor),
+        first: from.place.min(to.place),
+        second: from.place.max(to.place),
+    }
+}
+
+// Whether the distance alone says that the link is no less than the one that is kept.
+fn is_farther(held: &Waiting, from: &Waiting) -> bool
+    ensures { IsTrue result → rank held.now.link ≤ rank (link_between from.now held.now) }
+{
+    is_below(held.link, square(from.anchor, held.anchor))
+}
+
+// Keeps the link from this anchor if it is less.
+fn draw(held: &mut Waiting, from: &Waiting)
+    ensures { IsDrawn from.now held.old held.new }
+{
+    if is_farther(held, from) {
+        return;
+    }
+    let link = link_between(from, held);
+    if precedes(link, held.link) {
+        held.link = link;
+    }
+}
+
+fn draw_near(waiting: &mut [Waiting], from: &Waiting)
+    ensures { (k : ℕ) (d : Waiting) → k < length waiting.new → IsDrawn from.now (slice_index_or waiting.old k d) (slice_index_or waiting.new k d) }
+{
+    for held in waiting.iter_mut() {
+        draw(held, from);
+    }
+}
+
+// Keeps the least of the links from these anchors and the one that is kept.
+fn draw_to_all(waiting: &mut [Waiting], joined: &[Waiting])
+    ensures { (k : ℕ) (d : Waiting) → k < length waiting.new → IsDrawnToAll joined.now (slice_index_or waiting.old k d) (slice_index_or waiting.new k d) }
+{
+    for from in joined {
+        draw_near(waiting, from);
+    }
+}
+
+// Takes out the anchors of a group.
+fn take_out(
+    waiting: &mut Vec<Waiting>,
+    joined: &mut Vec<Waiting>,
+    group: u32,
+) -> Result<(), AllocError>
+    requires { joined.old.items ≡ [] }
+    ensures all { OnOk result (IsPermutation waiting.old.items (joined.new.items ++ waiting.new.items)) }
+    ensures joined { OnOk result (All (λ (w : Waiting). w.anchor.group ≡ group) joined.new.items) }
+    ensures rest { OnOk result (All (λ (w : Waiting). w.anchor.group ≢ group) waiting.new.items) }
+{
+    let mut k = 0;
+    while k < waiting.len() {
+        if waiting[k].anchor.group == group {
+            joined.push(waiting.swap_remove(k))?;
+        } else {
+            k += 1;
+        }
+    }
+    Ok(())
+}
+
+// The anchors of a group are reached: those that still wait keep their least links from them, too.
+pub(crate) fn reach(
+    waiting: &mut Vec<Waiting>,
+    joined: &mut Vec<Waiting>,
+    group: u32,
+) -> Result<(), AllocError>
+    ensures { OnOk result (IsReach group waiting.old.items waiting.new.items) }
+{
+    joined.clear();
+    take_out(waiting, joined, group)?;
+    draw_to_all(waiting, joined);
+    Ok(())
+}
+
+// The one that waits with the least link.
+pub(crate) fn least(waiting: &[Waiting]) -> usize
+    requires { 0 < length waiting.now }
+    ensures within { result < length waiting.now }
+    ensures least { (k : ℕ) (d : Waiting) → k < length waiting.now → rank (slice_index_or waiting.now result d).link ≤ rank (slice_index_or waiting.now k d).link }
+{
+    let mut least = 0;
+    for k in 1..waiting.len() {
+        if precedes(waiting[k].link, waiting[least].link) {
+            least = k;
+        }
+    }
+    least
+}
+
+// Each anchor, with its link from the first.
+pub(crate) fn all_waiting(alloc: Global, anchors: &[Anchor]) -> Result<Vec<Waiting>, AllocError>
+    requires few { length anchors.now < 2 ^ 32 }
+    ensures len { IfOk result (λ v. length v.items ≡ length anchors.now) }
+    ensures each { IfOk result (λ v. (k : ℕ) (d : Waiting) → k < length v.items → IsFirst anchors.now k (slice_index_or v.items k d)) }
+{
+    let mut waiting = Vec::new(alloc);
+    for j in 0..anchors.len() {
+        waiting.push(Waiting {
+            anchor: anchors[j],
+            place: j as u32,
+            link: link_of(anchors, 0, j),
+        })?;
+    }
+    Ok(waiting)
+}
