@@ -9,8 +9,8 @@ use Rattle.board_items.specs.declared.item.Item.{Item}
 use Rattle.board_items.specs.Boards.{PlainBoard, is_near, is_on_board, is_admitted, name_of, has_layers_of}
 use Rattle.cond_lang.specs.declared.kind.Kind.{Kind}
 use Rattle.cond_lang.specs.declared.kind.Kind.TheVariants.{Short, Clearance, HoleClearance, HoleToHole, EdgeClearance, CourtyardClearance, Keepout, TrackWidth, ViaDiameter, HoleSize, AnnularWidth, Disallow, PhysicalClearance, PhysicalHoleClearance, Assertion}
-use Rattle.row_check.specs.declared.layer.RowLayer.TheVariants.{Copper}
-use Rattle.row_check.specs.PlainRow.{IsLayerOf, IsWithin}
+use Rattle.pair_check.specs.declared.layer.RowLayer.TheVariants.{Copper}
+use Rattle.pair_check.specs.PlainRow.{IsLayerOf, IsWithin}
 
 -- a length, as it is passed to a call
 pub length_far : {v : ℤ} → IsLength v → unsigned_abs (passed v) ≤ 1000000000000

@@ -15,9 +15,9 @@ use Rattle.cond_lang.specs.Kinds.{kind_name}
 use Rattle.cond_lang.specs.Rules.{PlainRule}
 use Rattle.rule_pick.specs.declared.kinds.Source.{Source}
 use Rattle.rule_pick.specs.declared.kinds.Source.TheVariants.{Default, Local, Rule}
-use Rattle.row_check.specs.declared.layer.RowLayer.{RowLayer}
-use Rattle.row_check.specs.declared.layer.RowLayer.TheVariants.{Copper, FrontYard, BackYard, Nowhere}
-use Rattle.row_check.specs.PlainRow.{PlainRow}
+use Rattle.pair_check.specs.declared.layer.RowLayer.{RowLayer}
+use Rattle.pair_check.specs.declared.layer.RowLayer.TheVariants.{Copper, FrontYard, BackYard, Nowhere}
+use Rattle.pair_check.specs.PlainRow.{PlainRow}
 use Rattle.rule_text.specs.RulesOf.{PlainRules}
 use Rattle.drc_rows.specs.Line.{named}
 use Rattle.drc_rows.specs.Notes.{note_lines, note_count}

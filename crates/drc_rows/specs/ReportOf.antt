@@ -3,7 +3,7 @@ use Rattle.std.specs.Prelude.{ℕ, ◌≤◌, Bool, nat_le, List, [], ◌++◌, 
 use Rattle.std.specs.List.{flat_map}
 use Rattle.board_items.specs.Boards.{PlainBoard}
 use Rattle.rule_text.specs.RulesOf.{PlainRules}
-use Rattle.row_check.specs.PlainRow.{PlainRow}
+use Rattle.pair_check.specs.PlainRow.{PlainRow}
 use Rattle.ratsnest.specs.declared.anchor.Anchor.{Anchor}
 use Rattle.ratsnest.specs.declared.link.Link.{Link}
 use Rattle.drc_rows.specs.Report.{number_line, rows_text, notes_text}

@@ -5,7 +5,7 @@ ghost use Rattle.std.specs.List.{flat_map};
 ghost use Rattle.drc_io.specs.Sinks.{Writes};
 ghost use Rattle.cond_lang.specs.Rules.{plain_rule};
 ghost use Rattle.rule_pick.specs.declared.kinds.Source.TheVariants.{Rule as NumberOf};
-ghost use Rattle.row_check.specs.Rows.{HasItems, HasSource};
+ghost use Rattle.pair_check.specs.Rows.{HasItems, HasSource};
 ghost use Rattle.drc_rows.specs.Line.{Puts};
 ghost use Rattle.drc_rows.specs.Report.{severity_word, layer_text, head_text, single_text, pair_text, items_text, source_text, asked_text, lengths_text, measured_text, limit_word, measures, row_line, number_line};
 

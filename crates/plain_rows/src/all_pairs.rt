@@ -2,8 +2,8 @@
 
 ghost use Rattle.std.specs.Prelude.{◌≡◌, ◌<◌, IsTrue, All, OnOk, IfOk, map};
 ghost use Rattle.cond_lang.specs.Rules.{plain_rule};
-ghost use Rattle.row_check.specs.Rows.{HasItems, HasSource};
-ghost use Rattle.row_check.specs.Views.{IsWhole};
+ghost use Rattle.pair_check.specs.Rows.{HasItems, HasSource};
+ghost use Rattle.pair_check.specs.Views.{IsWhole};
 
 use board_items::Board;
 use row_check::{CheckView, Row, Steps, test_item, test_pair};

@@ -5,7 +5,7 @@
 #![tactic(auto)]
 
 ghost use Rattle.std.specs.Prelude.{◌≤◌, length};
-ghost use Rattle.row_check.specs.Views.{IsWhole};
+ghost use Rattle.pair_check.specs.Views.{IsWhole};
 
 mod all_pairs;
 

@@ -7,14 +7,6 @@ pub mod TileWalk
 pub mod OneList
 pub mod Sorting
 pub mod WholeRows
-pub mod TriedLayers
-pub mod KindRows
-pub mod OneRow
-pub mod NearLayers
-pub mod Picks
-pub mod Lengths
-pub mod RowsOfPair
-pub mod RowsOfSingle
-pub mod FacedLists
 pub mod NearFacings
-pub mod NearPicks
+pub mod BlockLists
+pub mod TileEnds

@@ -15,9 +15,9 @@ use Rattle.cond_lang.specs.declared.kind.Kind.{Kind}
 use Rattle.cond_lang.specs.declared.kind.Kind.TheVariants.{Short, Clearance, HoleClearance, HoleToHole, EdgeClearance, CourtyardClearance, Keepout, TrackWidth, ViaDiameter, HoleSize, AnnularWidth, Disallow, PhysicalClearance, PhysicalHoleClearance, Assertion}
 use Rattle.rule_pick.specs.FactsOf.{placed_parts, parts_asked}
 use Rattle.item_copper.proofs.Far.{IsFar}
-use Rattle.row_check.specs.declared.layer.RowLayer.{RowLayer}
-use Rattle.row_check.specs.declared.layer.RowLayer.TheVariants.{Copper, FrontYard, BackYard, Nowhere}
-use Rattle.row_check.specs.Facing.{Facing, facing, copper_on, hole_on, hole_without, hole_alone, lines_of, front_of, back_of, area_on, yard_on, placed_on, facings, MeetAt, KeepAt}
+use Rattle.pair_check.specs.declared.layer.RowLayer.{RowLayer}
+use Rattle.pair_check.specs.declared.layer.RowLayer.TheVariants.{Copper, FrontYard, BackYard, Nowhere}
+use Rattle.pair_check.specs.Facing.{Facing, facing, copper_on, hole_on, hole_without, hole_alone, lines_of, front_of, back_of, area_on, yard_on, placed_on, facings, MeetAt, KeepAt}
 
 -- ---- parts of one item
 module _ (P : Part → Type 0) where

@@ -13,14 +13,14 @@ use Rattle.rule_pick.specs.Picks.{Pick}
 use Rattle.rule_pick.specs.Reach.{is_between_two, IsReach}
 use Rattle.item_copper.proofs.Rooms.{all_lie}
 use Rattle.item_copper.proofs.Far.{IsFar, far_in, far_back, each_lies, near_unless}
-use Rattle.row_check.specs.declared.layer.RowLayer.{RowLayer}
-use Rattle.row_check.specs.PlainRow.{PlainRow}
-use Rattle.row_check.specs.Layers.{asked_layer}
-use Rattle.row_check.specs.Facing.{MeetAt, KeepAt}
-use Rattle.row_check.specs.Pairs.{Deciders, Pair, IsPickOf, SaysNear, Breaks}
-use Rattle.row_check.specs.Rows.{Checked, deciders, IsRowOfTwo}
+use Rattle.pair_check.specs.declared.layer.RowLayer.{RowLayer}
+use Rattle.pair_check.specs.PlainRow.{PlainRow}
+use Rattle.pair_check.specs.Layers.{asked_layer}
+use Rattle.pair_check.specs.Facing.{MeetAt, KeepAt}
+use Rattle.pair_check.specs.Pairs.{Deciders, Pair, IsPickOf, SaysNear, Breaks}
+use Rattle.pair_check.specs.Rows.{Checked, deciders, IsRowOfTwo}
+use Rattle.pair_check.proofs.NearPicks.{local_at_most, class_at_most, least_at_most, pick_once}
 use Rattle.row_check.proofs.NearFacings.{all_kept, none_meet}
-use Rattle.row_check.proofs.NearPicks.{local_at_most, class_at_most, least_at_most, pick_once}
 
 -- ---- what a row of two says
 -- what is picked on its layer is not kept there

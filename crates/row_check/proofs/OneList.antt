@@ -14,10 +14,10 @@ use Rattle.rule_pick.specs.declared.kinds.Source.{Source}
 use Rattle.rule_pick.specs.declared.kinds.Source.TheVariants.{Default, Local, Rule}
 use Rattle.rule_pick.specs.Deciding.{IsPick}
 use Rattle.rule_pick.specs.Picks.{Pick}
-use Rattle.row_check.specs.PlainRow.{PlainRow}
-use Rattle.row_check.specs.Pairs.{Deciders, Pair, Breaks, SaysMeeting, SaysNear}
-use Rattle.row_check.specs.Singles.{BreaksAlone, SaysLimit, SaysForbidden}
-use Rattle.row_check.specs.Rows.{Checked, deciders, Before, AreRowsWhere, AreRows, IsRow, IsRowOfTwo, IsRowOfOne, HasItems, HasSource}
+use Rattle.pair_check.specs.PlainRow.{PlainRow}
+use Rattle.pair_check.specs.Pairs.{Deciders, Pair, Breaks, SaysMeeting, SaysNear}
+use Rattle.pair_check.specs.Singles.{BreaksAlone, SaysLimit, SaysForbidden}
+use Rattle.pair_check.specs.Rows.{Checked, deciders, Before, AreRowsWhere, AreRows, IsRow, IsRowOfTwo, IsRowOfOne, HasItems, HasSource}
 use Rattle.row_check.proofs.RowLists.{here, behind, nothing, cons_case}
 
 -- of two rows not both come before the other

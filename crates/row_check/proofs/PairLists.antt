@@ -1,16 +1,16 @@
 -- The rows of lists of pairs that rise.
-use Rattle.std.proofs.Common.{◌≡◌, ◌∙◌, ap, sym, subst, refl, ℕ, ◌+◌, ◌<◌, ◌≤◌, ◌⊎◌, inl, inr, List, [], ◌∷◌, ◌++◌, map, cond, Bool, true, false, take, drop, length, get_or, arith}
+use Rattle.std.proofs.Common.{◌≡◌, ◌∙◌, ap, sym, subst, refl, ℕ, ◌<◌, ◌⊎◌, inl, inr, List, [], ◌∷◌, ◌++◌, map, take, length, get_or, arith}
 use Rattle.std.specs.List.{filter, All, AllPairs, Contains}
-use Rattle.std.proofs.lemmas.List.{append-nil, append_assoc, map-append, take-append-drop, length-append, take_more, get_or-take, length-take}
-use Rattle.std.proofs.lemmas.List.Elements.{All-nil, All-head, All-tail, All-append, All-map, All-take, All-weaker, filter-append, Contains-append_left, Contains-append_right, Contains-append_cases}
+use Rattle.std.proofs.lemmas.List.{get_or-take, length-take}
+use Rattle.std.proofs.lemmas.List.Elements.{All-nil, All-head, All-tail, All-append, All-map, All-weaker, Contains-append_left, Contains-append_right, Contains-append_cases}
 use Rattle.std.proofs.lemmas.List.Kept.{AllPairs-cons, AllPairs-filter}
 use Rattle.box_index.specs.declared.entry.Entry.{Entry}
 use Rattle.box_index.specs.Tiles.{PlainIndex, IsRising}
 use Rattle.box_index.proofs.EntryLists.{pairs_first, pairs_rest}
-use Rattle.row_check.specs.PlainRow.{PlainRow}
-use Rattle.row_check.specs.Rows.{Checked, IsRowOfTwo, Before, AreRowsWhere, AreRowsOfPair}
+use Rattle.pair_check.specs.PlainRow.{PlainRow}
+use Rattle.pair_check.specs.Rows.{Checked, IsRowOfTwo, Before, AreRowsOfPair}
 use Rattle.row_check.specs.Tiles.{pairs_of}
-use Rattle.row_check.specs.Walks.{is_owned, pairs_with, IsOfOne, AreRowsOfPairs, HasMore}
+use Rattle.row_check.specs.Walks.{is_owned, pairs_with, IsOfOne, AreRowsOfPairs}
 use Rattle.row_check.proofs.RowLists.{pairs_append, here, nothing, cons_case, across, no_rows, alike, joined}
 
 abbrev pub Pair : Type 0
@@ -38,15 +38,6 @@ pairs_take R k xs h = λ i j d l m.
     let lt : j < k = omega (arith, length-take k xs) in
     let le : j < length xs = omega (arith, length-take k xs) in
     subst (λ x. R x (get_or (take k xs) j d)) (sym (get_or-take k xs i d (omega arith))) (subst (λ y. R (get_or xs i d) y) (sym (get_or-take k xs j d lt)) (h i j d l le))
-
-rising_front : (first : Entry) (others : List Entry) (k : ℕ) → IsRising (first ∷ others) → IsRising (first ∷ take k others)
-rising_front first others k r =
-    let R : Entry → Entry → Type 0 = λ a b. a.id < b.id in
-    AllPairs-cons R first (take k others) (All-take (R first) k others (pairs_first R first others r)) (pairs_take R k others (pairs_rest R first others r))
-
-last_of : (f : Entry → Pair) (x : Entry) (b : Bool) → map f (cond b (x ∷ []) []) ≡ cond b (f x ∷ []) []
-last_of f x true = refl
-last_of f x false = refl
 
 -- the pairs of a list rise where its ids do
 abbrev firsts_from : Entry → Pair → Type 0
@@ -101,7 +92,7 @@ module _ (c : Checked) where
           by_case (inl k) = inl (h.0, record { pair = h.1.pair; among = k; first = h.1.first; second = h.1.second })
           by_case (inr k) = inr (h.0, record { pair = h.1.pair; among = k; first = h.1.first; second = h.1.second })
 
-  one_pair : (a b : Entry) (rows : List PlainRow) → AreRowsOfPair c a.id b.id rows → AreRowsOfPairs c ((a, b) ∷ []) rows
+  pub one_pair : (a b : Entry) (rows : List PlainRow) → AreRowsOfPair c a.id b.id rows → AreRowsOfPairs c ((a, b) ∷ []) rows
   one_pair a b rows r = alike (λ row. IsRowOfTwo c row × (row.first ≡ a.id) × (row.second ≡ b.id)) (Passes ((a, b) ∷ [])) rows on back r
     where
       p : Pair
@@ -116,56 +107,3 @@ module _ (c : Checked) where
           by_case : (p ≡ h.1.pair) ⊎ Contains [] h.1.pair → IsRowOfTwo c row × (row.first ≡ a.id) × (row.second ≡ b.id)
           by_case (inl e) = (h.0, h.1.first ∙ sym (ap (λ (q : Pair). q.0.id) e), h.1.second ∙ sym (ap (λ (q : Pair). q.1.id) e))
           by_case (inr k) = absurd (nothing h.1.pair k)
-
-  -- ---- the walk over the others of one entry
-  pub none_more : (index : PlainIndex) (tile : ℕ) (first : Entry) (others : List Entry) (rows : List PlainRow) → HasMore (AreRowsOfPairs c (pairs_with index tile first (take 0 others))) rows rows
-  none_more index tile first others rows = record { more = []; is = sym (append-nil rows); pass = no_pairs }
-
-  pairs_more : (index : PlainIndex) (tile : ℕ) (first : Entry) (others : List Entry) (k : ℕ) (d : Entry) (b : Bool) → is_owned index tile first (get_or others k d) ≡ b → k < length others
-      → pairs_with index tile first (take (k + 1) others) ≡ pairs_with index tile first (take k others) ++ cond b ((first, get_or others k d) ∷ []) []
-  pairs_more index tile first others k d b owned l =
-      let f : Entry → Pair = λ y. (first, y) in
-      let q : Entry → Bool = is_owned index tile first in
-      let second = get_or others k d in
-      ap (λ ys. map f (filter q ys)) (take_more others k d l)
-      ∙ ap (map f) (filter-append q (take k others) (second ∷ []))
-      ∙ map-append f (filter q (take k others)) (filter q (second ∷ []))
-      ∙ ap (λ ys. map f (filter q (take k others)) ++ ys) (ap (λ t. map f (cond t (second ∷ []) [])) owned ∙ last_of f second b)
-
-  pub one_more : (index : PlainIndex) (tile : ℕ) (first : Entry) (others : List Entry) (k : ℕ) (d : Entry) (old xs now : List PlainRow) → IsRising (first ∷ others) → is_owned index tile first (get_or others k d) ≡ true → k < length others
-      → HasMore (AreRowsOfPair c first.id (get_or others k d).id) xs now → HasMore (AreRowsOfPairs c (pairs_with index tile first (take k others))) old xs
-      → HasMore (AreRowsOfPairs c (pairs_with index tile first (take (k + 1) others))) old now
-  one_more index tile first others k d old xs now r owned l n h =
-      let longer = pairs_more index tile first others k d true owned l in
-      let rise = subst (AllPairs Comes) longer (with_rise index tile first (take (k + 1) others) (rising_front first others (k + 1) r)) in record {
-        more = h.more ++ n.more;
-        is = n.is ∙ ap (λ zs. zs ++ n.more) h.is ∙ append_assoc old h.more n.more;
-        pass = subst (λ (ps : List Pair). AreRowsOfPairs c ps (h.more ++ n.more)) (sym longer)
-            (join_pairs (pairs_with index tile first (take k others)) ((first, get_or others k d) ∷ []) h.more n.more rise h.pass (one_pair first (get_or others k d) n.more n.pass));
-      }
-
-  pub not_more : (index : PlainIndex) (tile : ℕ) (first : Entry) (others : List Entry) (k : ℕ) (d : Entry) (old xs : List PlainRow) → is_owned index tile first (get_or others k d) ≡ false → k < length others
-      → HasMore (AreRowsOfPairs c (pairs_with index tile first (take k others))) old xs
-      → HasMore (AreRowsOfPairs c (pairs_with index tile first (take (k + 1) others))) old xs
-  not_more index tile first others k d old xs owned l h =
-      let same = pairs_more index tile first others k d false owned l ∙ append-nil (pairs_with index tile first (take k others)) in
-      subst (λ (ps : List Pair). HasMore (AreRowsOfPairs c ps) old xs) (sym same) h
-
-  pub counted_more : (index : PlainIndex) (tile : ℕ) (first : Entry) (others : List Entry) (k : ℕ) (d : Entry) → is_owned index tile first (get_or others k d) ≡ true → k < length others
-      → length (pairs_with index tile first (take (k + 1) others)) ≡ length (pairs_with index tile first (take k others)) + 1
-  counted_more index tile first others k d owned l =
-      ap length (pairs_more index tile first others k d true owned l) ∙ length-append (pairs_with index tile first (take k others)) ((first, get_or others k d) ∷ [])
-
-  pub counted_same : (index : PlainIndex) (tile : ℕ) (first : Entry) (others : List Entry) (k : ℕ) (d : Entry) → is_owned index tile first (get_or others k d) ≡ false → k < length others
-      → length (pairs_with index tile first (take (k + 1) others)) ≡ length (pairs_with index tile first (take k others))
-  counted_same index tile first others k d owned l =
-      ap length (pairs_more index tile first others k d false owned l ∙ append-nil (pairs_with index tile first (take k others)))
-
-  -- what is tested so far is no more than all
-  pub counted_within : (index : PlainIndex) (tile : ℕ) (first : Entry) (others : List Entry) (k : ℕ) → length (pairs_with index tile first (take k others)) ≤ length (pairs_with index tile first others)
-  counted_within index tile first others k =
-      let f : Entry → Pair = λ y. (first, y) in
-      let q : Entry → Bool = is_owned index tile first in
-      let parts = ap (λ ys. map f (filter q ys)) (sym (take-append-drop k others)) ∙ ap (map f) (filter-append q (take k others) (drop k others)) ∙ map-append f (filter q (take k others)) (filter q (drop k others)) in
-      let long = ap length parts ∙ length-append (map f (filter q (take k others))) (map f (filter q (drop k others))) in
-      omega (arith, long)

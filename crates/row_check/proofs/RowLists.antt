@@ -4,8 +4,8 @@ use Rattle.std.specs.List.{All, AllPairs, Contains}
 use Rattle.std.proofs.lemmas.List.Elements.{All-nil, All-head, All-tail, All-append, All-weaker, All-contains, Contains-get_or, Contains-append_left, Contains-append_right, Contains-append_cases}
 use Rattle.std.proofs.lemmas.List.Kept.{AllPairs-cons}
 use Rattle.box_index.proofs.EntryLists.{pairs_first, pairs_rest}
-use Rattle.row_check.specs.PlainRow.{PlainRow}
-use Rattle.row_check.specs.Rows.{Before, AreRowsWhere}
+use Rattle.pair_check.specs.PlainRow.{PlainRow}
+use Rattle.pair_check.specs.Rows.{Before, AreRowsWhere}
 
 -- ---- lists
 module _ {X : Type 0} where

@@ -13,8 +13,8 @@ use Rattle.box_index.specs.declared.entry.Entry.{Entry}
 use Rattle.box_index.specs.Tiles.{PlainIndex, IsSound, IsRising, margin, owner_of}
 use Rattle.box_index.proofs.EntryLists.{pairs_first, pairs_rest}
 use Rattle.box_index.proofs.Buckets.{contains_filter}
-use Rattle.row_check.specs.PlainRow.{PlainRow}
-use Rattle.row_check.specs.Rows.{Checked, IsRowOfTwo}
+use Rattle.pair_check.specs.PlainRow.{PlainRow}
+use Rattle.pair_check.specs.Rows.{Checked, IsRowOfTwo}
 use Rattle.row_check.specs.Tiles.{IsEntryOf, IsIndexOf, IsAskedIn, AreRowsOfTile, pairs_of, is_changed}
 use Rattle.row_check.specs.Walks.{is_owned, IsOfOne, AreRowsOfPairs}
 use Rattle.row_check.proofs.RowLists.{here, behind, nothing, cons_case, alike}

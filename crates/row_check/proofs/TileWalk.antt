@@ -16,8 +16,8 @@ use Rattle.board_items.specs.Boards.{PlainBoard, item_at}
 use Rattle.box_index.specs.declared.entry.Entry.{Entry}
 use Rattle.box_index.specs.Tiles.{PlainIndex, IsSound, IsRising, is_in, near_of}
 use Rattle.box_index.proofs.EntryLists.{pairs_first, pairs_rest}
-use Rattle.row_check.specs.PlainRow.{PlainRow}
-use Rattle.row_check.specs.Rows.{Checked}
+use Rattle.pair_check.specs.PlainRow.{PlainRow}
+use Rattle.pair_check.specs.Rows.{Checked}
 use Rattle.row_check.specs.Tiles.{IsEntryOf, IsIndexOf, AreRowsOfTile, pairs_of, is_changed, most_steps}
 use Rattle.row_check.specs.Walks.{is_owned, partners_of, pairs_with, IsOn, AreRowsOfPairs, HasMore}
 use Rattle.row_check.proofs.PairLists.{Pair, Comes, no_pairs, join_pairs, pairs_rise}

@@ -17,8 +17,8 @@ use Rattle.box_index.specs.Tiles.{PlainIndex, IsSound, IsRising, margin, owner_o
 use Rattle.box_index.proofs.TileLemmas.{lane-within}
 use Rattle.box_index.proofs.EntryLists.{pairs_first, pairs_rest}
 use Rattle.box_index.proofs.Buckets.{contains_filter, complete}
-use Rattle.row_check.specs.PlainRow.{PlainRow}
-use Rattle.row_check.specs.Rows.{Checked, IsRowOfTwo, IsRowOfOne, IsRow, Before, AreRowsWhere, AreRowsOfItem}
+use Rattle.pair_check.specs.PlainRow.{PlainRow}
+use Rattle.pair_check.specs.Rows.{Checked, IsRowOfTwo, IsRowOfOne, IsRow, Before, AreRowsWhere, AreRowsOfItem}
 use Rattle.row_check.specs.Tiles.{IsIndexOf, HasEntry, IsAskedIn, AreRowsOfTile}
 use Rattle.row_check.specs.Walks.{HasMore}
 use Rattle.row_check.specs.Whole.{Apart, AreOnceWhere, IsAskedInOne, IsOfTiles, IsOfItems, ids_of}

@@ -1,13 +1,4 @@
-pub mod PlainRow
-pub mod Layers
-pub mod Compared
-pub mod Facing
-pub mod Sides
-pub mod Pairs
-pub mod Singles
-pub mod Rows
-pub mod Views
 pub mod Tiles
 pub mod Walks
+pub mod Blocks
 pub mod Whole
-pub mod Stages

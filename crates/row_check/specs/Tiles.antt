@@ -11,8 +11,8 @@ use Rattle.board_items.specs.Extents.{AreBoundsOf}
 use Rattle.rule_pick.specs.Reach.{IsReach}
 use Rattle.box_index.specs.declared.entry.Entry.{Entry}
 use Rattle.box_index.specs.Tiles.{PlainIndex, margin, owner_of}
-use Rattle.row_check.specs.PlainRow.{PlainRow}
-use Rattle.row_check.specs.Rows.{Checked, IsRowOfTwo, AreRowsWhere}
+use Rattle.pair_check.specs.PlainRow.{PlainRow}
+use Rattle.pair_check.specs.Rows.{Checked, IsRowOfTwo, AreRowsWhere}
 
 -- the entry is that of an item of the board, under its bounds
 pub record IsEntryOf (board : PlainBoard) (entry : Entry) : Type 0 where

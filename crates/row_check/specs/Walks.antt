@@ -4,8 +4,8 @@ use Rattle.geo_seg.specs.Boxes.{are_near}
 use Rattle.board_items.specs.Boards.{PlainBoard, item_at}
 use Rattle.box_index.specs.declared.entry.Entry.{Entry}
 use Rattle.box_index.specs.Tiles.{PlainIndex, margin, owner_of}
-use Rattle.row_check.specs.PlainRow.{PlainRow}
-use Rattle.row_check.specs.Rows.{Checked, IsRowOfTwo, AreRowsWhere}
+use Rattle.pair_check.specs.PlainRow.{PlainRow}
+use Rattle.pair_check.specs.Rows.{Checked, IsRowOfTwo, AreRowsWhere}
 
 -- the two are near, and the tile answers for them
 abbrev pub is_owned : PlainIndex → ℕ → Entry → Entry → Bool
@@ -18,6 +18,12 @@ partners_of changed a later = cond (changed a) later (filter changed later)
 -- the pairs of an entry with others that the tile answers for
 abbrev pub pairs_with : PlainIndex → ℕ → Entry → List Entry → List (Entry × Entry)
 pairs_with index tile a others = map (λ b. (a, b)) (filter (is_owned index tile a) others)
+
+-- the end of the others, before which there is none that the tile answers for
+pub record IsEndOf (index : PlainIndex) (tile : ℕ) (a : Entry) (others end : List Entry) : Type 0 where
+  pub front : List Entry
+  pub split : others ≡ front ++ end
+  pub none : filter (is_owned index tile a) front ≡ []
 
 -- the entry is that of an item of the board
 abbrev pub IsOn : PlainBoard → Entry → Type 0

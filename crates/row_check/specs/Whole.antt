@@ -4,9 +4,9 @@ use Rattle.std.specs.List.{AllPairs}
 use Rattle.board_items.specs.Boards.{PlainBoard}
 use Rattle.box_index.specs.Tiles.{PlainIndex}
 use Rattle.cond_lang.specs.Kinds.{kind_number}
+use Rattle.pair_check.specs.PlainRow.{PlainRow}
+use Rattle.pair_check.specs.Rows.{Checked, IsRowOfTwo, IsRowOfOne, Before}
 use Rattle.row_check.specs.declared.order.Place.{Place}
-use Rattle.row_check.specs.PlainRow.{PlainRow}
-use Rattle.row_check.specs.Rows.{Checked, IsRowOfTwo, IsRowOfOne, Before}
 use Rattle.row_check.specs.Tiles.{IsAskedIn}
 
 -- one of them comes before the other

@@ -1,8 +1,8 @@
 //! Laws of rows. The functions do nothing: each clause holds for all that is checked and for all rows.
 
 ghost use Rattle.std.specs.Prelude.{◌≡◌, List, All};
-ghost use Rattle.row_check.specs.PlainRow.{PlainRow};
-ghost use Rattle.row_check.specs.Rows.{Checked, AreRows, HasItems, HasSource};
+ghost use Rattle.pair_check.specs.PlainRow.{PlainRow};
+ghost use Rattle.pair_check.specs.Rows.{Checked, AreRows, HasItems, HasSource};
 
 /// A board has one list of rows under the classes of a project and rules.
 pub fn one_list()

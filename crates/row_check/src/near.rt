@@ -6,8 +6,8 @@ ghost use Rattle.geo_seg.specs.Boxes.{are_near};
 ghost use Rattle.board_items.specs.Parts.{parts_of};
 ghost use Rattle.board_items.specs.Extents.{AreBoundsOf};
 ghost use Rattle.rule_pick.specs.Reach.{IsReach};
-ghost use Rattle.row_check.specs.PlainRow.{PlainRow};
-ghost use Rattle.row_check.specs.Rows.{Checked, IsRowOfTwo};
+ghost use Rattle.pair_check.specs.PlainRow.{PlainRow};
+ghost use Rattle.pair_check.specs.Rows.{Checked, IsRowOfTwo};
 
 /// Two items break something together only where their boxes meet, once the one is widened by the reach. Boxes are half
 /// nanometres and the reach is nanometres, so it counts twice.

@@ -4,7 +4,7 @@ ghost use Rattle.std.specs.Prelude.{◌≡◌, OnOk};
 ghost use Rattle.std.specs.List.Sorted.{IsPermutation};
 ghost use Rattle.row_check.specs.Whole.{AreInOrder, place_of};
 
-use crate::row::Row;
+use pair_check::Row;
 use std::alloc::AllocError;
 
 // Where a row stands in the order: by the first id, then by the second, then by the number of the kind.
@@ -15,15 +15,13 @@ pub(crate) struct Place {
     kind: u32,
 }
 
-impl Row {
-    fn place(&self) -> Place
-        ensures { result ≡ place_of self.now }
-    {
-        Place {
-            first: self.first,
-            second: self.second,
-            kind: self.kind.number(),
-        }
+fn place_of(row: &Row) -> Place
+    ensures { result ≡ place_of row.now }
+{
+    Place {
+        first: row.first(),
+        second: row.second(),
+        kind: row.kind().number(),
     }
 }
 
@@ -31,6 +29,6 @@ impl Row {
 pub(crate) fn put_in_order(rows: &mut Vec<Row>) -> Result<(), AllocError>
     ensures { OnOk result (IsPermutation rows.old.items rows.new.items × AreInOrder rows.new.items) }
 {
-    rows.sort_by_key(|row| row.place())?;
+    rows.sort_by_key(|row| place_of(row))?;
     Ok(())
 }

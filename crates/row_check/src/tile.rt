@@ -6,16 +6,17 @@ ghost use Rattle.geo_seg.specs.Boxes.{FitsWithin};
 ghost use Rattle.board_items.specs.Boards.{item_at};
 ghost use Rattle.box_index.specs.declared.entry.Entry.{Entry};
 ghost use Rattle.box_index.specs.Tiles.{IsRising};
-ghost use Rattle.row_check.specs.Rows.{AreRowsOfPair};
+ghost use Rattle.pair_check.specs.Asked.{IsNoteOf};
+ghost use Rattle.pair_check.specs.Rows.{deciders, Stands, AreRowsOfPair};
+ghost use Rattle.pair_check.specs.Views.{checked_by, IsWhole};
+ghost use Rattle.row_check.specs.Blocks.{AreBlocks, StartsOwned};
 ghost use Rattle.row_check.specs.Tiles.{IsIndexOf, AreRowsOfTile, is_changed, most_steps};
-ghost use Rattle.row_check.specs.Views.{checked_by, IsWhole};
-ghost use Rattle.row_check.specs.Walks.{is_owned, partners_of, pairs_with, IsOn, AreRowsOfPairs, HasMore};
+ghost use Rattle.row_check.specs.Walks.{is_owned, partners_of, pairs_with, IsEndOf, IsOn, AreRowsOfPairs, HasMore};
 
-use crate::pair::test_pair;
-use crate::row::Row;
-use crate::steps::Steps;
-use crate::view::CheckView;
+use crate::blocks::{BLOCK, boxes_of, is_far};
 use box_index::{Entry, TileIndex};
+use geo_seg::Bounds;
+use pair_check::{Asked, CheckView, Row, Single, Steps, single_at, test_beside};
 use std::alloc::{AllocError, Global};
 use std::sync::ledger::Ledger;
 
@@ -50,24 +51,27 @@ fn is_owned(index: &TileIndex, tile: u32, first: &Entry, second: &Entry) -> bool
     index.are_near(first.bounds, second.bounds) && index.owner(first.bounds, second.bounds) == tile
 }
 
-// With which of the later entries the first is tested, and those of them that changed. `touched` has the entries that
-// changed, the first among them.
+// With which of the later entries the first is tested, with their boxes, and those of the later that changed. `touched` has
+// the entries that changed, the first among them; they have no boxes.
 fn partners<'a>(
     first: &Entry,
     later: &'a [Entry],
+    boxes: &'a [Bounds],
     touched: &'a [Entry],
-) -> (&'a [Entry], &'a [Entry])
-    requires { IsRising (first.now ∷ later.now) }
+) -> (&'a [Entry], &'a [Bounds], &'a [Entry])
+    requires rising { IsRising (first.now ∷ later.now) }
+    requires blocks { AreBlocks boxes.now later.now }
+    ensures blocks { AreBlocks result.1.now result.0.now }
     ensures partners { (changed : Entry → Bool) → touched.now ≡ filter changed (first.now ∷ later.now) → result.0.now ≡ partners_of changed first.now later.now }
-    ensures touched { (changed : Entry → Bool) → touched.now ≡ filter changed (first.now ∷ later.now) → result.1.now ≡ filter changed later.now }
+    ensures touched { (changed : Entry → Bool) → touched.now ≡ filter changed (first.now ∷ later.now) → result.2.now ≡ filter changed later.now }
 {
     let Some((head, rest)) = touched.split_first() else {
-        return (touched, touched);
+        return (touched, &[], touched);
     };
     if head.id == first.id {
-        (later, rest)
+        (later, boxes, rest)
     } else {
-        (touched, touched)
+        (touched, &[], touched)
     }
 }
 
@@ -75,55 +79,161 @@ fn partners<'a>(
 fn push_pair<L: Ledger>(
     alloc: Global,
     view: &CheckView,
+    asked: Asked,
     first: u32,
+    one: Single<'_>,
     second: u32,
     rows: &mut Vec<Row>,
     steps: &mut Steps<L>,
 ) -> Result<(), AllocError>
     requires view { IsWhole view.now }
+    requires asked { IsNoteOf (deciders (checked_by view.now)) asked }
     requires ordered { first < second }
-    requires first { IsSome (item_at (checked_by view.now).board.items first) }
+    requires first { Stands (checked_by view.now) first one.item.now one.facts.now }
     requires second { IsSome (item_at (checked_by view.now).board.items second) }
     ensures rows { OnOk result (HasMore (AreRowsOfPair (checked_by view.now) first second) rows.old.items rows.new.items) }
     ensures step { steps.new ≡ steps.old + 1 }
 {
-    let found = test_pair(alloc, view, first, second, steps);
+    let found = test_beside(alloc, view, asked, first, one, second, steps);
     rows.extend_from_slice(found.as_slice())?;
     Ok(())
 }
 
-// Appends the rows of an entry with others.
-fn push_rows<L: Ledger>(
-    alloc: Global,
-    view: &CheckView,
+// The others from the first for which the tile answers. Blocks that are far are passed over whole.
+fn owned_from<'a>(
     index: &TileIndex,
     tile: u32,
     first: &Entry,
+    others: &'a [Entry],
+    boxes: &[Bounds],
+) -> &'a [Entry]
+    requires fits { All (λ e. FitsWithin (pos 2000000000) e.bounds) (first.now ∷ others.now) }
+    requires blocks { AreBlocks boxes.now others.now }
+    ensures end { IsEndOf index.now tile first.now others.now result.now }
+    ensures owned { StartsOwned index.now tile first.now result.now }
+{
+    let mut left = others;
+    'walk: while let Some((second, rest)) = left.split_first() {
+        if is_far(index, first, boxes, left.len()) {
+            left = &left[BLOCK..];
+        } else if is_owned(index, tile, first, second) {
+            return left;
+        } else {
+            left = rest;
+        }
+    }
+    left
+}
+
+// Appends the rows of an entry, whose item is at hand, with others, for the first of which the tile answers.
+fn push_beside<L: Ledger>(
+    alloc: Global,
+    view: &CheckView,
+    asked: Asked,
+    index: &TileIndex,
+    tile: u32,
+    first: &Entry,
+    one: Single<'_>,
     others: &[Entry],
+    boxes: &[Bounds],
     rows: &mut Vec<Row>,
     steps: &mut Steps<L>,
 ) -> Result<(), AllocError>
     requires view { IsWhole view.now }
+    requires asked { IsNoteOf (deciders (checked_by view.now)) asked }
+    requires first { Stands (checked_by view.now) first.now.id one.item.now one.facts.now }
     requires rising { IsRising (first.now ∷ others.now) }
     requires fits { All (λ e. FitsWithin (pos 2000000000) e.bounds) (first.now ∷ others.now) }
     requires there { All (IsOn (checked_by view.now).board) (first.now ∷ others.now) }
+    requires blocks { AreBlocks boxes.now others.now }
+    requires owned { StartsOwned index.now tile first.now others.now }
     ensures rows { OnOk result (HasMore (AreRowsOfPairs (checked_by view.now) (pairs_with index.now tile first.now others.now)) rows.old.items rows.new.items) }
     ensures steps { OnOk result (steps.new ≡ steps.old + length (pairs_with index.now tile first.now others.now)) }
     ensures most { steps.new ≤ steps.old + length (pairs_with index.now tile first.now others.now) }
 {
-    for second in others {
-        if is_owned(index, tile, first, second) {
-            push_pair(alloc, view, first.id, second.id, rows, steps)?;
-        }
+    let mut left = others;
+    'walk: while let Some((second, rest)) = left.split_first() {
+        push_pair(alloc, view, asked, first.id, one, second.id, rows, steps)?;
+        left = owned_from(index, tile, first, rest, boxes);
     }
     Ok(())
+}
+
+// Appends the rows of an entry with others. Its item is looked up once, and only where there is something to test.
+fn push_rows<L: Ledger>(
+    alloc: Global,
+    view: &CheckView,
+    asked: Asked,
+    index: &TileIndex,
+    tile: u32,
+    first: &Entry,
+    others: &[Entry],
+    boxes: &[Bounds],
+    rows: &mut Vec<Row>,
+    steps: &mut Steps<L>,
+) -> Result<(), AllocError>
+    requires view { IsWhole view.now }
+    requires asked { IsNoteOf (deciders (checked_by view.now)) asked }
+    requires rising { IsRising (first.now ∷ others.now) }
+    requires fits { All (λ e. FitsWithin (pos 2000000000) e.bounds) (first.now ∷ others.now) }
+    requires there { All (IsOn (checked_by view.now).board) (first.now ∷ others.now) }
+    requires blocks { AreBlocks boxes.now others.now }
+    ensures rows { OnOk result (HasMore (AreRowsOfPairs (checked_by view.now) (pairs_with index.now tile first.now others.now)) rows.old.items rows.new.items) }
+    ensures steps { OnOk result (steps.new ≡ steps.old + length (pairs_with index.now tile first.now others.now)) }
+    ensures most { steps.new ≤ steps.old + length (pairs_with index.now tile first.now others.now) }
+{
+    let owned = owned_from(index, tile, first, others, boxes);
+    if owned.is_empty() {
+        return Ok(());
+    }
+    let Some(one) = single_at(view, first.id) else {
+        return Ok(());
+    };
+    push_beside(
+        alloc, view, asked, index, tile, first, one, owned, boxes, rows, steps,
+    )
+}
+
+/// As `test_tile`, with what is asked for.
+pub(crate) fn tile_rows<L: Ledger>(
+    alloc: Global,
+    view: &CheckView,
+    asked: Asked,
+    index: &TileIndex,
+    tile: u32,
+    changed: &[u32],
+    steps: &mut Steps<L>,
+) -> Result<Vec<Row>, AllocError>
+    requires view { IsWhole view.now }
+    requires asked { IsNoteOf (deciders (checked_by view.now)) asked }
+    requires index { IsIndexOf (checked_by view.now) index.now }
+    requires changed { IsStrictlyIncreasing changed.now }
+    ensures rows { IfOk result (λ rows. AreRowsOfTile (checked_by view.now) index.now tile changed.now rows.items) }
+    ensures steps { steps.new ≤ steps.old + most_steps index.now tile changed.now }
+{
+    let near = index.near(tile);
+    let all_touched = touched_of(alloc, near, changed)?;
+    let all_boxes = boxes_of(alloc, near)?;
+    let boxes: &[Bounds] = &all_boxes;
+    let mut rows = Vec::new(alloc);
+    let mut later = near;
+    let mut touched: &[Entry] = &all_touched;
+    'entries: while let Some((first, others)) = later.split_first() {
+        let (with, its_boxes, rest) = partners(first, others, boxes, touched);
+        push_rows(
+            alloc, view, asked, index, tile, first, with, its_boxes, &mut rows, steps,
+        )?;
+        later = others;
+        touched = rest;
+    }
+    Ok(rows)
 }
 
 /// The rows of all pairs that have an id in `changed` and for which the tile answers, by the first id, then by the second,
 /// then by the number of the kind. Each pair is tested in one tile.
 ///
-/// `changed` rises. The index holds the items of the board under their bounds, and reaches as far as anything is asked for. It
-/// takes at most as many steps as there are such pairs whose widened bounds meet. Only want of memory refuses it.
+/// `changed` rises. The index holds the items of the board under their bounds, and reaches as far as anything is asked for. A
+/// pair costs one step at most, and none where the widened bounds do not meet. Only want of memory refuses it.
 pub fn test_tile<L: Ledger>(
     alloc: Global,
     view: &CheckView,
@@ -138,16 +248,5 @@ pub fn test_tile<L: Ledger>(
     ensures rows { IfOk result (λ rows. AreRowsOfTile (checked_by view.now) index.now tile changed.now rows.items) }
     ensures steps { steps.new ≤ steps.old + most_steps index.now tile changed.now }
 {
-    let near = index.near(tile);
-    let all_touched = touched_of(alloc, near, changed)?;
-    let mut rows = Vec::new(alloc);
-    let mut later = near;
-    let mut touched: &[Entry] = &all_touched;
-    'entries: while let Some((first, others)) = later.split_first() {
-        let (with, rest) = partners(first, others, touched);
-        push_rows(alloc, view, index, tile, first, with, &mut rows, steps)?;
-        later = others;
-        touched = rest;
-    }
-    Ok(rows)
+    tile_rows(alloc, view, Asked::by(view), index, tile, changed, steps)
 }

@@ -4,20 +4,18 @@ ghost use Rattle.std.specs.Prelude.{◌≡◌, ◌<◌, IsSome, IfOk, OnOk};
 ghost use Rattle.std.specs.List.Sorted.{IsStrictlyIncreasing};
 ghost use Rattle.board_items.specs.Boards.{item_at};
 ghost use Rattle.box_index.specs.Tiles.{IsSound};
-ghost use Rattle.row_check.specs.Rows.{AreRows, AreRowsOfItem, IsRow, IsRowOfTwo};
+ghost use Rattle.pair_check.specs.Asked.{IsNoteOf};
+ghost use Rattle.pair_check.specs.Rows.{deciders, AreRows, AreRowsOfItem, IsRow, IsRowOfTwo};
+ghost use Rattle.pair_check.specs.Views.{checked_by, IsWhole};
 ghost use Rattle.row_check.specs.Tiles.{IsIndexOf, AreRowsOfTile};
-ghost use Rattle.row_check.specs.Views.{checked_by, IsWhole};
 ghost use Rattle.row_check.specs.Walks.{HasMore};
-ghost use Rattle.row_check.specs.Whole.{AreOnceWhere, IsOfTiles, IsOfItems, ids_of};
+ghost use Rattle.row_check.specs.Whole.{AreOnceWhere, IsOfTiles, ids_of};
 
 use crate::order::put_in_order;
-use crate::row::Row;
-use crate::single::test_item;
-use crate::steps::Steps;
-use crate::tile::test_tile;
-use crate::view::CheckView;
+use crate::tile::tile_rows;
 use board_items::Board;
 use box_index::TileIndex;
+use pair_check::{Asked, CheckView, Row, Steps, test_item};
 use std::alloc::{AllocError, Global};
 use std::marker::Brand;
 use std::sync::ledger::{Blank, Ledger};
@@ -34,17 +32,11 @@ fn ids_of(alloc: Global, board: &Board) -> Result<Vec<u32>, AllocError>
     Ok(ids)
 }
 
-// Says what holds of each index. It does nothing.
-fn is_sound(index: &TileIndex)
-    ensures { IsSound index.now }
-{
-    index.near(0);
-}
-
 // Appends the rows of a tile.
 fn push_tile<L: Ledger>(
     alloc: Global,
     view: &CheckView,
+    asked: Asked,
     index: &TileIndex,
     tile: u32,
     changed: &[u32],
@@ -52,11 +44,12 @@ fn push_tile<L: Ledger>(
     steps: &mut Steps<L>,
 ) -> Result<(), AllocError>
     requires view { IsWhole view.now }
+    requires asked { IsNoteOf (deciders (checked_by view.now)) asked }
     requires index { IsIndexOf (checked_by view.now) index.now }
     requires changed { IsStrictlyIncreasing changed.now }
     ensures { OnOk result (HasMore (AreRowsOfTile (checked_by view.now) index.now tile changed.now) rows.old.items rows.new.items) }
 {
-    let found = test_tile(alloc, view, index, tile, changed, steps)?;
+    let found = tile_rows(alloc, view, asked, index, tile, changed, steps)?;
     rows.extend_from_slice(&found)?;
     Ok(())
 }
@@ -65,12 +58,14 @@ fn push_tile<L: Ledger>(
 fn rows_of_tiles<L: Ledger>(
     alloc: Global,
     view: &CheckView,
+    asked: Asked,
     index: &TileIndex,
     tiles: &[u32],
     changed: &[u32],
     steps: &mut Steps<L>,
 ) -> Result<Vec<Row>, AllocError>
     requires view { IsWhole view.now }
+    requires asked { IsNoteOf (deciders (checked_by view.now)) asked }
     requires index { IsIndexOf (checked_by view.now) index.now }
     requires sound { IsSound index.now }
     requires tiles { IsStrictlyIncreasing tiles.now }
@@ -79,7 +74,7 @@ fn rows_of_tiles<L: Ledger>(
 {
     let mut rows = Vec::new(alloc);
     for tile in tiles {
-        push_tile(alloc, view, index, *tile, changed, &mut rows, steps)?;
+        push_tile(alloc, view, asked, index, *tile, changed, &mut rows, steps)?;
     }
     Ok(rows)
 }
@@ -133,9 +128,8 @@ fn rows_of_pairs<L: Ledger>(
     requires rise { IsStrictlyIncreasing ids.now }
     ensures { IfOk result (λ rows. AreOnceWhere (IsRowOfTwo (checked_by view.now)) rows.items) }
 {
-    is_sound(index);
     let tiles = index.dirty(&[], true)?;
-    rows_of_tiles(alloc, view, index, &tiles, ids, steps)
+    rows_of_tiles(alloc, view, Asked::by(view), index, &tiles, ids, steps)
 }
 
 fn rows_counted<L: Ledger>(

@@ -1,6 +1,6 @@
 use Rattle.std.proofs.Common.{All, map}
 use Rattle.cond_lang.specs.Rules.{plain_rule}
-use Rattle.row_check.specs.Rows.{HasItems, HasSource}
+use Rattle.pair_check.specs.Rows.{HasItems, HasSource}
 use Rattle.plain_rows.proofs.all_pairs.counted.Given as goal
 
 -- the rows so far can be written

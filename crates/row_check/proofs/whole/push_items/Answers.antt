@@ -1,7 +1,7 @@
 use Rattle.std.proofs.Common.{subst, get_or}
 use Rattle.std.specs.List.{Contains}
 use Rattle.std.proofs.lemmas.List.Elements.{Contains-get_or}
-use Rattle.row_check.specs.Views.{checked_by}
+use Rattle.pair_check.specs.Views.{checked_by}
 use Rattle.row_check.proofs.WholeRows.{found_by_id, no_items, one_item_more, all_items}
 use Rattle.row_check.proofs.whole.push_items.Goals as goal
 

@@ -1,5 +1,5 @@
 use Rattle.std.proofs.Common.{take}
-use Rattle.row_check.specs.Views.{checked_by}
+use Rattle.pair_check.specs.Views.{checked_by}
 use Rattle.row_check.specs.Whole.{AreOnceWhere, IsOfItems}
 use Rattle.row_check.proofs.whole.push_items.Given as goal
 

@@ -1,5 +1,5 @@
-use Rattle.row_check.specs.Rows.{IsRow}
-use Rattle.row_check.specs.Views.{checked_by}
+use Rattle.pair_check.specs.Rows.{IsRow}
+use Rattle.pair_check.specs.Views.{checked_by}
 use Rattle.row_check.proofs.Sorting.{once_permutation, rows_from_once}
 use Rattle.row_check.proofs.whole.rows_counted.Goals as goal
 

@@ -1,0 +1,99 @@
+-- Kinds of which nothing is asked.
+use Rattle.std.proofs.Common.{◌≡◌, inl, inr, refl, sym, ap, subst, ◌∙◌, ℕ, ◌==◌, ℤ, pos, Bool, true, false, not, cond, ◌||◌, List, [], ◌∷◌, map, All, Option, None, Some, find, arith}
+use Rattle.std.specs.Bool.{if◌then◌else◌}
+use Rattle.std.specs.Int.{int_max}
+use Rattle.std.specs.Ordering.{int_eq}
+use Rattle.std.proofs.lemmas.Int.{ints}
+use Rattle.std.specs.List.{list_any}
+use Rattle.std.proofs.lemmas.List.Elements.{All-nil, All-cons}
+use Rattle.net_class.specs.Classes.{PlainMins}
+use Rattle.cond_lang.specs.declared.kind.Kind.{Kind}
+use Rattle.cond_lang.specs.declared.kind.Kind.TheVariants.{HoleClearance, HoleToHole, EdgeClearance, PhysicalClearance, PhysicalHoleClearance}
+use Rattle.cond_lang.specs.declared.constraint.Constraint.{Constraint}
+use Rattle.cond_lang.specs.declared.constraints.Rule.{Rule}
+use Rattle.cond_lang.specs.Kinds.{kind_number}
+use Rattle.cond_lang.specs.Rules.{PlainConstraint, PlainRule, plain_constraint, plain_rule}
+use Rattle.rule_pick.specs.declared.facts.Facts.{Facts}
+use Rattle.rule_pick.specs.Deciding.{minimum, is_clearance, greater_if, local_if, class_clearance_if, local_of, asked_by, IsPick}
+use Rattle.rule_pick.specs.Picks.{Pick}
+use Rattle.pair_check.specs.declared.layer.RowLayer.{RowLayer}
+use Rattle.pair_check.specs.Layers.{asked_layer}
+use Rattle.pair_check.specs.Asked.{asks, some_asks, has_default, AsksNothing}
+use Rattle.pair_check.specs.Pairs.{Deciders, Pair, IsNearAt}
+use Rattle.pair_check.specs.Stages.{is_courtyard}
+use Rattle.pair_check.proofs.NearLayers.{not_near, kept_none}
+use Rattle.pair_check.proofs.NearPicks.{at_has}
+
+-- ---- rules that ask nothing
+
+either_none : (b c : Bool) → (b || c) ≡ false → (b ≡ false) × (c ≡ false)
+either_none false c e = (refl, e)
+either_none true c e = absurd (cc)
+
+found_none : (kind : Kind) (xs : List Constraint) → list_any (λ (c : Constraint). kind_number c.kind == kind_number kind) xs ≡ false
+    → find (λ (c : PlainConstraint). kind_number c.kind == kind_number kind) (map plain_constraint xs) ≡ None
+found_none kind [] e = refl
+found_none kind (x ∷ xs) e =
+    let parts = either_none (kind_number x.kind == kind_number kind) (list_any (λ (c : Constraint). kind_number c.kind == kind_number kind) xs) e in
+    ap (λ b. cond b (Some (plain_constraint x)) (find (λ (c : PlainConstraint). kind_number c.kind == kind_number kind) (map plain_constraint xs))) parts.0 ∙ found_none kind xs parts.1
+
+none_asks : (kind : Kind) (rules : List Rule) → some_asks kind rules ≡ false → All (λ (r : PlainRule). asked_by kind r ≡ None) (map plain_rule rules)
+none_asks kind [] e = All-nil (λ (r : PlainRule). asked_by kind r ≡ None)
+none_asks kind (r ∷ rules) e =
+    let parts = either_none (asks kind r) (some_asks kind rules) e in
+    All-cons (λ (r : PlainRule). asked_by kind r ≡ None) (plain_rule r) (map plain_rule rules) (found_none kind r.constraints parts.0) (none_asks kind rules parts.1)
+
+-- ---- what is picked then
+
+some_none : {A : Type 0} (found : Option A) (x : A) → found ≡ None → found ≡ Some x → ⊥
+some_none found x e f = absurd (cc)
+
+module _ (rules : List PlainRule) (mins : PlainMins) (kind : Kind) (clear : is_clearance kind ≡ false) (least : (micro : Bool) → minimum mins micro kind ≡ pos 0)
+    (none : All (λ (r : PlainRule). asked_by kind r ≡ None) rules) where
+  local_none : (a : Facts) (b : Option Facts) → local_of kind a b ≡ None
+  local_none a b = ap (λ (t : Bool). if t then greater_if a.local (local_if b) else None) clear
+
+  pub picks_nothing : (a : Facts) (b : Option Facts) (layer : Option ℕ) (pick : Pick) → IsPick rules mins kind a b layer pick → pick.least ≡ pos 0
+  picks_nothing a b layer pick (inl local) = absurd (some_none (local_of kind a b) local.nm (local_none a b) local.local)
+  picks_nothing a b layer pick (inr (inl rule)) = absurd (some_none (asked_by kind rule.rule) rule.constraint (at_has (λ (r : PlainRule). asked_by kind r ≡ None) rules rule.place rule.rule none rule.deciding.stands) rule.asked)
+  picks_nothing a b layer pick (inr (inr default)) = ap (λ (p : Pick). p.least) default.value ∙ ap (λ (t : Bool). if t then class_clearance_if b (int_max a.class_clearance (minimum mins a.micro kind)) else minimum mins a.micro kind) clear ∙ least a.micro
+
+-- ---- kinds
+
+zero_of : (z : ℤ) → not (int_eq z (pos 0)) ≡ false → z ≡ pos 0
+zero_of z e = grind (arith, ints, e)
+
+clear_of : (mins : PlainMins) (kind : Kind) → has_default mins kind ≡ false → is_clearance kind ≡ false
+clear_of mins HoleClearance e = refl
+clear_of mins HoleToHole e = refl
+clear_of mins EdgeClearance e = refl
+clear_of mins PhysicalClearance e = refl
+clear_of mins PhysicalHoleClearance e = refl
+clear_of mins _ e = absurd (cc)
+
+yard_of : (mins : PlainMins) (kind : Kind) → has_default mins kind ≡ false → is_courtyard kind ≡ true → ⊥
+yard_of mins HoleClearance e f = absurd (cc)
+yard_of mins HoleToHole e f = absurd (cc)
+yard_of mins EdgeClearance e f = absurd (cc)
+yard_of mins PhysicalClearance e f = absurd (cc)
+yard_of mins PhysicalHoleClearance e f = absurd (cc)
+yard_of mins _ e f = absurd (cc)
+
+least_of : (mins : PlainMins) (kind : Kind) → has_default mins kind ≡ false → (micro : Bool) → minimum mins micro kind ≡ pos 0
+least_of mins HoleClearance e micro = zero_of mins.min_hole_clearance e
+least_of mins HoleToHole e micro = zero_of mins.min_hole_to_hole e
+least_of mins EdgeClearance e micro = zero_of mins.min_copper_edge_clearance e
+least_of mins PhysicalClearance e micro = refl
+least_of mins PhysicalHoleClearance e micro = refl
+least_of mins _ e micro = absurd (cc)
+
+pub asks_nothing : (d : Deciders) (rules : List Rule) (kind : Kind) → d.rules ≡ map plain_rule rules → has_default d.mins kind ≡ false → some_asks kind rules ≡ false → AsksNothing d kind
+asks_nothing d rules kind same default asked = record { none = far }
+  where
+    none : All (λ (r : PlainRule). asked_by kind r ≡ None) d.rules
+    none = subst (λ rs. All (λ (r : PlainRule). asked_by kind r ≡ None) rs) (sym same) (none_asks kind rules asked)
+
+    far : (pair : Pair) (layer : RowLayer) → IsNearAt d kind pair layer → ⊥
+    far pair layer n =
+        let zero = picks_nothing d.rules d.mins kind (clear_of d.mins kind default) (least_of d.mins kind default) none pair.facts_a (Some pair.facts_b) (asked_layer layer) n.pick n.picked in
+        not_near kind layer pair.a pair.b n.pick.least (kept_none kind layer pair.a pair.b n.pick.least zero) (λ e m. absurd (yard_of d.mins kind default e)) n.near

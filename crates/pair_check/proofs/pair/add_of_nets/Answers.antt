@@ -1,0 +1,15 @@
+use Rattle.pair_check.specs.Rows.{deciders}
+use Rattle.pair_check.specs.Views.{checked_by}
+use Rattle.pair_check.specs.Stages.{pair_of}
+use Rattle.pair_check.proofs.RowsOfPair.{not_meeting, pair_short}
+use Rattle.pair_check.proofs.pair.add_of_nets.Goals as goal
+
+pub add_near-requires-clause-place : goal.add_near-requires-clause-place
+add_near-requires-clause-place c = let a = c.args in not_meeting (deciders (checked_by a.view.now)) (pair_of a.pair) a.first a.second c.in-None.ensures
+
+pub add_near-requires-in-None-clause-place : goal.add_near-requires-in-None-clause-place
+add_near-requires-in-None-clause-place c = let a = c.args in not_meeting (deciders (checked_by a.view.now)) (pair_of a.pair) a.first a.second c.in-None.ensures
+
+pub returns-in-Some-clause-rows : goal.returns-in-Some-clause-rows
+returns-in-Some-clause-rows c =
+    let a = c.args in rw c.push.ensures (pair_short (deciders (checked_by a.view.now)) (pair_of a.pair) a.first a.second a.rows.now c.in-Some.row c.in-Some.ensures c.requires.below)

@@ -1,0 +1,50 @@
+use Rattle.std.proofs.Common.{◌≡◌, refl, sym, ◌∙◌, pos, IsTrue, arith}
+use Rattle.std.proofs.lemmas.Int.{ints}
+use Rattle.pair_check.specs.declared.layer.RowLayer.{RowLayer}
+use Rattle.pair_check.specs.Facing.{MeetAt}
+use Rattle.pair_check.specs.Compared.{is_compared}
+use Rattle.pair_check.specs.Rows.{deciders}
+use Rattle.pair_check.specs.Views.{checked_by}
+use Rattle.pair_check.specs.Stages.{pair_of}
+use Rattle.pair_check.proofs.NearLayers.{meeting_layer}
+use Rattle.pair_check.proofs.TriedLayers.{first_in}
+use Rattle.pair_check.proofs.RowsOfPair.{two_of_meeting, in_order, breaks_meeting}
+use Rattle.pair_check.proofs.pair.meeting_row.Goals as goal
+
+pub invariant_of-result : goal.invariant_of-result
+invariant_of-result c =
+    let a = c.args in
+    let p = a.pair in
+    let where_first = c.in_ok-layer.ensures in
+    record {
+      ordered = in_order a.kind a.first a.second (two_of_meeting a.kind c.requires.kind) c.requires.ordered;
+      layer = meeting_layer c.copper.result a.kind c.in_ok-layer.layer p.a.now p.b.now where_first.tried where_first.holds;
+      value = record { from = omega (arith, ints); to = omega (arith, ints) };
+      gap = record { from = omega (arith, ints); to = omega (arith, ints) };
+      severity = tt;
+    }
+
+pub returns : goal.returns
+returns c =
+    let d = deciders (checked_by c.args.view.now) in
+    let a = c.args in
+    let p = a.pair in
+    let compared : IsTrue (is_compared a.kind p.a.now p.b.now) = sym c.is_compared.ensures ∙ c.if-not-is_compared.false in
+    record {
+      is = record {
+        first_is = refl;
+        second_is = refl;
+        broken =
+            breaks_meeting d (pair_of p) a.kind _ c.requires.kind
+            (record {
+              compared = compared;
+              where_first = first_in c.copper.result d.copper (λ (layer : RowLayer). MeetAt a.kind layer p.a.now p.b.now) c.in_ok-layer.layer c.copper.ensures c.in_ok-layer.ensures;
+              value = refl;
+              gap = refl;
+              over = refl;
+              source = refl;
+              severity = refl;
+            });
+      };
+      kind_is = refl;
+    }

@@ -1,0 +1,7 @@
+use Rattle.std.proofs.Common.{◌≡◌, ℤ, Option, Some}
+use Rattle.drc_io.specs.Lengths.{IsLength, IsLengthIfSome}
+use Rattle.pair_check.proofs.Lengths.{passed_is_length, length_if}
+use Rattle.pair_check.proofs.single.broken_limit.Goals as goal
+
+pub returns-then-counted-n-clause-range : goal.returns-then-counted-n-clause-range
+returns-then-counted-n-clause-range c = passed_is_length c.in-Some.most (length_if c.args.picked.most c.in-Some.most c.in-Some.is c.args.picked.most_in_range)

@@ -1,0 +1,8 @@
+use Rattle.pair_check.specs.Singles.{IsForbiddenAt}
+use Rattle.pair_check.specs.Rows.{deciders}
+use Rattle.pair_check.specs.Views.{checked_by}
+use Rattle.pair_check.proofs.TriedLayers.{NoneBefore}
+use Rattle.pair_check.proofs.single.first_forbidden.Given as goal
+
+abbrev pub invariant-loop-place : goal.invariant-loop-place
+invariant-loop-place l = NoneBefore l.view.board.now.copper (IsForbiddenAt (deciders (checked_by l.view)) l.kind l.single.item.now l.single.facts.now) l.place

@@ -1,0 +1,11 @@
+pub mod PlainRow
+pub mod Layers
+pub mod Compared
+pub mod Facing
+pub mod Sides
+pub mod Pairs
+pub mod Asked
+pub mod Singles
+pub mod Rows
+pub mod Views
+pub mod Stages

@@ -1,0 +1,91 @@
+-- What two items of a board break.
+use Rattle.std.specs.Prelude.{◌≡◌, ◌⊎◌, ℕ, ℤ, pos, false, IsTrue, List, Option, Some}
+use Rattle.geo_seg.specs.Distances.{IsGap}
+use Rattle.board_items.specs.declared.layers.LayerSet.{LayerSet}
+use Rattle.board_items.specs.declared.item.Item.{Item}
+use Rattle.net_class.specs.Classes.{PlainMins}
+use Rattle.cond_lang.specs.declared.kind.Kind.{Kind}
+use Rattle.cond_lang.specs.declared.kind.Kind.TheVariants.{Short, Clearance, HoleClearance, HoleToHole, EdgeClearance, CourtyardClearance, Keepout, PhysicalClearance, PhysicalHoleClearance}
+use Rattle.cond_lang.specs.declared.rule.Severity.TheVariants.{Error}
+use Rattle.cond_lang.specs.Rules.{PlainRule}
+use Rattle.rule_pick.specs.declared.facts.Facts.{Facts}
+use Rattle.rule_pick.specs.declared.kinds.Source.TheVariants.{Default}
+use Rattle.rule_pick.specs.Deciding.{IsPick}
+use Rattle.rule_pick.specs.Picks.{Pick}
+use Rattle.pair_check.specs.declared.layer.RowLayer.{RowLayer}
+use Rattle.pair_check.specs.PlainRow.{PlainRow, Counts}
+use Rattle.pair_check.specs.Layers.{IsFirst, HoldsSomewhere, asked_layer}
+use Rattle.pair_check.specs.Compared.{is_compared}
+use Rattle.pair_check.specs.Facing.{MeetAt, KeepAt, TooNear}
+
+-- what decides: the copper layers of the board, its least values, and the rules
+pub record Deciders : Type 0 where
+  pub copper : LayerSet
+  pub mins : PlainMins
+  pub rules : List PlainRule
+
+-- two items with their facts
+pub record Pair : Type 0 where
+  pub a : Item
+  pub b : Item
+  pub facts_a : Facts
+  pub facts_b : Facts
+
+-- what a kind asks of the pair on the layer
+abbrev pub IsPickOf : Deciders → Kind → Pair → RowLayer → Pick → Type 0
+IsPickOf d kind pair layer pick = IsPick d.rules d.mins kind pair.facts_a (Some pair.facts_b) (asked_layer layer) pick
+
+-- on the layer the pair is nearer than what is picked there, and the pick counts
+pub record IsNearAt (d : Deciders) (kind : Kind) (pair : Pair) (layer : RowLayer) : Type 0 where
+  pub pick : Pick
+  pub picked : IsPickOf d kind pair layer pick
+  pub counts : Counts pick.severity
+  pub near : TooNear kind layer pair.a pair.b pick.least
+
+-- the pair is compared for the kind, and it meets on some layer
+pub record DoMeet (d : Deciders) (kind : Kind) (pair : Pair) : Type 0 where
+  pub compared : IsTrue (is_compared kind pair.a pair.b)
+  pub somewhere : HoldsSomewhere d.copper (λ layer. MeetAt kind layer pair.a pair.b)
+
+-- a short takes the place of a clearance, and of that of a hole
+abbrev pub IsGivenPlace : Deciders → Kind → Pair → Type 0
+IsGivenPlace d Clearance pair = ¬ (DoMeet d Short pair)
+IsGivenPlace d HoleClearance pair = ¬ (DoMeet d Short pair)
+IsGivenPlace d _ pair = Unit {0}
+
+-- the row says that the two meet, on the first layer on which they do. No rule is asked: it is always an error
+pub record SaysMeeting (d : Deciders) (kind : Kind) (pair : Pair) (row : PlainRow) : Type 0 where
+  pub compared : IsTrue (is_compared kind pair.a pair.b)
+  pub where_first : IsFirst d.copper (λ layer. MeetAt kind layer pair.a pair.b) row.layer
+  pub value : row.value ≡ pos 0
+  pub gap : row.gap ≡ pos 0
+  pub over : row.over ≡ false
+  pub source : row.source ≡ Default
+  pub severity : row.severity ≡ Error
+
+-- the row says the first layer on which the two are too near, what is asked for there, the gap there, and what asks for it. Where what
+-- faces each other both ways is measured, the gap is the lesser one
+pub record SaysNear (d : Deciders) (kind : Kind) (pair : Pair) (row : PlainRow) : Type 0 where
+  pub compared : IsTrue (is_compared kind pair.a pair.b)
+  pub place : IsGivenPlace d kind pair
+  pub where_first : IsFirst d.copper (IsNearAt d kind pair) row.layer
+  pub pick : Pick
+  pub picked : IsPickOf d kind pair row.layer pick
+  pub value : row.value ≡ pick.least
+  pub gap : IsGap (KeepAt kind row.layer pair.a pair.b) pick.least row.gap
+  pub over : row.over ≡ false
+  pub source : row.source ≡ pick.source
+  pub severity : row.severity ≡ pick.severity
+
+-- the row says how the pair breaks the kind
+abbrev pub Breaks : Deciders → Kind → Pair → PlainRow → Type 0
+Breaks d Short pair row = SaysMeeting d Short pair row
+Breaks d Keepout pair row = SaysMeeting d Keepout pair row
+Breaks d Clearance pair row = SaysNear d Clearance pair row
+Breaks d HoleClearance pair row = SaysNear d HoleClearance pair row
+Breaks d HoleToHole pair row = SaysNear d HoleToHole pair row
+Breaks d EdgeClearance pair row = SaysNear d EdgeClearance pair row
+Breaks d CourtyardClearance pair row = SaysNear d CourtyardClearance pair row
+Breaks d PhysicalClearance pair row = SaysNear d PhysicalClearance pair row
+Breaks d PhysicalHoleClearance pair row = SaysNear d PhysicalHoleClearance pair row
+Breaks d _ pair row = ⊥

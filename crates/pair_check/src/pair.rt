@@ -1,0 +1,388 @@
+//! What two items break.
+
+ghost use Rattle.std.specs.Prelude.{◌≡◌, ◌≢◌, ◌⊎◌, ◌+◌, ◌<◌, ◌≤◌, ℕ, IsTrue, IsSome, length, MatchOption};
+ghost use Rattle.drc_io.specs.Lengths.{IsLength};
+ghost use Rattle.geo_seg.specs.Distances.{IsGap};
+ghost use Rattle.board_items.specs.Boards.{item_at};
+ghost use Rattle.cond_lang.specs.Kinds.{kind_number};
+ghost use Rattle.rule_pick.specs.Reach.{is_between_two};
+ghost use Rattle.pair_check.specs.PlainRow.{PlainRow};
+ghost use Rattle.pair_check.specs.Layers.{IsTried, IsFirst};
+ghost use Rattle.pair_check.specs.Facing.{MeetAt, KeepAt, TooNear};
+ghost use Rattle.pair_check.specs.Pairs.{IsGivenPlace, IsNearAt};
+ghost use Rattle.pair_check.specs.Asked.{IsNoteOf};
+ghost use Rattle.pair_check.specs.Rows.{deciders, Stands, AreRowsWhere, AreRowsOfPair};
+ghost use Rattle.pair_check.specs.Views.{checked_by, IsWhole};
+ghost use Rattle.pair_check.specs.Stages.{pair_of, is_courtyard, HoldsNowhere, IsNear, IsOfPair, IsOfKind, AreRowsBelow};
+
+use crate::asked::{ANYTHING, Asked};
+use crate::compared::is_compared;
+use crate::faces::face_somewhere;
+use crate::found::{Near, Pair, Single};
+use crate::layer::RowLayer;
+use crate::measure::{gap_at, may_face, meet_at};
+use crate::pair_rows::PairRows;
+use crate::places::{places_of, tried_at};
+use crate::row::{Row, counts};
+use crate::single::single_at;
+use crate::steps::Steps;
+use crate::view::CheckView;
+use board_items::{Item, LayerSet, Nm};
+use cond_lang::{Kind, Severity};
+use rule_pick::{Source, pick};
+use std::alloc::Global;
+use std::sync::ledger::Ledger;
+
+fn is_courtyard(kind: Kind) -> bool
+    ensures { result ≡ is_courtyard kind }
+{
+    matches!(kind, Kind::CourtyardClearance)
+}
+
+// The gap on the layer, where the two are nearer than `least`; courtyards may not touch either.
+fn gap_if_near(
+    copper: LayerSet,
+    kind: Kind,
+    layer: RowLayer,
+    a: &Item,
+    b: &Item,
+    least: Nm,
+) -> Option<Nm>
+    requires tried { IsTried copper layer }
+    requires least { IsLength least }
+    ensures { MatchOption result (¬ (TooNear kind layer a.now b.now least)) (λ gap. TooNear kind layer a.now b.now least × IsGap (KeepAt kind layer a.now b.now) least gap) }
+{
+    let yards = is_courtyard(kind);
+    // nothing has to be kept
+    if least == 0 && !yards {
+        return None;
+    }
+    let gap = gap_at(copper, kind, layer, a, b, least);
+    if gap < least {
+        return Some(gap);
+    }
+    if yards && meet_at(copper, kind, layer, a, b) {
+        Some(gap)
+    } else {
+        None
+    }
+}
+
+// What is broken on the layer, if anything is.
+fn near_at(view: &CheckView, kind: Kind, pair: Pair<'_>, layer: RowLayer) -> Option<Near>
+    requires few { length view.now.rules.now < 4294967295 }
+    requires measured { IsTrue (is_between_two kind) }
+    requires tried { IsTried view.now.board.now.copper layer }
+    ensures { MatchOption result (¬ (IsNearAt (deciders (checked_by view.now)) kind (pair_of pair.entry) layer))
+        (λ near. (near.layer ≡ layer) × IsNear (deciders (checked_by view.now)) kind (pair_of pair.entry) near) }
+{
+    if !may_face(kind, layer, pair.a, pair.b) {
+        return None;
+    }
+    let mins = view.classes.mins();
+    let picked = pick(
+        view.rules,
+        mins,
+        kind,
+        pair.facts_a,
+        Some(pair.facts_b),
+        layer.asked(),
+    );
+    if !counts(picked.severity) {
+        return None;
+    }
+    let copper = view.board.copper();
+    let gap = gap_if_near(copper, kind, layer, pair.a, pair.b, picked.least)?;
+    Some(Near { layer, picked, gap })
+}
+
+// The first layer on which the two are too near. Most pairs are told before any layer is tried.
+fn first_near(view: &CheckView, asked: Asked, kind: Kind, pair: Pair<'_>) -> Option<Near>
+    requires few { length view.now.rules.now < 4294967295 }
+    requires asked { IsNoteOf (deciders (checked_by view.now)) asked }
+    requires measured { IsTrue (is_between_two kind) }
+    ensures { MatchOption result (HoldsNowhere view.now.board.now.copper (IsNearAt (deciders (checked_by view.now)) kind (pair_of pair.entry)))
+        (λ near. IsNear (deciders (checked_by view.now)) kind (pair_of pair.entry) near × IsFirst view.now.board.now.copper (IsNearAt (deciders (checked_by view.now)) kind (pair_of pair.entry)) near.layer) }
+{
+    if !asked.has(kind) {
+        return None;
+    }
+    if !face_somewhere(kind, pair.a, pair.b) {
+        return None;
+    }
+    let places = places_of(kind);
+    for place in places.from..places.to {
+        if let Some(layer) = tried_at(view.board.copper(), place) {
+            if let Some(near) = near_at(view, kind, pair, layer) {
+                return Some(near);
+            }
+        }
+    }
+    None
+}
+
+// The first layer on which the two meet.
+fn first_meeting(copper: LayerSet, kind: Kind, a: &Item, b: &Item) -> Option<RowLayer>
+    ensures { MatchOption result (HoldsNowhere copper (λ layer. MeetAt kind layer a.now b.now)) (IsFirst copper (λ layer. MeetAt kind layer a.now b.now)) }
+{
+    if !face_somewhere(kind, a, b) {
+        return None;
+    }
+    let places = places_of(kind);
+    for place in places.from..places.to {
+        if let Some(layer) = tried_at(copper, place) {
+            if may_face(kind, layer, a, b) && meet_at(copper, kind, layer, a, b) {
+                return Some(layer);
+            }
+        }
+    }
+    None
+}
+
+// That the two meet: always an error, whatever the rules say.
+fn meeting_row(view: &CheckView, kind: Kind, first: u32, second: u32, pair: Pair<'_>) -> Option<Row>
+    requires kind { (kind ≡ Kind.Short) ⊎ (kind ≡ Kind.Keepout) }
+    requires ordered { first < second }
+    ensures { MatchOption result ((row : PlainRow) → ¬ (IsOfKind (IsOfPair (deciders (checked_by view.now)) (pair_of pair.entry) first second) kind row))
+        (λ row. IsOfKind (IsOfPair (deciders (checked_by view.now)) (pair_of pair.entry) first second) kind row) }
+{
+    if !is_compared(kind, pair.a, pair.b) {
+        return None;
+    }
+    let layer = first_meeting(view.board.copper(), kind, pair.a, pair.b)?;
+    Some(Row {
+        first,
+        second,
+        kind,
+        layer,
+        value: 0,
+        gap: 0,
+        over: false,
+        source: Source::Default,
+        severity: Severity::Error,
+    })
+}
+
+// That the two are too near.
+fn near_row(
+    view: &CheckView,
+    asked: Asked,
+    kind: Kind,
+    first: u32,
+    second: u32,
+    pair: Pair<'_>,
+) -> Option<Row>
+    requires few { length view.now.rules.now < 4294967295 }
+    requires asked { IsNoteOf (deciders (checked_by view.now)) asked }
+    requires measured { IsTrue (is_between_two kind) }
+    requires place { IsGivenPlace (deciders (checked_by view.now)) kind (pair_of pair) }
+    requires ordered { first < second }
+    ensures { MatchOption result ((row : PlainRow) → ¬ (IsOfKind (IsOfPair (deciders (checked_by view.now)) (pair_of pair.entry) first second) kind row))
+        (λ row. IsOfKind (IsOfPair (deciders (checked_by view.now)) (pair_of pair.entry) first second) kind row) }
+{
+    if !is_compared(kind, pair.a, pair.b) {
+        return None;
+    }
+    let near = first_near(view, asked, kind, pair)?;
+    Some(Row {
+        first,
+        second,
+        kind,
+        layer: near.layer,
+        value: near.picked.least,
+        gap: near.gap,
+        over: false,
+        source: near.picked.source,
+        severity: near.picked.severity,
+    })
+}
+
+// Appends the row of a kind that measures, if the two break it.
+fn add_near(
+    view: &CheckView,
+    asked: Asked,
+    kind: Kind,
+    first: u32,
+    second: u32,
+    pair: Pair<'_>,
+    rows: &mut PairRows,
+)
+    requires few { length view.now.rules.now < 4294967295 }
+    requires asked { IsNoteOf (deciders (checked_by view.now)) asked }
+    requires measured { IsTrue (is_between_two kind) }
+    requires place { IsGivenPlace (deciders (checked_by view.now)) kind (pair_of pair) }
+    requires ordered { first < second }
+    requires room { length rows.old < 8 }
+    requires below { AreRowsBelow (IsOfPair (deciders (checked_by view.now)) (pair_of pair) first second) (kind_number kind) rows.old }
+    ensures rows { AreRowsBelow (IsOfPair (deciders (checked_by view.now)) (pair_of pair.entry) first second) (kind_number kind + 1) rows.new }
+    ensures count { length rows.new ≤ length rows.old + 1 }
+{
+    if let Some(row) = near_row(view, asked, kind, first, second, pair) {
+        rows.push(row);
+    }
+}
+
+// Appends the row of a short, or those of a clearance and of that of a hole, whose place it takes.
+fn add_of_nets(
+    view: &CheckView,
+    asked: Asked,
+    first: u32,
+    second: u32,
+    pair: Pair<'_>,
+    rows: &mut PairRows,
+)
+    requires few { length view.now.rules.now < 4294967295 }
+    requires asked { IsNoteOf (deciders (checked_by view.now)) asked }
+    requires ordered { first < second }
+    requires none { length rows.old ≡ 0 }
+    requires below { AreRowsBelow (IsOfPair (deciders (checked_by view.now)) (pair_of pair) first second) 1 rows.old }
+    ensures rows { AreRowsBelow (IsOfPair (deciders (checked_by view.now)) (pair_of pair.entry) first second) 4 rows.new }
+    ensures count { length rows.new ≤ 2 }
+{
+    match meeting_row(view, Kind::Short, first, second, pair) {
+        Some(row) => rows.push(row),
+        None => {
+            add_near(view, asked, Kind::Clearance, first, second, pair, rows);
+            add_near(view, asked, Kind::HoleClearance, first, second, pair, rows);
+        }
+    }
+}
+
+// Appends the row of an area that keeps the other item out.
+fn add_keepout(view: &CheckView, first: u32, second: u32, pair: Pair<'_>, rows: &mut PairRows)
+    requires ordered { first < second }
+    requires room { length rows.old < 8 }
+    requires below { AreRowsBelow (IsOfPair (deciders (checked_by view.now)) (pair_of pair) first second) 7 rows.old }
+    ensures rows { AreRowsBelow (IsOfPair (deciders (checked_by view.now)) (pair_of pair.entry) first second) 8 rows.new }
+    ensures count { length rows.new ≤ length rows.old + 1 }
+{
+    if let Some(row) = meeting_row(view, Kind::Keepout, first, second, pair) {
+        rows.push(row);
+    }
+}
+
+// The rows of the pair.
+fn rows_of(
+    alloc: Global,
+    view: &CheckView,
+    asked: Asked,
+    first: u32,
+    second: u32,
+    pair: Pair<'_>,
+) -> PairRows
+    requires few { length view.now.rules.now < 4294967295 }
+    requires asked { IsNoteOf (deciders (checked_by view.now)) asked }
+    requires ordered { first < second }
+    ensures { AreRowsWhere (IsOfPair (deciders (checked_by view.now)) (pair_of pair.entry) first second) result }
+{
+    let mut rows = PairRows::new(alloc);
+    add_of_nets(view, asked, first, second, pair, &mut rows);
+    add_near(
+        view,
+        asked,
+        Kind::HoleToHole,
+        first,
+        second,
+        pair,
+        &mut rows,
+    );
+    add_near(
+        view,
+        asked,
+        Kind::EdgeClearance,
+        first,
+        second,
+        pair,
+        &mut rows,
+    );
+    add_near(
+        view,
+        asked,
+        Kind::CourtyardClearance,
+        first,
+        second,
+        pair,
+        &mut rows,
+    );
+    add_keepout(view, first, second, pair, &mut rows);
+    add_near(
+        view,
+        asked,
+        Kind::PhysicalClearance,
+        first,
+        second,
+        pair,
+        &mut rows,
+    );
+    add_near(
+        view,
+        asked,
+        Kind::PhysicalHoleClearance,
+        first,
+        second,
+        pair,
+        &mut rows,
+    );
+    rows
+}
+
+/// As `test_pair`, where the first item is at hand, and what the board and the rules ask for. It takes one step, and no memory.
+pub fn test_beside<L: Ledger>(
+    alloc: Global,
+    view: &CheckView,
+    asked: Asked,
+    first: u32,
+    one: Single<'_>,
+    second: u32,
+    steps: &mut Steps<L>,
+) -> PairRows
+    requires view { IsWhole view.now }
+    requires asked { IsNoteOf (deciders (checked_by view.now)) asked }
+    requires ordered { first < second }
+    requires first { Stands (checked_by view.now) first one.item.now one.facts.now }
+    requires second { IsSome (item_at (checked_by view.now).board.items second) }
+    ensures rows { AreRowsOfPair (checked_by view.now) first second result }
+    ensures step { steps.new ≡ steps.old + 1 }
+{
+    steps.tick();
+    match single_at(view, second) {
+        Some(other) => {
+            let pair = Pair {
+                a: one.item,
+                b: other.item,
+                facts_a: one.facts,
+                facts_b: other.facts,
+            };
+            rows_of(alloc, view, asked, first, second, pair)
+        }
+        None => PairRows::new(alloc),
+    }
+}
+
+/// All rows of a pair of items, the one with the lesser id first, by rising kinds. It takes one step, and no memory.
+///
+/// The pair has one row at most of each kind for which it is compared, on the first layer on which something is broken: a
+/// short or a keepout where the two meet, another kind where they are nearer than what is picked there, and where that is an
+/// error or a warning. A short takes the place of a clearance, and of the clearance of a hole. Lengths are in nanometres.
+pub fn test_pair<L: Ledger>(
+    alloc: Global,
+    view: &CheckView,
+    first: u32,
+    second: u32,
+    steps: &mut Steps<L>,
+) -> PairRows
+    requires view { IsWhole view.now }
+    requires ordered { first < second }
+    requires first { IsSome (item_at (checked_by view.now).board.items first) }
+    requires second { IsSome (item_at (checked_by view.now).board.items second) }
+    ensures rows { AreRowsOfPair (checked_by view.now) first second result }
+    ensures step { steps.new ≡ steps.old + 1 }
+{
+    match single_at(view, first) {
+        Some(one) => test_beside(alloc, view, ANYTHING, first, one, second, steps),
+        None => {
+            steps.tick();
+            PairRows::new(alloc)
+        }
+    }
+}

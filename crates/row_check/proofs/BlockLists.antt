@@ -1,0 +1,213 @@
+-- Blocks of entries, and the ends of lists.
+use Rattle.std.proofs.Common.{◌≡◌, ◌⊎◌, inl, inr, ◌∙◌, ap, sym, subst, refl, ℕ, ◌+◌, ◌-◌, ◌*◌, ◌<◌, ◌≤◌, zero, suc, ℤ, ◌≤ℤ◌, Bool, true, false, ◌&&◌, int_le, List, [], ◌∷◌, ◌++◌, length, take, drop, get_or, Some, slice_get, arith}
+use Rattle.std.specs.List.{filter, All}
+use Rattle.std.proofs.lemmas.Int.{ints}
+use Rattle.std.proofs.lemmas.List.{append_assoc, length-append, take_more, take-append-drop, take_all, length-drop}
+use Rattle.std.proofs.lemmas.List.Elements.{All-weaker, All-push, filter-append}
+use Rattle.std.proofs.lemmas.Option.{slice_get_within}
+use Rattle.geo_seg.specs.declared.boxes.Bounds.{Bounds}
+use Rattle.geo_seg.specs.Boxes.{IsPartOf, BoxesMeet, widened, do_boxes_meet, are_near}
+use Rattle.box_index.specs.declared.entry.Entry.{Entry}
+use Rattle.box_index.specs.Tiles.{PlainIndex, margin}
+use Rattle.box_index.proofs.EntryLists.{filter_none}
+use Rattle.box_index.proofs.TileLemmas.{near_sides}
+use Rattle.row_check.specs.Blocks.{AreBlocks, IsFar}
+use Rattle.row_check.specs.Walks.{is_owned, IsEndOf}
+
+-- ---- boxes
+
+pub part_on : (a b c : Bounds) → IsPartOf a b → IsPartOf b c → IsPartOf a c
+part_on a b c h k = record {
+  left = on c.left b.left a.left k.left h.left;
+  top = on c.top b.top a.top k.top h.top;
+  right = on a.right b.right c.right h.right k.right;
+  bottom = on a.bottom b.bottom c.bottom h.bottom k.bottom;
+}
+  where
+    on : (x y z : ℤ) → x ≤ℤ y → y ≤ℤ z → x ≤ℤ z
+    on x y z l m = omega (arith, ints)
+
+and_from : (x y : Bool) → x ≡ true → y ≡ true → (x && y) ≡ true
+and_from x y e f = cc
+
+-- a box made to reach as far as another on each side, one after the other
+module _ (a b l r t m : Bounds) (in_l : IsPartOf a l) (in_r : IsPartOf l r) (in_t : IsPartOf r t) (in_m : IsPartOf t m) where
+  in_last : IsPartOf l m
+  in_last = part_on l r m in_r (part_on r t m in_t in_m)
+
+  pub first_in_all : IsPartOf a m
+  first_in_all = part_on a l m in_l in_last
+
+  pub second_in_all : l.left ≤ℤ b.left → b.right ≤ℤ r.right → t.top ≤ℤ b.top → b.bottom ≤ℤ m.bottom → IsPartOf b m
+  second_in_all left right top bottom = record {
+    left = on m.left l.left b.left in_last.left left;
+    top = on m.top t.top b.top in_m.top top;
+    right = on b.right r.right m.right right (part_on r t m in_t in_m).right;
+    bottom = bottom;
+  }
+    where
+      on : (x y z : ℤ) → x ≤ℤ y → y ≤ℤ z → x ≤ℤ z
+      on x y z l m = omega (arith, ints)
+
+int_le_true : (x y : ℤ) → x ≤ℤ y → int_le x y ≡ true
+int_le_true x y h = grind (arith, ints)
+
+meet_true : (b c : Bounds) → BoxesMeet b c → do_boxes_meet b c ≡ true
+meet_true b c m =
+    and_from (int_le b.left c.right && int_le c.left b.right) (int_le b.top c.bottom && int_le c.top b.bottom)
+    (and_from (int_le b.left c.right) (int_le c.left b.right) (int_le_true b.left c.right m.left) (int_le_true c.left b.right m.right))
+    (and_from (int_le b.top c.bottom) (int_le c.top b.bottom) (int_le_true b.top c.bottom m.top) (int_le_true c.top b.bottom m.bottom))
+
+-- what is far from a box is far from each part of it
+far_part : (m : ℤ) (first part box : Bounds) → IsPartOf part box → are_near m first box ≡ false → are_near m first part ≡ false
+far_part m first part box is far = by (are_near m first part) refl
+  where
+    low : (x y z : ℤ) → x ≤ℤ y → y ≤ℤ z → x ≤ℤ z
+    low x y z l k = omega (arith, ints)
+
+    met : are_near m first part ≡ true → are_near m first box ≡ true
+    met e =
+        let s = near_sides m first part e in
+        meet_true (widened first m) box
+        (record {
+          left = low (widened first m).left part.right box.right s.left is.right;
+          right = low box.left part.left (widened first m).right is.left s.right;
+          top = low (widened first m).top part.bottom box.bottom s.top is.bottom;
+          bottom = low box.top part.top (widened first m).bottom is.top s.bottom;
+        })
+
+    unlike : (b : Bool) → b ≡ true → b ≡ false → ⊥
+    unlike b e f = cc
+
+    by : (b : Bool) → are_near m first part ≡ b → b ≡ false
+    by false e = refl
+    by true e = absurd (unlike (are_near m first box) (met e) far)
+
+not_owned : (b c : Bool) → b ≡ false → (b && c) ≡ false
+not_owned b c e = cc
+
+-- ---- blocks
+
+-- each end has the same blocks
+pub blocks_end : (boxes : List Bounds) (entries front end : List Entry) → entries ≡ front ++ end → AreBlocks boxes entries → AreBlocks boxes end
+blocks_end boxes entries front end split h = record {
+  each = λ f e is k b at long. h.each (front ++ f) e (split ∙ ap (λ ys. front ++ ys) is ∙ sym (append_assoc front f e)) k b at long;
+}
+
+far_block : (index : PlainIndex) (tile : ℕ) (first : Entry) (boxes : List Bounds) (left : List Entry) → AreBlocks boxes left → IsFar index first boxes (length left) → filter (is_owned index tile first) (take 64 left) ≡ []
+far_block index tile first boxes left h far =
+    filter_none (is_owned index tile first) (take 64 left)
+    (All-weaker (λ (e : Entry). IsPartOf e.bounds far.box) (λ (e : Entry). is_owned index tile first e ≡ false)
+    (λ e part. not_owned (are_near (margin index) first.bounds e.bounds) _ (far_part (margin index) first.bounds e.bounds far.box part far.far)) (take 64 left) (h.each [] left refl far.k far.box far.stands far.count_is))
+
+-- a block more that is far
+pub block_less : (index : PlainIndex) (tile : ℕ) (a : Entry) (boxes : List Bounds) (others left rest : List Entry) → rest ≡ drop 64 left → AreBlocks boxes left → IsFar index a boxes (length left) → IsEndOf index tile a others left → IsEndOf index tile a others rest
+block_less index tile a boxes others left rest e blocks far h = record {
+  front = h.front ++ take 64 left;
+  split = h.split ∙ ap (λ ys. h.front ++ ys) (sym (take-append-drop 64 left) ∙ ap (λ ys. take 64 left ++ ys) (sym e)) ∙ sym (append_assoc h.front (take 64 left) rest);
+  none =
+      filter-append (is_owned index tile a) h.front (take 64 left)
+      ∙ ap (λ ys. ys ++ filter (is_owned index tile a) (take 64 left)) h.none
+      ∙ far_block index tile a boxes left blocks far;
+}
+
+-- what a slice behind the block has
+pub behind_block : (n : ℕ) (xs : List Entry) → n ≡ length xs → take (n - 64) (drop 64 xs) ≡ drop 64 xs
+behind_block n xs e = take_all (n - 64) (drop 64 xs) (let long = length-drop 64 xs in omega (arith, long, e))
+
+-- ---- how the boxes are made
+
+pub more_in_box : (first : Entry) (others : List Entry) (i : ℕ) (d : Entry) (old new : Bounds) → i < length others → IsPartOf old new → IsPartOf (get_or others i d).bounds new
+    → All (λ (e : Entry). IsPartOf e.bounds old) (first ∷ take i others) → All (λ (e : Entry). IsPartOf e.bounds new) (first ∷ take (i + 1) others)
+more_in_box first others i d old new lt wider own all =
+    let P : Entry → Type 0 = λ e. IsPartOf e.bounds new in
+    subst (λ ys. All P (first ∷ ys)) (sym (take_more others i d lt))
+    (All-push P (first ∷ take i others) (get_or others i d) (All-weaker (λ (e : Entry). IsPartOf e.bounds old) P (λ e h. part_on e.bounds old new h wider) (first ∷ take i others) all) own)
+
+cut : {X : Type 0} (front end left back : List X) → front ++ end ≡ left ++ back → length end ≤ length back → (f : List X) × (back ≡ f ++ end)
+cut front end [] back e le = (front, sym e)
+cut [] end (x ∷ left) back e le = let long = ap length e ∙ length-append (x ∷ left) back in absurd (omega (arith, long, le))
+cut {X} (y ∷ front) end (x ∷ left) back e le = cut front end left back (tails y x (front ++ end) (left ++ back) e) le
+  where
+    tails : (y x : X) (ys xs : List X) → y ∷ ys ≡ x ∷ xs → ys ≡ xs
+    tails y x ys xs e = cc
+
+whole_end : {X : Type 0} (front end all : List X) → all ≡ front ++ end → length end ≡ length all → end ≡ all
+whole_end [] end all e l = sym e
+whole_end (x ∷ front) end all e l = let long = ap length e ∙ length-append (x ∷ front) end in absurd (omega (arith, long, l))
+
+-- the boxes of the blocks behind some that are left
+pub record AreBehind (boxes : List Bounds) (entries left : List Entry) : Type 0 where
+  pub back : List Entry
+  pub split : entries ≡ left ++ back
+  pub long : length back ≡ length boxes * 64
+  pub blocks : AreBlocks boxes back
+
+no_box : (k : ℕ) (b : Bounds) → slice_get [] k ≡ Some b → ⊥
+no_box k b e = let lt = slice_get_within [] k b e in absurd (omega arith)
+
+get_push : (boxes : List Bounds) (new b : Bounds) (k : ℕ) → slice_get (boxes ++ new ∷ []) k ≡ Some b → (slice_get boxes k ≡ Some b) ⊎ ((k ≡ length boxes) × (new ≡ b))
+get_push [] new b zero e = inr (refl, some_same new b e)
+  where
+    some_same : (x y : Bounds) → Some x ≡ Some y → x ≡ y
+    some_same x y e = cc
+get_push [] new b (suc k) e = absurd (no_box k b e)
+get_push (x ∷ boxes) new b zero e = inl e
+get_push (x ∷ boxes) new b (suc k) e = up (get_push boxes new b k e)
+  where
+    up : (slice_get boxes k ≡ Some b) ⊎ ((k ≡ length boxes) × (new ≡ b)) → (slice_get boxes k ≡ Some b) ⊎ ((suc k ≡ suc (length boxes)) × (new ≡ b))
+    up (inl h) = inl h
+    up (inr h) = inr (ap suc h.0, h.1)
+
+take_front : (xs ys : List Entry) → take (length xs) (xs ++ ys) ≡ xs
+take_front [] ys = refl
+take_front (x ∷ xs) ys = ap (λ zs. x ∷ zs) (take_front xs ys)
+
+pub more_behind : (boxes : List Bounds) (entries left front block : List Entry) (new : Bounds) → left ≡ front ++ block → length block ≡ 64 → All (λ (e : Entry). IsPartOf e.bounds new) block
+    → AreBehind boxes entries left → AreBehind (boxes ++ new ∷ []) entries front
+more_behind boxes entries left front block new e long all h = record {
+  back = block ++ h.back;
+  split = h.split ∙ ap (λ ys. ys ++ h.back) e ∙ append_assoc front block h.back;
+  long = count;
+  blocks = record { each = each };
+}
+  where
+    count : length (block ++ h.back) ≡ length (boxes ++ new ∷ []) * 64
+    count =
+        let l = length-append block h.back in
+        let m = length-append boxes (new ∷ []) in
+        let n = h.long in omega (arith, l, m, n, long)
+
+    front_of : (ys : List Entry) → take 64 (block ++ ys) ≡ block
+    front_of ys = ap (λ (n : ℕ). take n (block ++ ys)) (sym long) ∙ take_front block ys
+
+    each : (f end : List Entry) → block ++ h.back ≡ f ++ end → (k : ℕ) (b : Bounds) → slice_get (boxes ++ new ∷ []) k ≡ Some b → length end ≡ k * 64 + 64 → All (λ (e : Entry). IsPartOf e.bounds b) (take 64 end)
+    each f end is k b at l = by (get_push boxes new b k at)
+      where
+        by : (slice_get boxes k ≡ Some b) ⊎ ((k ≡ length boxes) × (new ≡ b)) → All (λ (e : Entry). IsPartOf e.bounds b) (take 64 end)
+        by (inl old) =
+            let lt = slice_get_within boxes k b old in
+            let c = cut f end block h.back (sym is) (let n = h.long in omega (arith, l, lt, n)) in
+            h.blocks.each c.0 end c.1 k b old l
+        by (inr last) =
+            let whole = whole_end f end (block ++ h.back) is (let n = h.long in let m = length-append block h.back in omega (arith, l, m, n, long, last.0)) in
+            subst (λ ys. All (λ (e : Entry). IsPartOf e.bounds b) (take 64 ys)) (sym whole)
+            (subst (λ ys. All (λ (e : Entry). IsPartOf e.bounds b) ys) (sym (front_of h.back)) (subst (λ x. All (λ (e : Entry). IsPartOf e.bounds x) block) last.1 all))
+
+-- the block at the end of what is left
+pub more_cut : (boxes : List Bounds) (entries left front block : List Entry) (new : Bounds) (n : ℕ) → n ≡ length left - 64 → 64 ≤ length left → front ≡ take n left → block ≡ drop n left → All (λ (e : Entry). IsPartOf e.bounds new) block
+    → AreBehind boxes entries left → AreBehind (boxes ++ new ∷ []) entries front
+more_cut boxes entries left front block new n e le f b all h =
+    more_behind boxes entries left front block new (sym (take-append-drop n left) ∙ ap (λ ys. ys ++ drop n left) (sym f) ∙ ap (λ ys. front ++ ys) (sym b)) (ap length b ∙ length-drop n left ∙ count (length left) n e le) all h
+  where
+    count : (m n : ℕ) → n ≡ m - 64 → 64 ≤ m → m - n ≡ 64
+    count m n e le = omega (arith, e, le)
+
+pub all_behind : (boxes : List Bounds) (entries left : List Entry) → AreBehind boxes entries left → AreBlocks boxes entries
+all_behind boxes entries left h = record { each = each }
+  where
+    each : (f end : List Entry) → entries ≡ f ++ end → (k : ℕ) (b : Bounds) → slice_get boxes k ≡ Some b → length end ≡ k * 64 + 64 → All (λ (e : Entry). IsPartOf e.bounds b) (take 64 end)
+    each f end is k b at l =
+        let lt = slice_get_within boxes k b at in
+        let c = cut f end left h.back (sym is ∙ h.split) (let n = h.long in omega (arith, l, lt, n)) in
+        h.blocks.each c.0 end c.1 k b at l

@@ -1,9 +1,0 @@
-use Rattle.row_check.specs.Pairs.{IsNearAt}
-use Rattle.row_check.specs.Rows.{deciders}
-use Rattle.row_check.specs.Views.{checked_by}
-use Rattle.row_check.specs.Stages.{pair_of}
-use Rattle.row_check.proofs.TriedLayers.{NoneBefore}
-use Rattle.row_check.proofs.pair.first_near.Given as goal
-
-abbrev pub invariant-loop-place : goal.invariant-loop-place
-invariant-loop-place l = NoneBefore l.view.board.now.copper (IsNearAt (deciders (checked_by l.view)) l.kind (pair_of l.pair)) l.place

@@ -1,8 +1,0 @@
-use Rattle.row_check.specs.Singles.{IsForbiddenAt}
-use Rattle.row_check.specs.Rows.{deciders}
-use Rattle.row_check.specs.Views.{checked_by}
-use Rattle.row_check.proofs.TriedLayers.{NoneBefore}
-use Rattle.row_check.proofs.single.first_forbidden.Given as goal
-
-abbrev pub invariant-loop-place : goal.invariant-loop-place
-invariant-loop-place l = NoneBefore l.view.board.now.copper (IsForbiddenAt (deciders (checked_by l.view)) l.kind l.single.item.now l.single.facts.now) l.place

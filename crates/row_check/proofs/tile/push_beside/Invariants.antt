@@ -1,0 +1,10 @@
+use Rattle.std.proofs.Common.{length}
+use Rattle.pair_check.specs.Views.{checked_by}
+use Rattle.row_check.proofs.TileEnds.{IsPushedTo}
+use Rattle.row_check.proofs.tile.push_beside.Given as goal
+
+abbrev pub invariant-walk : goal.invariant-walk
+invariant-walk g l = IsPushedTo (checked_by l.view) l.index l.tile l.first l.boxes l.others l.left l.fn.rows.items l.rows.items l.fn.steps l.steps
+
+abbrev pub decreases-walk : goal.decreases-walk
+decreases-walk g l = length l.left
