@@ -15,7 +15,7 @@ use Rattle.rule_pick.specs.Reach.{IsGreatestOf, distances_asked}
 use Rattle.box_index.specs.declared.entry.Entry.{Entry}
 use Rattle.box_index.specs.Tiles.{PlainIndex, meets_tile, is_in, is_held, held_of, numbers_below, tile_count}
 use Rattle.box_index.proofs.Buckets.{contains_filter}
-use Rattle.row_check.specs.Rows.{Checked}
+use Rattle.pair_check.specs.Rows.{Checked}
 use Rattle.row_check.specs.Tiles.{IsIndexOf}
 use Rattle.row_check.proofs.RowLists.{pairs_append}
 use Rattle.drc_run.specs.TilesHeld.{HoldsItem, AreTilesHeld}

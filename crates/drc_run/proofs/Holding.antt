@@ -12,7 +12,7 @@ use Rattle.rule_pick.specs.Reach.{IsReach}
 use Rattle.box_index.specs.declared.entry.Entry.{Entry}
 use Rattle.box_index.specs.Tiles.{PlainIndex, IsAbsent, placed}
 use Rattle.box_index.proofs.Buckets.{contains_filter}
-use Rattle.row_check.specs.Rows.{Checked}
+use Rattle.pair_check.specs.Rows.{Checked}
 use Rattle.row_check.specs.Tiles.{IsEntryOf, HasEntry, IsIndexOf}
 use Rattle.row_check.proofs.RowLists.{here}
 use Rattle.net_groups.specs.Holding.{HoldsItems, HasEntry as net_entry}

@@ -4,8 +4,8 @@ use Rattle.std.specs.List.{AllPairs, AllZip}
 use Rattle.std.proofs.lemmas.List.Elements.{All-contains}
 use Rattle.std.proofs.lemmas.List.Kept.{AllPairs-from_increasing}
 use Rattle.board_items.specs.Boards.{PlainBoard}
-use Rattle.row_check.specs.PlainRow.{PlainRow}
-use Rattle.row_check.specs.Rows.{Checked}
+use Rattle.pair_check.specs.PlainRow.{PlainRow}
+use Rattle.pair_check.specs.Rows.{Checked}
 use Rattle.row_check.proofs.OneList.{one_list}
 use Rattle.row_check.proofs.RowLists.{here, behind, nothing, cons_case}
 use Rattle.net_groups.specs.Chains.{Chain}

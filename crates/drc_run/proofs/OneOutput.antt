@@ -10,7 +10,7 @@ use Rattle.rule_text.specs.declared.error.RuleError.{RuleError}
 use Rattle.rule_text.specs.Reasons.{reason_of as rules_reason_of, place_of as rules_place_of, inner_place_of as rules_inner_place_of}
 use Rattle.rule_text.specs.RulesOf.{PlainRules}
 use Rattle.rule_text.specs.RuleText.{Says as RulesSays}
-use Rattle.row_check.specs.Rows.{Checked}
+use Rattle.pair_check.specs.Rows.{Checked}
 use Rattle.drc_rows.specs.ReportOf.{report}
 use Rattle.drc_run.specs.Findings.{Found, AreFindings}
 use Rattle.drc_io.specs.Files.{file_of}

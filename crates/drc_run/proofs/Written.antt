@@ -2,7 +2,7 @@
 use Rattle.std.proofs.Common.{◌≡◌, ℕ, List, [], ◌∷◌, Option, Result, Ok, Err, MatchResult, inl, inr, refl, sym, subst, arith}
 use Rattle.drc_io.specs.declared.Failed.{Failed}
 use Rattle.drc_io.specs.Sinks.{Writes}
-use Rattle.row_check.specs.PlainRow.{PlainRow}
+use Rattle.pair_check.specs.PlainRow.{PlainRow}
 use Rattle.drc_run.specs.declared.status.Status.{Status}
 use Rattle.drc_run.specs.declared.status.Status.TheVariants.{Clean, Rows, Usage, Refused, ReadFault, WriteFault, OutOfMemory}
 use Rattle.drc_run.specs.declared.texts.Which.{Which}

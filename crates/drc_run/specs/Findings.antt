@@ -2,8 +2,8 @@
 use Rattle.std.specs.Prelude.{◌≡◌, ◌<◌, ℕ, not, nat_eq, List, length, map, filter, All, IsSome}
 use Rattle.std.specs.List.{AllZip}
 use Rattle.board_items.specs.Boards.{PlainBoard, name_of}
-use Rattle.row_check.specs.PlainRow.{PlainRow}
-use Rattle.row_check.specs.Rows.{Checked, AreRows}
+use Rattle.pair_check.specs.PlainRow.{PlainRow}
+use Rattle.pair_check.specs.Rows.{Checked, AreRows}
 use Rattle.net_groups.specs.Groups.{AreGroups, IsOnBoard}
 use Rattle.net_groups.specs.Anchors.{AreAnchors}
 use Rattle.ratsnest.specs.NestOf.{IsNest, HasPlaces}

@@ -5,8 +5,8 @@ use Rattle.drc_io.specs.Files.{IsWhole}
 use Rattle.board_items.specs.Boards.{PlainBoard}
 use Rattle.net_class.specs.Classes.{PlainClasses, plain_classes}
 use Rattle.rule_text.specs.RulesOf.{PlainRules, no_rules}
-use Rattle.row_check.specs.PlainRow.{PlainRow}
-use Rattle.row_check.specs.Rows.{Checked}
+use Rattle.pair_check.specs.PlainRow.{PlainRow}
+use Rattle.pair_check.specs.Rows.{Checked}
 use Rattle.drc_rows.specs.ReportOf.{report}
 use Rattle.drc_run.specs.Findings.{Found, AreFindings}
 use Rattle.drc_run.specs.declared.texts.Which.{Which}

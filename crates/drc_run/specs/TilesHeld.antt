@@ -5,7 +5,7 @@ use Rattle.geo_seg.specs.Boxes.{widened}
 use Rattle.rule_pick.specs.Reach.{IsReach}
 use Rattle.box_index.specs.declared.entry.Entry.{Entry}
 use Rattle.box_index.specs.Tiles.{meets_tile, tile_count}
-use Rattle.row_check.specs.Rows.{Checked}
+use Rattle.pair_check.specs.Rows.{Checked}
 use Rattle.row_check.specs.Tiles.{IsEntryOf}
 
 -- the bounds of some item, in half nanometres, meet the tile where they are widened by the reach, in nanometres

@@ -3,7 +3,7 @@
 ghost use Rattle.std.specs.Prelude.{◌≡◌, ◌≤◌, ℕ, List, length, Option, Some, IfOk, MatchResult};
 ghost use Rattle.drc_io.specs.Causes.{Rose};
 ghost use Rattle.rule_text.specs.Views.{plain_rules};
-ghost use Rattle.row_check.specs.Views.{checked_by, IsWhole};
+ghost use Rattle.pair_check.specs.Views.{checked_by, IsWhole};
 ghost use Rattle.drc_run.specs.declared.status.Status.{Status};
 ghost use Rattle.drc_run.specs.Names.{reading_in};
 ghost use Rattle.drc_run.specs.Findings.{AreFound};

@@ -1,8 +1,8 @@
 //! All that is found on a board.
 
 ghost use Rattle.std.specs.Prelude.{◌≡◌, IfOk};
+ghost use Rattle.pair_check.specs.Views.{checked_by, IsWhole};
 ghost use Rattle.row_check.specs.Tiles.{IsIndexOf};
-ghost use Rattle.row_check.specs.Views.{checked_by, IsWhole};
 ghost use Rattle.net_groups.specs.Holding.{HoldsItems};
 ghost use Rattle.drc_run.specs.Findings.{AreFound};
 

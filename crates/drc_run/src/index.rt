@@ -2,7 +2,7 @@
 
 ghost use Rattle.std.specs.Prelude.{◌≡◌, ◌≤ℤ◌, pos, IfOk};
 ghost use Rattle.rule_pick.specs.Reach.{IsReach};
-ghost use Rattle.row_check.specs.Rows.{Checked};
+ghost use Rattle.pair_check.specs.Rows.{Checked};
 ghost use Rattle.row_check.specs.Tiles.{IsIndexOf};
 
 use board_items::{Board, Nm};

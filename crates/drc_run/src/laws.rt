@@ -1,7 +1,7 @@
 //! Laws of the output. The functions do nothing: each clause holds for all words and files.
 
 ghost use Rattle.std.specs.Prelude.{◌≡◌, ℕ, List, Option, Some};
-ghost use Rattle.row_check.specs.Rows.{Checked};
+ghost use Rattle.pair_check.specs.Rows.{Checked};
 ghost use Rattle.drc_run.specs.Words.{Reading};
 ghost use Rattle.drc_run.specs.Findings.{Found, AreFindings};
 ghost use Rattle.drc_run.specs.Output.{Output, IsOutputFor};

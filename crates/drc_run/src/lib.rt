@@ -24,7 +24,7 @@ use drc_io::{Shelf, Sink};
 pub use texts::Which;
 
 /// Checks the board that the words name, under the classes of the project and the rules of the rule file if they name these,
-/// and writes its report. The words are those after the program's name.
+/// and writes its report. `words` are what a command line has behind the name of the program.
 ///
 /// The status is 0 where the board has no row, 1 where it has one, 2 where the words are no command line, 3 where
 /// a text is refused, 4 where a file was not read, 5 where a write failed and 6 where memory ran out.

@@ -116,8 +116,8 @@ fn answers(side: Side, func: Func, pattern: &[u8], a: &Facts, b: Option<&Facts>)
 
 /// Whether the condition holds of a, and of b where it is there. A comparison with a property that an item has not, or
 /// with an item that is not there, is false, also one by `!=`, and so is what a function asks of an item that is not there.
-/// Texts are compared without ASCII case; a literal on the right of a comparison, and the text of a function, may hold `*`
-/// and `?`.
+/// ASCII case plays no part where texts are compared, and `*` and `?` are wildcards in a literal on the right and in the
+/// text of a function.
 pub fn holds(cond: &Cond, a: &Facts, b: Option<&Facts>) -> bool
     ensures { result ≡ holds (tree_of cond.now) a.now (option_copied b.entry) }
 {

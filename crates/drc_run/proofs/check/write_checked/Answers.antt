@@ -3,7 +3,7 @@ use Rattle.drc_io.proofs.Writing.{Writes-text}
 use Rattle.cond_lang.specs.declared.constraints.Rule.{Rule}
 use Rattle.cond_lang.specs.Rules.{plain_rule}
 use Rattle.rule_text.specs.Views.{plain_rules}
-use Rattle.row_check.specs.Rows.{Checked}
+use Rattle.pair_check.specs.Rows.{Checked}
 use Rattle.drc_rows.specs.ReportOf.{report}
 use Rattle.drc_run.specs.Findings.{Found, AreFindings}
 use Rattle.drc_run.specs.Output.{IsReportOf, status_of}

@@ -1,5 +1,5 @@
 use Rattle.box_index.specs.Tiles.{held_of}
-use Rattle.row_check.specs.Views.{checked_by}
+use Rattle.pair_check.specs.Views.{checked_by}
 use Rattle.drc_run.proofs.Holding.{holds_items}
 use Rattle.drc_run.proofs.Held.{tiles_held}
 use Rattle.drc_run.proofs.findings.find.Goals as goal

@@ -3,8 +3,8 @@ use Rattle.std.proofs.lemmas.Result.{err_from_is_err_and}
 use Rattle.drc_io.proofs.Writing.{Writes-then, Writes-text}
 use Rattle.cond_lang.specs.Rules.{plain_rule}
 use Rattle.rule_text.specs.Views.{plain_rules}
-use Rattle.row_check.specs.Rows.{HasItems, HasSource}
-use Rattle.row_check.specs.Views.{checked_by}
+use Rattle.pair_check.specs.Rows.{HasItems, HasSource}
+use Rattle.pair_check.specs.Views.{checked_by}
 use Rattle.drc_rows.specs.Report.{number_line, rows_text, notes_text}
 use Rattle.drc_rows.specs.ReportOf.{nets_text, tiles_line, report}
 use Rattle.drc_rows.proofs.Lines.{Writes-cut}
