@@ -11,8 +11,6 @@ mod item;
 mod layers;
 mod moves;
 mod parts;
-#[cfg(test)]
-mod tests;
 mod turns;
 mod units;
 mod walk;

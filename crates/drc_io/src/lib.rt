@@ -187,6 +187,3 @@ fn all_cross() {
     crosses::<MemShelf>();
     crosses::<MemSink>();
 }
-
-#[cfg(test)]
-mod tests;

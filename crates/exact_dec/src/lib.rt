@@ -18,8 +18,6 @@ ghost use Rattle.exact_dec.specs.Written.{mm_text};
 mod parts;
 mod scale;
 mod short;
-#[cfg(test)]
-mod tests;
 mod unit;
 mod written;
 

@@ -10,8 +10,6 @@ mod gaps;
 mod parity;
 mod polygons;
 mod runs;
-#[cfg(test)]
-mod tests;
 mod walks;
 
 pub use polygons::{

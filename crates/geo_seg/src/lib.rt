@@ -13,8 +13,6 @@ mod polygon;
 mod runs;
 mod shapes;
 mod shifts;
-#[cfg(test)]
-mod tests;
 mod vectors;
 
 pub use boxes::Bounds;

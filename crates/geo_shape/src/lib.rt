@@ -5,7 +5,5 @@
 #![tactic(auto)]
 
 mod distances;
-#[cfg(test)]
-mod tests;
 
 pub use distances::{apart, gap, meet};

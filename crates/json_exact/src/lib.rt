@@ -14,6 +14,3 @@ mod strings;
 pub use error::JsonError;
 pub use handles::{Items, Json, Span, Value};
 pub use parsing::{one_value, parse};
-
-#[cfg(test)]
-mod tests;

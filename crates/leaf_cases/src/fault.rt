@@ -11,6 +11,7 @@ pub enum Fault {
     UnknownEscape,
     BadNumber,
     TooLong,
+    NotUtf8,
     NoNest,
     OutOfMemory,
 }
@@ -24,6 +25,7 @@ impl Fault {
             Fault::UnknownEscape => "has an escape that is none",
             Fault::BadNumber => "has no number where one is demanded, or one out of range",
             Fault::TooLong => "makes a text too long",
+            Fault::NotUtf8 => "has a name that is no text",
             Fault::NoNest => "has anchors that do not rise, or leaves out a group",
             Fault::OutOfMemory => "memory ran out",
         }

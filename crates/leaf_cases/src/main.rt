@@ -5,14 +5,23 @@
 //! read counts as differing. `docs/CASES.md` has the format.
 #![tactic(auto)]
 
-ghost use Rattle.std.specs.Prelude.{◌≡◌, ◌↔◌, IsTrue};
+ghost use Rattle.std.specs.Prelude.{◌≡◌, ◌↔◌, ◌+◌, ◌-◌, ◌^◌, if◌then◌else◌, [], min, IsTrue};
+ghost use Rattle.leaf_cases.specs.declared.Line.{Line};
 
+mod boards;
 mod calls;
+mod classes;
 mod fault;
+mod files;
+mod measures;
 mod nests;
 mod numbers;
+mod outlines;
+mod rules;
 mod shapes;
 mod texts;
+mod threads;
+mod tiles;
 mod trees;
 mod values;
 
@@ -21,6 +30,7 @@ use fault::Fault;
 use std::env::Env;
 use std::process::ExitCode;
 use std::rt::Files;
+use std::thread::Threads;
 use std::{env, fs, io};
 use texts::text_of;
 
@@ -32,7 +42,10 @@ struct Counts {
 }
 
 impl Counts {
-    fn count(&mut self, is_ok: bool) {
+    fn count(&mut self, is_ok: bool)
+        ensures ok { self.new.ok ≡ (if is_ok then min (self.old.ok + 1) (2 ^ 64 - 1) else self.old.ok) }
+        ensures differ { self.new.differ ≡ (if is_ok then self.old.differ else min (self.old.differ + 1) (2 ^ 64 - 1)) }
+    {
         if is_ok {
             self.ok = self.ok.saturating_add(1);
         } else {
@@ -49,7 +62,9 @@ enum Line<'t> {
     Nothing,
 }
 
-fn line_of(line: &str) -> Line<'_> {
+fn line_of(line: &str) -> Line<'_>
+    ensures { line.now ≡ [] → result ≡ Line.Nothing }
+{
     if line.is_empty() || line.starts_with('#') {
         return Line::Nothing;
     }
@@ -67,14 +82,14 @@ fn is_same(found: &[u8], expected: &[u8]) -> bool
 }
 
 /// Makes a call and prints whether the answer is the one that is expected.
-fn try_case<R: AllocGlobal + Print>(
+fn try_case<R: AllocGlobal + Print + Threads>(
     rt: &R,
     counts: &mut Counts,
     call: &str,
     expected: &str,
 ) -> io::Result<()> {
     let alloc = rt.alloc();
-    match (answer(alloc, call), text_of(alloc, expected)) {
+    match (answer(rt, call), text_of(alloc, expected)) {
         (Ok(found), Ok(wanted)) => {
             let is_ok = is_same(&found, &wanted);
             counts.count(is_ok);
@@ -96,7 +111,7 @@ fn refuse<R: Print>(rt: &R, counts: &mut Counts, line: &str, fault: Fault) -> io
 }
 
 /// Tries the cases of a file.
-fn try_file<R: AllocGlobal + Print + Files>(
+fn try_file<R: AllocGlobal + Print + Files + Threads>(
     rt: &R,
     counts: &mut Counts,
     file: &str,
@@ -120,7 +135,7 @@ fn try_file<R: AllocGlobal + Print + Files>(
     }
 }
 
-fn try_files<R: AllocGlobal + Print + Files + Env>(rt: &R) -> io::Result<Counts> {
+fn try_files<R: AllocGlobal + Print + Files + Env + Threads>(rt: &R) -> io::Result<Counts> {
     let mut counts = Counts { ok: 0, differ: 0 };
     for file in env::args(rt)?.skip(1) {
         try_file(rt, &mut counts, file.as_str())?;

@@ -7,7 +7,7 @@ ghost use Rattle.std.specs.Prelude.{◌<◌, ◌^◌, length, IsTrue};
 ghost use Rattle.ratsnest.specs.NestOf.{Rise, GroupsOccur};
 
 use crate::fault::Fault;
-use crate::numbers::number;
+use crate::numbers::{number, small};
 use crate::texts::add;
 use ratsnest::{Anchor, Link, Links, Nest, check_nest, have_nest, nest};
 use std::alloc::Global;
@@ -17,10 +17,6 @@ use std::alloc::Global;
 struct Given {
     anchors: Vec<Anchor>,
     links: Vec<Link>,
-}
-
-fn small(number: i64) -> Result<u32, Fault> {
-    u32::try_from(number).ok().ok_or(Fault::BadNumber)
 }
 
 fn anchor(part: &[i64]) -> Result<Anchor, Fault> {

@@ -9,6 +9,11 @@ pub fn number(written: &str) -> Result<i64, Fault> {
     written.parse::<i64>().ok().ok_or(Fault::BadNumber)
 }
 
+/// The number, where 32 bits hold it.
+pub fn small(number: i64) -> Result<u32, Fault> {
+    u32::try_from(number).ok().ok_or(Fault::BadNumber)
+}
+
 fn shown(alloc: Global, answer: Result<i64, DecError>) -> Result<Vec<u8>, Fault> {
     let text = match answer {
         Ok(number) => format!(in alloc; "{number}")?,

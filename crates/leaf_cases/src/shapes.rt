@@ -13,7 +13,7 @@ use geo_poly::{holds, poly_apart, poly_seg_apart, poly_seg_within, poly_within};
 use geo_seg::{
     Core, Point, Poly, Seg, Shape, point_apart, point_within, seg_apart, seg_meet, seg_within,
 };
-use geo_shape::{apart, gap, meet};
+use geo_shape::{apart, meet};
 use std::alloc::Global;
 
 /// Adds a corner's numbers.
@@ -42,7 +42,7 @@ fn add_comb(numbers: &mut Vec<i64>, given: &[i64]) -> Result<(), Fault> {
 }
 
 /// The numbers of a part.
-fn numbers(alloc: Global, written: &str) -> Result<Vec<i64>, Fault> {
+pub fn numbers(alloc: Global, written: &str) -> Result<Vec<i64>, Fault> {
     let Some((before, given)) = written.split_once("comb ") else {
         return plain(alloc, written);
     };
@@ -67,14 +67,14 @@ fn point(x: i64, y: i64) -> Result<Point, Fault> {
     Ok(Point { x, y })
 }
 
-fn one_point(part: &[i64]) -> Result<Point, Fault> {
+pub fn one_point(part: &[i64]) -> Result<Point, Fault> {
     match part {
         [x, y] => point(*x, *y),
         _ => Err(Fault::BadNumber),
     }
 }
 
-fn segment(part: &[i64]) -> Result<Seg, Fault> {
+pub fn segment(part: &[i64]) -> Result<Seg, Fault> {
     match part {
         [ax, ay, bx, by] => Ok(Seg {
             a: point(*ax, *ay)?,
@@ -84,7 +84,7 @@ fn segment(part: &[i64]) -> Result<Seg, Fault> {
     }
 }
 
-fn polygon(alloc: Global, part: &[i64]) -> Result<Poly, Fault> {
+pub fn polygon(alloc: Global, part: &[i64]) -> Result<Poly, Fault> {
     let mut corners = Vec::new(alloc);
     for corner in part.chunks(2) {
         corners.push(one_point(corner)?)?;
@@ -95,7 +95,7 @@ fn polygon(alloc: Global, part: &[i64]) -> Result<Poly, Fault> {
     Ok(Poly::indexed(alloc, corners)?)
 }
 
-fn shape(alloc: Global, part: &[i64]) -> Result<Shape, Fault> {
+pub fn shape(alloc: Global, part: &[i64]) -> Result<Shape, Fault> {
     let [radius, core @ ..] = part else {
         return Err(Fault::BadNumber);
     };
@@ -115,7 +115,7 @@ fn shape(alloc: Global, part: &[i64]) -> Result<Shape, Fault> {
 }
 
 /// A distance from 0 to `most`.
-fn distance(part: &[i64], most: i64) -> Result<i64, Fault>
+pub fn distance(part: &[i64], most: i64) -> Result<i64, Fault>
     ensures from { IfOk result (λ d. pos 0 ≤ℤ d) }
     ensures to { IfOk result (λ d. d ≤ℤ most) }
 {
@@ -155,6 +155,11 @@ fn test_at(alloc: Global, name: &str, a: &[i64], b: &[i64], d: &[i64]) -> Result
             let c = distance(d, 1_000_000_000)?;
             Ok(apart(&shape(alloc, a)?, &shape(alloc, b)?, c))
         }
+        "is_clear" => {
+            let d = distance(d, 2_000_000_000)?;
+            let other = shape(alloc, b)?.bounds();
+            Ok(shape(alloc, a)?.bounds().is_clear(other, d))
+        }
         "poly_seg_apart" | "poly_seg_within" => {
             area_and_line(name, &polygon(alloc, a)?, segment(b)?, d)
         }
@@ -193,44 +198,18 @@ fn lines(name: &str, a: &[i64], b: &[i64], d: &[i64]) -> Result<bool, Fault> {
     })
 }
 
-fn gap_of(alloc: Global, parts: &[Vec<i64>]) -> Result<i64, Fault> {
-    match parts {
-        [a, b, below] => {
-            let below = distance(below, 500_000_000)?;
-            Ok(gap(&shape(alloc, a)?, &shape(alloc, b)?, below))
-        }
-        _ => Err(Fault::UnknownCall),
-    }
-}
-
-fn bounds_of(alloc: Global, parts: &[Vec<i64>]) -> Result<String, Fault> {
-    let [part] = parts else {
-        return Err(Fault::UnknownCall);
-    };
-    let bounds = shape(alloc, part)?.bounds();
-    let left = bounds.left;
-    let top = bounds.top;
-    let right = bounds.right;
-    let bottom = bounds.bottom;
-    Ok(format!(in alloc; "{left} {top} {right} {bottom}")?)
-}
-
-/// The answer of the call of this name.
-pub fn answer(alloc: Global, name: &str, written: &str) -> Result<Vec<u8>, Fault> {
+/// The numbers of all parts.
+pub fn parts_of(alloc: Global, written: &str) -> Result<Vec<Vec<i64>>, Fault> {
     let mut parts = Vec::new(alloc);
     for part in written.split('|') {
         parts.push(numbers(alloc, part)?)?;
     }
-    let text = match name {
-        "gap" => {
-            let gap = gap_of(alloc, &parts)?;
-            format!(in alloc; "{gap}")?
-        }
-        "bounds" => bounds_of(alloc, &parts)?,
-        _ => {
-            let answer = test(alloc, name, &parts)?;
-            format!(in alloc; "{answer}")?
-        }
-    };
-    Ok(text.into_bytes())
+    Ok(parts)
+}
+
+/// The answer of the call of this name.
+pub fn answer(alloc: Global, name: &str, written: &str) -> Result<Vec<u8>, Fault> {
+    let parts = parts_of(alloc, written)?;
+    let answer = test(alloc, name, &parts)?;
+    Ok(format!(in alloc; "{answer}")?.into_bytes())
 }

@@ -3,16 +3,34 @@
 //! A text stands for its bytes, except for the escapes `\n`, `\r`, `\t`, `\s` for a space, `\\`, `\xHH`, and
 //! `\[N TEXT\]` for N times the text.
 
+ghost use Rattle.std.specs.Prelude.{◌≡◌, ◌<◌, ◌≤◌, ◌-◌, Ok, IfOk};
+
 use crate::fault::Fault;
 use std::alloc::Global;
 
+/// The longest text that is read.
+pub const LONGEST: usize = 33_554_432;
+
 /// A text of more bytes is not repeated.
-const LONGEST: usize = 67_108_864;
+const MOST: usize = 67_108_864;
+
+/// What comes up to the first space, and what comes behind it.
+pub fn first_word(written: &str) -> (&str, &str) {
+    written.split_once(' ').unwrap_or((written, ""))
+}
 
 /// Appends the bytes.
 pub fn add(out: &mut Vec<u8>, bytes: &[u8]) -> Result<(), Fault> {
     out.extend_from_slice(bytes)?;
     Ok(())
+}
+
+/// The text as `"TEXT"`.
+pub fn quoted(alloc: Global, text: &[u8]) -> Result<Vec<u8>, Fault> {
+    let mut out = b"\"".to_vec(alloc)?;
+    add(&mut out, text)?;
+    add(&mut out, b"\"")?;
+    Ok(out)
 }
 
 /// A text that is being read, and of what is to be repeated where it begins and how often.
@@ -59,7 +77,7 @@ impl Text {
         let (from, times) = self.repeated.take().ok_or(Fault::UnknownEscape)?;
         let piece = self.bytes.get(from..).unwrap_or(&[]).to_vec(self.alloc)?;
         for _ in 1..times {
-            if self.bytes.len() > LONGEST {
+            if self.bytes.len() > MOST {
                 return Err(Fault::TooLong);
             }
             self.bytes.extend_from_slice(&piece)?;
@@ -84,7 +102,11 @@ pub fn text_of(alloc: Global, written: &str) -> Result<Vec<u8>, Fault> {
 }
 
 /// The digit's value.
-fn hex(digit: u8) -> Result<u8, Fault> {
+fn hex(digit: u8) -> Result<u8, Fault>
+    ensures digits { 48 ≤ digit → digit ≤ 57 → result ≡ Ok (digit - 48) }
+    ensures letters { 97 ≤ digit → digit ≤ 102 → result ≡ Ok (digit - 87) }
+    ensures within { IfOk result (λ value. value < 16) }
+{
     match digit {
         b'0'..=b'9' => Ok(digit - b'0'),
         b'a'..=b'f' => Ok(digit - b'a' + 10),

@@ -4,12 +4,9 @@
 //! read.
 
 use crate::fault::Fault;
-use crate::texts::add;
+use crate::texts::{LONGEST, add, quoted};
 use sexpr_read::{Doc, Node, TextError, parse_all, parse_one};
 use std::alloc::Global;
-
-/// The longest text that is read.
-const LONGEST: usize = 33_554_432;
 
 pub fn one(alloc: Global, text: &[u8]) -> Result<Vec<u8>, Fault> {
     if text.len() > LONGEST {
@@ -84,4 +81,45 @@ fn atom(out: &mut Vec<u8>, node: Node<'_, '_>) -> Result<(), Fault> {
     add(out, quote)?;
     node.value(out)?;
     add(out, quote)
+}
+
+/// What the first part of a list says where it is asked whether it stands for a text.
+fn first_is(alloc: Global, text: &[u8], list: Node<'_, '_>) -> Result<Vec<u8>, Fault> {
+    let Some(first) = list.children().next() else {
+        return Ok(b"none".to_vec(alloc)?);
+    };
+    let answer = first.is(text);
+    Ok(format!(in alloc; "{answer}")?.into_bytes())
+}
+
+/// Whether the first part of the list that the text is stands for `other`.
+pub fn stands_for(alloc: Global, other: &[u8], text: &[u8]) -> Result<Vec<u8>, Fault> {
+    if text.len() > LONGEST {
+        return Err(Fault::TooLong);
+    }
+    match parse_one(alloc, text) {
+        Ok(doc) => first_is(alloc, other, doc.root()),
+        Err(refused) => Ok(refusal(alloc, refused)?.into_bytes()),
+    }
+}
+
+/// What the first part of a list stands for, behind `front`.
+fn first_value(alloc: Global, front: &[u8], list: Node<'_, '_>) -> Result<Vec<u8>, Fault> {
+    let Some(first) = list.children().next() else {
+        return Ok(b"none".to_vec(alloc)?);
+    };
+    let mut text = front.to_vec(alloc)?;
+    first.value(&mut text)?;
+    quoted(alloc, &text)
+}
+
+/// Appends what the first part of the list that the text is stands for.
+pub fn appended(alloc: Global, front: &[u8], text: &[u8]) -> Result<Vec<u8>, Fault> {
+    if text.len() > LONGEST {
+        return Err(Fault::TooLong);
+    }
+    match parse_one(alloc, text) {
+        Ok(doc) => first_value(alloc, front, doc.root()),
+        Err(refused) => Ok(refusal(alloc, refused)?.into_bytes()),
+    }
 }

@@ -4,12 +4,9 @@
 //! escapes read, `null` so and the other words as `word`, each of these with `@AT-END` behind it.
 
 use crate::fault::Fault;
-use crate::texts::add;
+use crate::texts::{LONGEST, add, quoted};
 use json_exact::{Json, JsonError, Value, parse};
 use std::alloc::Global;
-
-/// The longest text that is read.
-const LONGEST: usize = 33_554_432;
 
 /// The value of a text.
 pub fn whole(alloc: Global, text: &[u8]) -> Result<Vec<u8>, Fault> {
@@ -93,13 +90,41 @@ fn leaf(alloc: Global, out: &mut Vec<u8>, value: Value<'_, '_>) -> Result<(), Fa
     }
     let mut text = Vec::new(alloc);
     if value.text(&mut text)? {
-        return quoted(out, &text);
+        return add(out, &quoted(alloc, &text)?);
     }
     add(out, if value.is_null() { b"null" } else { b"word" })
 }
 
-fn quoted(out: &mut Vec<u8>, text: &[u8]) -> Result<(), Fault> {
-    add(out, b"\"")?;
-    add(out, text)?;
-    add(out, b"\"")
+/// Takes what may be sent to other threads and shared with them.
+fn crosses_threads<T: Send + Sync>(_value: &T) {}
+
+/// Whether the first value of a list is a string, and what is then behind `front`.
+fn first_text(alloc: Global, front: &[u8], list: Value<'_, '_>) -> Result<Vec<u8>, Fault> {
+    crosses_threads(&list);
+    let Some(first) = list.items().next() else {
+        return Ok(b"none".to_vec(alloc)?);
+    };
+    let mut text = front.to_vec(alloc)?;
+    let answer: &[u8] = if first.text(&mut text)? {
+        b"string "
+    } else {
+        b"other "
+    };
+    let mut out = answer.to_vec(alloc)?;
+    add(&mut out, &quoted(alloc, &text)?)?;
+    Ok(out)
+}
+
+/// Appends the first value of the list that the text is, where that is a string.
+pub fn appended(alloc: Global, front: &[u8], text: &[u8]) -> Result<Vec<u8>, Fault> {
+    if text.len() > LONGEST {
+        return Err(Fault::TooLong);
+    }
+    match parse(alloc, text) {
+        Ok(json) => {
+            crosses_threads(&json);
+            first_text(alloc, front, json.root())
+        }
+        Err(refused) => Ok(refusal(alloc, refused)?.into_bytes()),
+    }
 }

@@ -59,6 +59,3 @@ fn all_cross() {
     crosses::<Mins>();
     crosses::<ProjectError>();
 }
-
-#[cfg(test)]
-mod tests;

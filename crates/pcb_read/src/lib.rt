@@ -17,8 +17,6 @@ mod lists;
 mod nets;
 mod root;
 mod sorts;
-#[cfg(test)]
-mod tests;
 mod tracks;
 
 use crate::laws::one_reading;

@@ -98,6 +98,3 @@ fn crosses<T: Send + Sync>() {}
 fn all_cross() {
     crosses::<RuleError>();
 }
-
-#[cfg(test)]
-mod tests;

@@ -20,6 +20,3 @@ mod view;
 pub use place::{Span, TextError};
 pub use reader::{parse_all, parse_one};
 pub use view::{Children, Doc, Node};
-
-#[cfg(test)]
-mod tests;
