@@ -28,8 +28,7 @@ fn root(square: u128) -> u128
     square.isqrt()
 }
 
-/// The radius of the circle around a centre through an end: the greatest whole number of nanometres whose square is not
-/// above that of the distance.
+/// The radius of the circle around a centre through an end: the distance between them, cut to whole nanometres.
 pub fn radius_between(center: Spot, end: Spot) -> Nm
     requires center { IsWithin 1000000000000 center }
     requires end { IsWithin 1000000000000 end }
