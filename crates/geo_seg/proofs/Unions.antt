@@ -1,11 +1,8 @@
 -- The least box that holds two others.
-use Rattle.std.proofs.Common.{◌≡◌, ◌≤◌, ℤ, pos, neg_ℤ, ◌≤ℤ◌, FitsSigned, unsigned_abs, inl, inr, arith}
+use Rattle.std.proofs.Common.{◌≡◌, ℤ, neg_ℤ, ◌≤ℤ◌, inl, inr, arith, sym, ◌∙◌, ap, subst}
 use Rattle.std.proofs.lemmas.Int.{ints, by_lt_z}
-use Rattle.std.specs.Int.{int_min, int_max}
-use mir.Syntax.{w64}
 use Rattle.int_algebra.proofs.Order.{le_refl, le_trans, lt-le}
-use Rattle.int_algebra.proofs.Scalars.{passed}
-use Rattle.int_algebra.proofs.Extremes.{IsLesser, IsGreater, lesser_is, greater_is, lesser_least, greater_most}
+use Rattle.int_algebra.proofs.Extremes.{IsLesser, IsGreater, lesser_least, greater_most}
 use Rattle.geo_seg.specs.declared.boxes.Bounds.{Bounds}
 use Rattle.geo_seg.specs.Boxes.{FitsWithin, IsPartOf, IsUnion, widened}
 
@@ -88,18 +85,16 @@ union_fits limit b c r f g s = record {
   bottom = greater_most b.bottom c.bottom r.bottom limit s.bottom f.bottom g.bottom;
 }
 
-in_range : (z u v : ℤ) → neg_ℤ (pos 1500000000) ≤ℤ u → u ≤ℤ z → z ≤ℤ v → v ≤ℤ pos 1500000000 → unsigned_abs z ≤ 8000000000000000000
-in_range z u v h k l m = omega (arith, ints)
-
--- what `min` and `max` of the sides give
-pub sides_are : (b c : Bounds) (l t r m : ℤ) → FitsWithin (pos 1500000000) b → FitsWithin (pos 1500000000) c
-    → FitsSigned w64 l → FitsSigned w64 t → FitsSigned w64 r → FitsSigned w64 m
-    → l ≡ int_min (passed b.left) (passed c.left) → t ≡ int_min (passed b.top) (passed c.top)
-    → r ≡ int_max (passed b.right) (passed c.right) → m ≡ int_max (passed b.bottom) (passed c.bottom)
-    → AreSides b c (record { left = passed l; top = passed t; right = passed r; bottom = passed m })
-sides_are b c l t r m f g hl ht hr hm el et er em = record {
-  left = lesser_is b.left c.left l (in_range b.left b.left b.right f.left (le_refl _) f.wide f.right) (in_range c.left c.left c.right g.left (le_refl _) g.wide g.right) hl el;
-  top = lesser_is b.top c.top t (in_range b.top b.top b.bottom f.top (le_refl _) f.high f.bottom) (in_range c.top c.top c.bottom g.top (le_refl _) g.high g.bottom) ht et;
-  right = greater_is b.right c.right r (in_range b.right b.left b.right f.left f.wide (le_refl _) f.right) (in_range c.right c.left c.right g.left g.wide (le_refl _) g.right) hr er;
-  bottom = greater_is b.bottom c.bottom m (in_range b.bottom b.top b.bottom f.top f.high (le_refl _) f.bottom) (in_range c.bottom c.top c.bottom g.top g.high (le_refl _) g.bottom) hm em;
+-- the first box, made to reach as far as the second on one side after the other
+pub sides_are : (b c l r t m : Bounds)
+    → IsLesser b.left c.left l.left → l ≡ record b { left = l.left }
+    → IsGreater l.right c.right r.right → r ≡ record l { right = r.right }
+    → IsLesser r.top c.top t.top → t ≡ record r { top = t.top }
+    → IsGreater t.bottom c.bottom m.bottom → m ≡ record t { bottom = m.bottom }
+    → AreSides b c m
+sides_are b c l r t m left of_l right of_r top of_t bottom of_m = record {
+  left = subst (λ (z : ℤ). IsLesser b.left c.left z) (sym (ap (λ z. z.left) of_m ∙ ap (λ z. z.left) of_t ∙ ap (λ z. z.left) of_r)) left;
+  top = subst (λ (z : ℤ). IsLesser b.top c.top z) (sym (ap (λ z. z.top) of_m)) (subst (λ (z : ℤ). IsLesser z c.top t.top) (ap (λ z. z.top) of_r ∙ ap (λ z. z.top) of_l) top);
+  right = subst (λ (z : ℤ). IsGreater b.right c.right z) (sym (ap (λ z. z.right) of_m ∙ ap (λ z. z.right) of_t)) (subst (λ (z : ℤ). IsGreater z c.right r.right) (ap (λ z. z.right) of_l) right);
+  bottom = subst (λ (z : ℤ). IsGreater z c.bottom m.bottom) (ap (λ z. z.bottom) of_t ∙ ap (λ z. z.bottom) of_r ∙ ap (λ z. z.bottom) of_l) bottom;
 }

@@ -93,7 +93,60 @@ fn greatest_of<'c>(default: &'c Class, named: &'c [Class]) -> &'c Class
     greatest
 }
 
+/// An equal class.
+fn copy_class(class: &Class) -> Result<Class, AllocError>
+    ensures { IfOk result (λ copy. plain_class copy ≡ plain_class class.now) }
+{
+    Ok(Class {
+        name: class.name.copy()?,
+        clearance: class.clearance,
+    })
+}
+
+fn copy_named(alloc: Global, named: &[Class]) -> Result<Vec<Class>, AllocError>
+    ensures { IfOk result (λ copy. map plain_class copy.items ≡ map plain_class named.now) }
+{
+    let mut list = Vec::new(alloc);
+    for class in named {
+        list.push(copy_class(class)?)?;
+    }
+    Ok(list)
+}
+
+/// An equal pattern.
+fn copy_pattern(pattern: &Pattern) -> Result<Pattern, AllocError>
+    ensures { IfOk result (λ copy. plain_pattern copy ≡ plain_pattern pattern.now) }
+{
+    Ok(Pattern {
+        class: pattern.class.copy()?,
+        pattern: pattern.pattern.copy()?,
+    })
+}
+
+fn copy_patterns(alloc: Global, patterns: &[Pattern]) -> Result<Vec<Pattern>, AllocError>
+    ensures { IfOk result (λ copy. map plain_pattern copy.items ≡ map plain_pattern patterns.now) }
+{
+    let mut list = Vec::new(alloc);
+    for pattern in patterns {
+        list.push(copy_pattern(pattern)?)?;
+    }
+    Ok(list)
+}
+
 impl Classes {
+    /// Equal classes.
+    pub fn copy(&self) -> Result<Classes, AllocError>
+        ensures { IfOk result (λ copy. copy ≡ self.now) }
+    {
+        let alloc = *self.named.allocator();
+        Ok(Classes {
+            default: copy_class(&self.default)?,
+            named: copy_named(alloc, &self.named)?,
+            patterns: copy_patterns(alloc, &self.patterns)?,
+            mins: self.mins,
+        })
+    }
+
     /// What holds without a project: the class Default alone, with 0.2 mm.
     pub fn plain(alloc: Global) -> Result<Classes, AllocError>
         ensures { IfOk result (λ classes. classes ≡ plain_classes) }

@@ -1,13 +1,18 @@
-use Rattle.std.proofs.Common.{pos}
-use Rattle.geo_seg.proofs.Unions.{sides_are, union_of_sides, union_fits}
+use Rattle.geo_seg.proofs.Unions.{union_of_sides, union_fits, sides_are}
 use Rattle.geo_seg.proofs.boxes.Bounds.union.Goals as goal
 
 pub returns-clause-least : goal.returns-clause-least
-returns-clause-least c =
-    union_of_sides c.args.self c.args.other _
-    (sides_are c.args.self c.args.other c.min.result c.min-2.result c.max.result c.max-2.result c.requires.first c.requires.second (record { sfits = c.min.type_inv }) (record { sfits = c.min-2.type_inv }) (record { sfits = c.max.type_inv }) (record { sfits = c.max-2.type_inv }) c.min.ensures.value c.min-2.ensures.value c.max.ensures.value c.max-2.ensures.value)
+returns-clause-least c = union_of_sides c.args.self c.args.other _
+    (sides_are c.args.self c.args.other c.to_left.result c.to_right-columns.result c.to_top.result _
+    (record { first = c.to_left.ensures.first; second = c.to_left.ensures.second; either = c.to_left.ensures.either }) c.to_left.ensures.others
+    (record { first = c.to_right-columns.ensures.first; second = c.to_right-columns.ensures.second; either = c.to_right-columns.ensures.either }) c.to_right-columns.ensures.others
+    (record { first = c.to_top.ensures.first; second = c.to_top.ensures.second; either = c.to_top.ensures.either }) c.to_top.ensures.others
+    (record { first = c.to_bottom.ensures.first; second = c.to_bottom.ensures.second; either = c.to_bottom.ensures.either }) c.to_bottom.ensures.others)
 
 pub returns-clause-fits : goal.returns-clause-fits
-returns-clause-fits c =
-    union_fits (pos 1500000000) c.args.self c.args.other _ c.requires.first c.requires.second
-    (sides_are c.args.self c.args.other c.min.result c.min-2.result c.max.result c.max-2.result c.requires.first c.requires.second (record { sfits = c.min.type_inv }) (record { sfits = c.min-2.type_inv }) (record { sfits = c.max.type_inv }) (record { sfits = c.max-2.type_inv }) c.min.ensures.value c.min-2.ensures.value c.max.ensures.value c.max-2.ensures.value)
+returns-clause-fits c = λ limit f g. union_fits limit c.args.self c.args.other _ f g
+    (sides_are c.args.self c.args.other c.to_left.result c.to_right-columns.result c.to_top.result _
+    (record { first = c.to_left.ensures.first; second = c.to_left.ensures.second; either = c.to_left.ensures.either }) c.to_left.ensures.others
+    (record { first = c.to_right-columns.ensures.first; second = c.to_right-columns.ensures.second; either = c.to_right-columns.ensures.either }) c.to_right-columns.ensures.others
+    (record { first = c.to_top.ensures.first; second = c.to_top.ensures.second; either = c.to_top.ensures.either }) c.to_top.ensures.others
+    (record { first = c.to_bottom.ensures.first; second = c.to_bottom.ensures.second; either = c.to_bottom.ensures.either }) c.to_bottom.ensures.others)
