@@ -6,6 +6,13 @@ pub mod Order
 pub mod Waits
 pub mod Grown
 pub mod Whole
+pub mod Spots
+pub mod Near
+pub mod Counted
+pub mod Kept
+pub mod Cut
+pub mod Forest
+pub mod Grew
 pub mod Pairs
 pub mod Sorting
 pub mod Joining

@@ -3,3 +3,4 @@ pub mod Mem
 pub mod Chains
 pub mod NestOf
 pub mod Grow
+pub mod Forest

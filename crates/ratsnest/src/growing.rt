@@ -1,4 +1,4 @@
-//! The nest, found by growing one group: again and again the least link that leaves what is reached.
+//! The nest of few anchors, found by growing one group: again and again the least link that leaves what is reached.
 //!
 //! Of each anchor that is not reached yet the least link from what is reached is kept. So each two anchors of different groups
 //! are measured once: growing takes the square of the number of anchors in time, and memory linear in it.
@@ -14,8 +14,12 @@ use crate::anchor::Anchor;
 use crate::link::Link;
 use crate::links::{Links, Nest};
 use crate::places::{count_groups, group_of, precedes};
+use crate::rounds::join_groups;
 use crate::waiting::{Waiting, all_waiting, least, reach};
 use std::alloc::{AllocError, Global};
+
+// So many anchors are joined faster by growing one group, which needs no tree.
+const FEW: usize = 500;
 
 // Puts a link where it belongs in the order.
 fn add_link(links: &mut Vec<Link>, link: Link) -> Result<(), AllocError>
@@ -117,12 +121,27 @@ fn grow(alloc: Global, anchors: &[Anchor]) -> Result<Vec<Link>, AllocError>
     Ok(links)
 }
 
+// The links of the nest, found by growing one group or in rounds, whichever is faster for so many anchors.
+fn choose(alloc: Global, anchors: &[Anchor]) -> Result<Vec<Link>, AllocError>
+    requires rise { Rise anchors.now }
+    requires occur { GroupsOccur anchors.now }
+    requires few { length anchors.now < 2 ^ 32 }
+    ensures { IfOk result (λ links. AreChosen anchors.now links.items) }
+{
+    if anchors.len() <= FEW {
+        grow(alloc, anchors)
+    } else {
+        join_groups(alloc, anchors)
+    }
+}
+
 /// The nest of the anchors: in order, each link of two groups that all lesser links together leave apart. Links are ordered by
 /// the square of their distance, then by id and number of the first anchor, then of the second.
 ///
 /// The nest joins all groups, by one link less than there are groups, at the least sum of squares that does so. Anchors rise by
 /// id and number, and each group from 0 to the greatest occurs. Only want of memory refuses it.
-/// Anchors of one group cost one look at each.
+/// Few anchors are each measured against all of other groups. Of more, each is asked in a few rounds for its least link in a tree
+/// of areas: where they lie apart, that takes about as long as a few sorts.
 pub fn nest(alloc: Global, anchors: &[Anchor]) -> Result<Nest, AllocError>
     requires rise { Rise anchors.now }
     requires occur { GroupsOccur anchors.now }
@@ -133,6 +152,6 @@ pub fn nest(alloc: Global, anchors: &[Anchor]) -> Result<Nest, AllocError>
     ensures joins { IfOk result (λ nest. JoinAll anchors.now nest.links) }
     ensures least { IfOk result (λ nest. IsLeast anchors.now nest.links) }
 {
-    let links = Links::of(grow(alloc, anchors)?);
+    let links = Links::of(choose(alloc, anchors)?);
     Ok(Nest { links })
 }

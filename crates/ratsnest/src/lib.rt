@@ -4,13 +4,20 @@
 #![tactic(auto)]
 
 mod anchor;
+mod area;
 mod checking;
 mod growing;
+mod joins;
 mod laws;
 mod link;
 mod links;
 mod lists;
+mod nearest;
 mod places;
+mod rounds;
+mod span;
+mod spot;
+mod tree;
 mod waiting;
 
 pub use anchor::Anchor;

@@ -1,0 +1,66 @@
+//! Anchors with their places.
+
+ghost use Rattle.std.specs.Prelude.{◌≡◌, ◌<◌, ◌≤◌, ◌^◌, ℕ, length, IfOk, IsTrue};
+ghost use Rattle.ratsnest.specs.declared.link.Link.{Link};
+ghost use Rattle.ratsnest.specs.Grow.{rank};
+ghost use Rattle.ratsnest.specs.Forest.{link_between, spot_at, IsSpotOf, IsDrawn};
+
+use crate::anchor::Anchor;
+use crate::link::Link;
+use crate::places::{is_below, precedes, square};
+use std::alloc::{AllocError, Global};
+
+/// An anchor, and its place in the list of anchors.
+#[derive(Clone, Copy, Drop)]
+pub(crate) struct Spot {
+    pub(crate) anchor: Anchor,
+    pub(crate) place: u32,
+}
+
+// The link of two anchors.
+#[tactic(auto, unfolding(crate::specs::Forest::link_between))]
+fn link_between(from: &Spot, to: &Spot) -> Link
+    ensures { result ≡ link_between from.now to.now }
+{
+    Link {
+        square: square(from.anchor, to.anchor),
+        first: from.place.min(to.place),
+        second: from.place.max(to.place),
+    }
+}
+
+// Whether the distance alone says that the link is no less than the one that is kept.
+fn is_farther(best: Link, from: &Spot, to: &Spot) -> bool
+    ensures { IsTrue result → rank best ≤ rank (link_between from.now to.now) }
+{
+    is_below(best, square(from.anchor, to.anchor))
+}
+
+/// Keeps the link of the two if it is less.
+pub(crate) fn draw(best: &mut Link, from: &Spot, to: &Spot)
+    ensures { IsDrawn from.now to.now best.old best.new }
+{
+    if is_farther(*best, from, to) {
+        return;
+    }
+    let link = link_between(from, to);
+    if precedes(link, *best) {
+        *best = link;
+    }
+}
+
+/// Each anchor with its place.
+pub(crate) fn all_spots(alloc: Global, anchors: &[Anchor]) -> Result<Vec<Spot>, AllocError>
+    requires few { length anchors.now < 2 ^ 32 }
+    ensures len { IfOk result (λ v. length v.items ≡ length anchors.now) }
+    ensures each { IfOk result (λ v. (k : ℕ) → k < length v.items → IsSpotOf anchors.now k (spot_at v.items k)) }
+{
+    let mut spots = Vec::new(alloc);
+    for place in 0..anchors.len() {
+        spots.push(Spot {
+            anchor: anchors[place],
+            place: place as u32,
+        })?;
+    }
+    Ok(spots)
+}
