@@ -25,7 +25,7 @@ index_of reach xs = record { reach = reach; entries = xs }
 
 -- ---- lists
 module _ {X : Type 0} where
-  pairs_append : (R : X → X → Type 0) (xs ys : List X) → AllPairs R xs → AllPairs R ys → All (λ x. All (R x) ys) xs → AllPairs R (xs ++ ys)
+  pub pairs_append : (R : X → X → Type 0) (xs ys : List X) → AllPairs R xs → AllPairs R ys → All (λ x. All (R x) ys) xs → AllPairs R (xs ++ ys)
   pairs_append R [] ys h g k = g
   pairs_append R (x ∷ xs) ys h g k =
       AllPairs-cons R x (xs ++ ys) (All-append (R x) xs ys (pairs_first R x xs h) (All-head (λ z. All (R z) ys) x xs k))

@@ -4,3 +4,5 @@ pub mod Buckets
 pub mod Numbers
 pub mod RisingIds
 pub mod KeptLemmas
+pub mod Reaching
+pub mod Copies

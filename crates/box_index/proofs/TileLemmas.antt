@@ -135,7 +135,7 @@ max_second a b = omega (arith, ints, clamps)
 max_below : (a b c : ℤ) → a ≤ℤ c → b ≤ℤ c → int_max a b ≤ℤ c
 max_below a b c h k = omega (arith, ints, clamps)
 
-four_le : (a b c d e f g h : ℤ) → ((int_le a b && int_le c d) && (int_le e f && int_le g h)) ≡ true → (a ≤ℤ b) × (c ≤ℤ d) × (e ≤ℤ f) × (g ≤ℤ h)
+pub four_le : (a b c d e f g h : ℤ) → ((int_le a b && int_le c d) && (int_le e f && int_le g h)) ≡ true → (a ≤ℤ b) × (c ≤ℤ d) × (e ≤ℤ f) × (g ≤ℤ h)
 four_le a b c d e f g h t = grind (arith, ints)
 
 pub near_sides : (margin : ℤ) (a b : Bounds) → are_near margin a b ≡ true → BoxesMeet (widened a margin) b

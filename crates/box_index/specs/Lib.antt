@@ -3,3 +3,4 @@ pub mod Areas
 pub mod Cuts
 pub mod Walks
 pub mod Kept
+pub mod Reached

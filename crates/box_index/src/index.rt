@@ -1,10 +1,11 @@
 //! The index.
 
 ghost use Rattle.std.specs.Prelude.{◌≡◌, ◌<◌, ◌≤ℤ◌, pos, ◌&&◌, false, [], ℕ, length, slice_index_or, filter, All, IfOk, OnOk, OnErr};
+ghost use Rattle.std.specs.List.{AllZip};
 ghost use Rattle.geo_seg.specs.Boxes.{FitsWithin, widened, are_near};
 ghost use Rattle.box_index.specs.declared.entry.Entry.{Entry};
 ghost use Rattle.box_index.specs.Areas.{has_tile};
-ghost use Rattle.box_index.specs.Walks.{AreEmpty, AreMarks};
+ghost use Rattle.box_index.specs.Walks.{AreEmpty, AreMarks, HaveSameEntries};
 ghost use Rattle.box_index.specs.Tiles.{PlainIndex, IsSound, IsComplete, IsAbsent, OwnsBoth, meets_tile, near_of, owner_of, margin, placed, without, held_of, is_held, dirty_of, numbers_below, tile_count};
 
 use crate::area::Area;
@@ -55,6 +56,17 @@ impl TileIndex {
             reach,
             boxes: KeptBoxes::new(alloc),
             tiles: empty_tiles(alloc, TILES)?,
+        })
+    }
+
+    /// An equal index. Only want of memory refuses it.
+    pub fn copy(&self) -> Result<TileIndex, AllocError>
+        ensures { IfOk result (λ copy. copy ≡ self.now) }
+    {
+        Ok(TileIndex {
+            reach: self.reach,
+            boxes: self.boxes.copy()?,
+            tiles: copy_tiles(&self.tiles)?,
         })
     }
 
@@ -195,6 +207,27 @@ fn empty_tiles(alloc: Global, count: usize) -> Result<Vec<Vec<Entry>>, AllocErro
         tiles.push(Vec::new(alloc))?;
     }
     Ok(tiles)
+}
+
+// The same entries.
+fn copy_entries(alloc: Global, entries: &[Entry]) -> Result<Vec<Entry>, AllocError>
+    ensures { IfOk result (λ copy. copy.items ≡ entries.now) }
+{
+    let mut copy = Vec::with_capacity(alloc, entries.len())?;
+    copy.extend_from_slice(entries)?;
+    Ok(copy)
+}
+
+// The tiles with the same entries.
+fn copy_tiles(tiles: &Vec<Vec<Entry>>) -> Result<Vec<Vec<Entry>>, AllocError>
+    ensures { IfOk result (λ copy. AllZip HaveSameEntries tiles.now.items copy.items) }
+{
+    let alloc = *tiles.allocator();
+    let mut copy = Vec::with_capacity(alloc, tiles.len())?;
+    for entries in tiles {
+        copy.push(copy_entries(alloc, entries)?)?;
+    }
+    Ok(copy)
 }
 
 // So many marks, all alike.

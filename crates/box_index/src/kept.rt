@@ -1,6 +1,6 @@
 //! The boxes of an index by their ids, so that the box of an item is known without asking the tiles.
 
-ghost use Rattle.std.specs.Prelude.{◌≡◌, OnOk, OnErr, IfSome, IfNone, []};
+ghost use Rattle.std.specs.Prelude.{◌≡◌, OnOk, OnErr, IfOk, IfSome, IfNone, []};
 ghost use Rattle.box_index.specs.Tiles.{IsAbsent, placed, without};
 ghost use Rattle.box_index.specs.Cuts.{IsCut};
 
@@ -37,6 +37,15 @@ impl KeptBoxes {
         KeptBoxes {
             boxes: BTreeMap::new(alloc),
         }
+    }
+
+    /// Equal boxes. Only want of memory refuses it.
+    pub fn copy(&self) -> Result<KeptBoxes, AllocError>
+        ensures { IfOk result (λ copy. copy ≡ self.now) }
+    {
+        Ok(KeptBoxes {
+            boxes: self.boxes.clone()?,
+        })
     }
 
     /// Puts an entry into its place, or changes nothing. No entry has the id yet.

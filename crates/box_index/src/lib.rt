@@ -12,9 +12,22 @@ mod index;
 mod kept;
 mod lanes;
 mod lists;
+mod near;
 mod walks;
 
 pub use area::Area;
 pub use boxes::do_boxes_meet;
 pub use entry::Entry;
 pub use index::{Nm, TileIndex};
+pub use near::{push_ids_near, put_in_order};
+
+// Each type may go to another thread and be shared by threads.
+fn crosses<T: Send + Sync>() {}
+
+fn entries_cross() {
+    crosses::<Entry>();
+}
+
+fn indexes_cross() {
+    crosses::<TileIndex>();
+}
