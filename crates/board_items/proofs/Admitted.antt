@@ -33,6 +33,14 @@ admitted_at b id item (x ∷ xs) h e = by (admitted_at b id item xs h.1) (nat_eq
     by later true k = let same : x.1 ≡ item = cc in subst (λ (i : Item). is_admitted b i ≡ true) same h.0
     by later false k = later k
 
+-- its net is declared
+pub net_declared : (b : PlainBoard) (id : ℕ) (item : Item) → AllAdmitted b b.items → item_at b.items id ≡ Some item → name_of b item.net ≡ None → ⊥
+net_declared b id item h e absent =
+    let own = and_parts (is_on_board item && is_some (name_of b item.net)) (has_layers_of b item) (admitted_at b id item b.items h e) in
+    let some = (and_parts (is_on_board item) (is_some (name_of b item.net)) own.0).1 in
+    let none : is_some (name_of b item.net) ≡ false = ap is_some absent in
+    absurd cc
+
 pub admitted_found : (b : PlainBoard) (id : ℕ) (found : Option (Bor Item)) (xs : List (ℕ × Item)) → AllAdmitted b xs
     → option_copied found ≡ item_at xs id → IfSome found (λ item. is_admitted b item.now ≡ true)
 admitted_found b id None xs h e = tt

@@ -8,4 +8,16 @@ pub mod MeasureLemmas
 mod NetIds
 mod Removing
 mod Walking
+mod SlotLists
+mod Adding
+mod UnitRows
 mod Moving
+mod OneMove
+mod Resting
+mod MovedApart
+mod MovedBack
+mod NoteWalks
+mod Copies
+mod TakenOut
+mod Placed
+mod AllPlaced

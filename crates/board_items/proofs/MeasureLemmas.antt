@@ -1,5 +1,5 @@
 -- That the kind of an item has lengths in range, kind by kind.
-use Rattle.std.proofs.Common.{◌≡◌, ℤ, Bool, List, sym, subst}
+use Rattle.std.proofs.Common.{◌≡◌, ℤ, Bool, subst}
 use Rattle.drc_io.specs.Lengths.{IsLength}
 use Rattle.board_items.specs.declared.item.What.{What}
 use Rattle.board_items.specs.declared.item.What.TheVariants.{Track, Via}

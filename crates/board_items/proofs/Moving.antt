@@ -21,11 +21,14 @@ use Rattle.std.proofs.lemmas.List.{with_items_is}
 use Rattle.std.specs.Vec.{with_items}
 use Rattle.std.specs.declared.alloc.Global.{Global}
 use Rattle.board_items.specs.Measures.{HasLengths}
+use Rattle.board_items.specs.Notes.{notes_of}
 use Rattle.board_items.specs.Kept.{IsKept}
 use Rattle.board_items.proofs.MeasureLemmas.{no_lengths}
 use Rattle.board_items.proofs.NetIds.{ids_unchanged}
+use Rattle.board_items.specs.Slots.{present, is_slot_on_board, slot_stays, IsMovedSlot}
+use Rattle.board_items.proofs.SlotLists.{stays_slots, moved_slots, same_row}
 use Rattle.board_items.proofs.Admitted.{all_kept}
-use Rattle.board_items.specs.Moves.{AreShifted, HoleIsShifted, KindIsShifted, IsShiftedPart, IsShiftedItem, IsMovedEntry, moves, item_stays, unit_stays}
+use Rattle.board_items.specs.Moves.{AreShifted, HoleIsShifted, KindIsShifted, IsShiftedPart, IsShiftedItem, IsMovedEntry, IsMoved, moves, item_stays, unit_stays, is_note}
 
 -- ---- parts
 zip_append : {X : Type 0} (R : X → X → Type 0) (xs ys us vs : List X) → AllZip R xs ys → AllZip R us vs → AllZip R (xs ++ us) (ys ++ vs)
@@ -70,6 +73,17 @@ mark_same dx dy (Area t s p) b h = ap is_mark h.1
 mark_same dx dy (Body r f k o) b h = ap is_mark h.2
 mark_same dx dy (Note a l) b h = ap is_mark h
 
+note_same : (dx dy : ℤ) (a b : What) → KindIsShifted dx dy a b → is_note b ≡ is_note a
+note_same dx dy (Track w) b h = ap is_note h
+note_same dx dy (Via s d m l) b h = ap is_note h
+note_same dx dy (Pad n r) b h = ap is_note h
+note_same dx dy Graphic b h = ap is_note h
+note_same dx dy Fill b h = ap is_note h
+note_same dx dy (Edge lines) b h = ap is_note h.1
+note_same dx dy (Area t s p) b h = ap is_note h.1
+note_same dx dy (Body r f k o) b h = ap is_note h.2
+note_same dx dy (Note a l) b h = ap is_note h
+
 parts_zip : (dx dy : ℤ) (a b : Item) → IsShiftedItem dx dy a b → AreShifted (pos 2 *ℤ dx) (pos 2 *ℤ dy) (parts_of a) (parts_of b)
 parts_zip dx dy a b s =
     zip_append (IsShiftedPart (pos 2 *ℤ dx) (pos 2 *ℤ dy)) a.copper b.copper (hole_parts a.hole ++ kind_parts a.what) (hole_parts b.hole ++ kind_parts b.what) s.copper
@@ -101,6 +115,13 @@ module _ (unit : ℕ) (dx dy : ℤ) where
       by : ((moves unit e.1 ≡ true) × IsShiftedItem dx dy e.1 f.1) ⊎ (f.1 ≡ e.1) → f.1.unit ≡ e.1.unit
       by (inl h) = h.1.unit
       by (inr h) = ap (λ (i : Item). i.unit) h
+
+  pub same_note : (e f : ℕ × Item) → IsMovedEntry unit dx dy e f → is_note f.1.what ≡ is_note e.1.what
+  same_note e f m = by (moved_or_same e f m)
+    where
+      by : ((moves unit e.1 ≡ true) × IsShiftedItem dx dy e.1 f.1) ⊎ (f.1 ≡ e.1) → is_note f.1.what ≡ is_note e.1.what
+      by (inl h) = note_same (pos 2 *ℤ dx) (pos 2 *ℤ dy) e.1.what f.1.what h.1.what
+      by (inr h) = ap (λ (i : Item). is_note i.what) h
 
   pub same_mark : (e f : ℕ × Item) → IsMovedEntry unit dx dy e f → is_mark f.1.what ≡ is_mark e.1.what
   same_mark e f m = by (moved_or_same e f m)
@@ -186,11 +207,12 @@ module _ (unit : ℕ) (dx dy : ℤ) where
   }
 
 -- ---- before the move
-pub on_board : (b : PlainBoard) (xs : List (ℕ × Item)) → AllAdmitted b xs → All (λ e. is_on_board e.1 ≡ true) xs
-on_board b [] h = All-nil (λ e. is_on_board e.1 ≡ true)
-on_board b (x ∷ xs) h =
-    let own = (and_parts (is_on_board x.1) (is_some (name_of b x.1.net)) (and_parts (is_on_board x.1 && is_some (name_of b x.1.net)) (has_layers_of b x.1) h.0).0).0 in
-    All-cons (λ e. is_on_board e.1 ≡ true) x xs own (on_board b xs h.1)
+pub on_board : (b : PlainBoard) (k : ℕ) (slots : List (Option Item)) → AllAdmitted b (present k slots) → All (λ slot. is_slot_on_board slot ≡ true) slots
+on_board b k [] h = All-nil (λ slot. is_slot_on_board slot ≡ true)
+on_board b k (None ∷ ss) h = All-cons (λ slot. is_slot_on_board slot ≡ true) None ss refl (on_board b (k + 1) ss h)
+on_board b k (Some x ∷ ss) h =
+    let own = (and_parts (is_on_board x) (is_some (name_of b x.net)) (and_parts (is_on_board x && is_some (name_of b x.net)) (has_layers_of b x) h.0).0).0 in
+    All-cons (λ slot. is_slot_on_board slot ≡ true) (Some x) ss own (on_board b (k + 1) ss h.1)
 
 -- ---- numbers
 near_range : (z : ℤ) → is_near z ≡ true → unsigned_abs z ≤ 500000000
@@ -268,14 +290,41 @@ lengths_moved dx dy (Body r f k o) b h l = subst HasLengths (sym h.2) (no_length
 lengths_moved dx dy (Note a k) b h l = subst HasLengths (sym h) l
 
 -- ---- all that the board keeps
-pub kept_moved : (b : PlainBoard) (unit : ℕ) (dx dy : ℤ) (v : Vec (ℕ × Item) Global) (xs from ws : List (ℕ × Item)) (marks : List ℕ) (lists : List (Vec ℕ Global)) → IsKept b marks lists → v.items ≡ b.items → xs ≡ b.items → from ≡ b.items
-    → length ws ≡ v.len → unit_stays unit dx dy xs ≡ true → AllZip (IsMovedEntry unit dx dy) from ws → IsKept (record b { items = (with_items v ws).items }) marks lists
-kept_moved b unit dx dy v xs from ws marks lists k same e f long stays zip =
-    subst (λ (is : List (ℕ × Item)). IsKept (record b { items = is }) marks lists) (sym (with_items_is v ws long)) (record {
-      sound = sound_moved unit dx dy b ws k.sound own (subst (λ (zs : List (ℕ × Item)). unit_stays unit dx dy zs ≡ true) e stays);
-      marks = k.marks ∙ sym (same_ids unit dx dy (λ item. is_mark item.what) (same_mark unit dx dy) b.items ws own);
-      of_nets = ids_unchanged b.items ws (λ net. same_ids unit dx dy (λ item. nat_eq item.net net) (λ o n m. ap (λ k. nat_eq k net) (same_net unit dx dy o n m)) b.items ws own) b.nets lists k.of_nets;
+pub kept_moved : (b : PlainBoard) (unit : ℕ) (dx dy : ℤ) (v : Vec (Option Item) Global) (xs from ws : List (Option Item)) (marks : List ℕ) (lists : List (Vec ℕ Global)) (live : ℕ) → IsKept b marks lists live
+    → b.items ≡ present 0 v.items → b.next_id ≡ length v.items → xs ≡ v.items → from ≡ v.items → length ws ≡ v.len → list_all (λ slot. slot_stays unit dx dy slot) xs ≡ true → AllZip (IsMovedSlot unit dx dy) from ws
+    → IsKept (record b { items = present 0 (with_items v ws).items; next_id = length (with_items v ws).items }) marks lists live
+kept_moved b unit dx dy v xs from ws marks lists live k items next e f long stays zip =
+    subst (λ (ss : List (Option Item)). IsKept (record b { items = present 0 ss; next_id = length ss }) marks lists live) (sym (with_items_is v ws long))
+    (subst (λ (n : ℕ). IsKept (record b { items = present 0 ws; next_id = n }) marks lists live) (next ∙ sym (same_row (IsMovedSlot unit dx dy) v.items ws zipped)) (record {
+      sound = sound_moved unit dx dy b (present 0 ws) k.sound own (ap (unit_stays unit dx dy) items ∙ stays_slots unit dx dy 0 v.items ∙ ap (list_all (λ slot. slot_stays unit dx dy slot)) (sym e) ∙ stays);
+      marks = k.marks ∙ sym (same_ids unit dx dy (λ item. is_mark item.what) (same_mark unit dx dy) b.items (present 0 ws) own);
+      of_nets = ids_unchanged b.items (present 0 ws) (λ net. same_ids unit dx dy (λ item. nat_eq item.net net) (λ o n m. ap (λ k. nat_eq k net) (same_net unit dx dy o n m)) b.items (present 0 ws) own) b.nets lists k.of_nets;
+      count = k.count ∙ sym (same_length unit dx dy b.items (present 0 ws) own);
+    }))
+  where
+    zipped : AllZip (IsMovedSlot unit dx dy) v.items ws
+    zipped = subst (λ (zs : List (Option Item)). AllZip (IsMovedSlot unit dx dy) zs ws) f zip
+
+    own : AllZip (IsMovedEntry unit dx dy) b.items (present 0 ws)
+    own = subst (λ (zs : List (ℕ × Item)). AllZip (IsMovedEntry unit dx dy) zs (present 0 ws)) (sym items) (moved_slots unit dx dy 0 v.items ws zipped)
+
+pub notes_moved : (items : List (ℕ × Item)) (unit : ℕ) (dx dy : ℤ) (v : Vec (Option Item) Global) (from ws : List (Option Item)) (notes : List ℕ) → notes ≡ notes_of items → items ≡ present 0 v.items → from ≡ v.items → length ws ≡ v.len
+    → AllZip (IsMovedSlot unit dx dy) from ws → notes ≡ notes_of (present 0 (with_items v ws).items)
+notes_moved items unit dx dy v from ws notes h e f long zip =
+    subst (λ (ss : List (Option Item)). notes ≡ notes_of (present 0 ss)) (sym (with_items_is v ws long))
+    (h ∙ sym (same_ids unit dx dy (λ item. is_note item.what) (same_note unit dx dy) items (present 0 ws) own))
+  where
+    own : AllZip (IsMovedEntry unit dx dy) items (present 0 ws)
+    own = subst (λ (zs : List (ℕ × Item)). AllZip (IsMovedEntry unit dx dy) zs (present 0 ws)) (sym e)
+        (moved_slots unit dx dy 0 v.items ws (subst (λ (zs : List (Option Item)). AllZip (IsMovedSlot unit dx dy) zs ws) f zip))
+
+pub board_moved : (b : PlainBoard) (unit : ℕ) (dx dy : ℤ) (v : Vec (Option Item) Global) (from ws : List (Option Item)) → b.items ≡ present 0 v.items → b.next_id ≡ length v.items → from ≡ v.items → length ws ≡ v.len
+    → AllZip (IsMovedSlot unit dx dy) from ws → IsMoved unit dx dy b (record b { items = present 0 (with_items v ws).items; next_id = length (with_items v ws).items })
+board_moved b unit dx dy v from ws items next f long zip =
+    subst (λ (ss : List (Option Item)). IsMoved unit dx dy b (record b { items = present 0 ss; next_id = length ss })) (sym (with_items_is v ws long)) (record {
+      items = subst (λ (zs : List (ℕ × Item)). AllZip (IsMovedEntry unit dx dy) zs (present 0 ws)) (sym items) (moved_slots unit dx dy 0 v.items ws zipped);
+      others = ap (λ (n : ℕ). record b { items = present 0 ws; next_id = n }) (same_row (IsMovedSlot unit dx dy) v.items ws zipped ∙ sym next);
     })
   where
-    own : AllZip (IsMovedEntry unit dx dy) b.items ws
-    own = subst (λ (zs : List (ℕ × Item)). AllZip (IsMovedEntry unit dx dy) zs ws) f zip
+    zipped : AllZip (IsMovedSlot unit dx dy) v.items ws
+    zipped = subst (λ (zs : List (Option Item)). AllZip (IsMovedSlot unit dx dy) zs ws) f zip

@@ -1,10 +1,10 @@
 -- The ids of each net, as the board changes.
-use Rattle.std.proofs.Common.{◌≡◌, ◌<◌, ℕ, zero, suc, Bool, true, false, cond, ◌&&◌, List, [], ◌∷◌, ◌++◌, length, get_or, set, map, filter, Option, None, Some, is_some, Vec, vec_len, nat_eq, refl, sym, ◌∙◌, ap, subst, arith, eq-eqb}
+use Rattle.std.proofs.Common.{◌≡◌, ◌<◌, ℕ, zero, suc, Bool, true, false, cond, ◌&&◌, List, [], ◌∷◌, ◌++◌, length, get_or, set, map, filter, None, Some, is_some, Vec, vec_len, nat_eq, refl, sym, ◌∙◌, ap, subst, arith, eq-eqb}
 use Rattle.std.proofs.lemmas.Bool.{eqb-true, and_parts}
 use Rattle.std.proofs.lemmas.Cmp.{nat_eq_equiv}
 use Rattle.std.proofs.lemmas.List.{append-nil}
 use Rattle.std.proofs.lemmas.List.Quantifiers.{position-Some}
-use Rattle.std.specs.List.{AllZip, position}
+use Rattle.std.specs.List.{position}
 use Rattle.std.specs.Map.{lookup}
 use Rattle.std.specs.declared.alloc.Global.{Global}
 use Rattle.board_items.specs.declared.item.Item.{Item}
@@ -55,7 +55,7 @@ others_added e items (n ∷ ns) (l ∷ ls) absent h =
     (h.0 ∙ sym (more_other n.0 items e parts.0), others_added e items ns ls parts.1 h.1)
 
 -- a net that stands in the list is not one that does not
-differs : (net number : ℕ) (nets : List (ℕ × List ℕ)) (place : ℕ) → lookup (nat_eq number) nets ≡ None → IsNetAt net nets place → nat_eq net number ≡ false
+pub differs : (net number : ℕ) (nets : List (ℕ × List ℕ)) (place : ℕ) → lookup (nat_eq number) nets ≡ None → IsNetAt net nets place → nat_eq net number ≡ false
 differs net number [] place absent at = absurd at
 differs net number (n ∷ ns) zero absent at =
     let other : nat_eq number n.0 ≡ false = (absent_parts number n ns absent).0 in
@@ -106,16 +106,6 @@ ids_declared items net name v (n ∷ ns) [] none empty h = absurd h
 ids_declared items net name v (n ∷ ns) (l ∷ ls) none empty h = (h.0, ids_declared items net name v ns ls none empty h.1)
 
 -- ---- other items
--- each list was put through a filter, as were the ids
-pub ids_filtered : (items others : List (ℕ × Item)) (test : ℕ → Bool) → ((net : ℕ) → ids_of_net net others ≡ filter test (ids_of_net net items)) → (nets : List (ℕ × List ℕ)) (lists after : List (Vec ℕ Global))
-    → AllZip (λ old new. new.items ≡ filter test old.items) lists after → AreIdsOf items nets lists → AreIdsOf others nets after
-ids_filtered items others test law [] [] [] zip h = tt
-ids_filtered items others test law [] [] (k ∷ ks) zip h = absurd zip
-ids_filtered items others test law [] (l ∷ ls) after zip h = absurd h
-ids_filtered items others test law (n ∷ ns) [] after zip h = absurd h
-ids_filtered items others test law (n ∷ ns) (l ∷ ls) [] zip h = absurd zip
-ids_filtered items others test law (n ∷ ns) (l ∷ ls) (k ∷ ks) zip h = (zip.0 ∙ ap (filter test) h.0 ∙ sym (law n.0), ids_filtered items others test law ns ls ks zip.1 h.1)
-
 pub ids_unchanged : (items others : List (ℕ × Item)) → ((net : ℕ) → ids_of_net net others ≡ ids_of_net net items) → (nets : List (ℕ × List ℕ)) (lists : List (Vec ℕ Global)) → AreIdsOf items nets lists → AreIdsOf others nets lists
 ids_unchanged items others law [] [] h = tt
 ids_unchanged items others law [] (l ∷ ls) h = absurd h
@@ -141,12 +131,13 @@ kept_lists b net items lists place d old v h at e f g =
     subst (λ (xs : List (ℕ × Item)). AreIdsOf xs b.nets (set lists place v)) (sym g)
     (ids_same b.items net b.nets lists place d v h at (f ∙ ap (λ (o : Vec ℕ Global). o.items) e))
 
-pub kept_same : (b : PlainBoard) (items : List (ℕ × Item)) (marks more : List ℕ) (lists : List (Vec ℕ Global)) → IsSound b → marks ≡ marks_of b.items → items ≡ b.items → more ≡ marks → AreIdsOf items b.nets lists
-    → IsKept (record b { items = items }) more lists
-kept_same b items marks more lists s m e f h = record {
-  sound = subst (λ (xs : List (ℕ × Item)). IsSound (record b { items = xs })) (sym e) s;
+pub kept_same : (b : PlainBoard) (items : List (ℕ × Item)) (next : ℕ) (marks more : List ℕ) (lists : List (Vec ℕ Global)) (live : ℕ) → IsSound b → marks ≡ marks_of b.items → live ≡ length b.items → items ≡ b.items → next ≡ b.next_id
+    → more ≡ marks → AreIdsOf items b.nets lists → IsKept (record b { items = items; next_id = next }) more lists live
+kept_same b items next marks more lists live s m l e n f h = record {
+  sound = subst (λ (z : ℕ). IsSound (record b { items = items; next_id = z })) (sym n) (subst (λ (xs : List (ℕ × Item)). IsSound (record b { items = xs })) (sym e) s);
   marks = f ∙ m ∙ ap marks_of (sym e);
   of_nets = h;
+  count = l ∙ ap length (sym e);
 }
 
 pub place_fits : (b : PlainBoard) (net : ℕ) (v : Vec (Vec ℕ Global) Global) (place : ℕ) → AreIdsOf b.items b.nets v.items → IsNetAt net b.nets place → place < vec_len v

@@ -1,62 +1,17 @@
--- What is left of a board without the items of a unit.
-use Rattle.std.proofs.Common.{◌≡◌, ℕ, ◌+◌, ◌<◌, ◌≤◌, Bool, true, false, cond, not, List, [], ◌∷◌, length, map, filter, None, Some, Vec, nat_eq, refl, sym, ◌∙◌, ap, subst, arith, eq-eqb}
-use Rattle.std.proofs.lemmas.List.{with_items_is}
-use Rattle.std.specs.Vec.{with_items}
-use Rattle.std.specs.List.{AllZip}
-use Rattle.std.specs.Option.{option_map_or}
+-- What is left of a board without some of its items.
+use Rattle.std.proofs.Common.{◌≡◌, ℕ, ◌+◌, ◌-◌, ◌<◌, ◌≤◌, zero, suc, Bool, true, false, cond, not, List, [], ◌∷◌, length, map, filter, get_or, set, None, Some, Vec, nat_eq, refl, sym, ◌∙◌, ap, subst, arith, eq-eqb}
+use Rattle.std.proofs.lemmas.Bool.{eqb-true, ne_eqb}
+use Rattle.std.specs.Map.{lookup}
 use Rattle.std.specs.declared.alloc.Global.{Global}
 use Rattle.board_items.specs.declared.item.Item.{Item}
-use Rattle.board_items.specs.Boards.{PlainBoard, IsSound, Rise, UnitsBelow, AllAdmitted, item_at, ids_where, is_mark, marks_of, ids_of_net}
-use Rattle.board_items.specs.Kept.{AreIdsOf, IsKept}
-use Rattle.board_items.specs.Units.{is_of_unit, without_unit}
+use Rattle.board_items.specs.Boards.{PlainBoard, IsSound, Rise, UnitsBelow, AllAdmitted, AreDistinct, item_at, ids_where, is_mark, marks_of}
+use Rattle.board_items.specs.Moves.{is_note}
+use Rattle.board_items.specs.Notes.{notes_of}
+use Rattle.board_items.specs.Kept.{IsNetAt, AreIdsOf, IsKept}
+use Rattle.board_items.specs.Slots.{without_id}
 use Rattle.board_items.proofs.Admitted.{all_kept}
-use Rattle.board_items.proofs.NetIds.{ids_filtered}
-use Rattle.board_items.proofs.Rising.{passed_over}
-
--- each of the second list is found in the first by its id
-abbrev AllFound : List (ℕ × Item) → List (ℕ × Item) → Type 0
-AllFound all [] = Unit {0}
-AllFound all (e ∷ es) = (item_at all e.0 ≡ Some e.1) × AllFound all es
-
-lift : (x : ℕ × Item) (xs zs : List (ℕ × Item)) (low high : ℕ) → Rise low high zs → x.0 < low → AllFound xs zs → AllFound (x ∷ xs) zs
-lift x xs [] low high rise lt h = tt
-lift x xs (z ∷ zs) low high rise lt h = (passed_over z.0 x xs (λ e. omega (arith, rise.0, e)) ∙ h.0, lift x xs zs (z.0 + 1) high rise.1 (omega (arith, rise.0)) h.1)
-
-pub all_found : (low high : ℕ) (xs : List (ℕ × Item)) → Rise low high xs → AllFound xs xs
-all_found low high [] rise = tt
-all_found low high (x ∷ xs) rise =
-    (ap (λ b. cond b (Some x.1) (item_at xs x.0)) (eq-eqb x.0 x.0 refl), lift x xs xs (x.0 + 1) high rise.1 (omega arith) (all_found (x.0 + 1) high xs rise.1))
-
-abbrev keeps : ℕ → ℕ × Item → Bool
-keeps unit entry = not (nat_eq entry.1.unit unit)
-
-abbrev stays : List (ℕ × Item) → ℕ → ℕ → Bool
-stays all unit id = not (is_of_unit all unit id)
-
-cond_out : (test : Item → Bool) (b : Bool) (xs ys : List (ℕ × Item)) → ids_where test (cond b xs ys) ≡ cond b (ids_where test xs) (ids_where test ys)
-cond_out test true xs ys = refl
-cond_out test false xs ys = refl
-
-ids_kept : (all : List (ℕ × Item)) (unit : ℕ) (test : Item → Bool) (xs : List (ℕ × Item)) → AllFound all xs → ids_where test (filter (keeps unit) xs) ≡ filter (stays all unit) (ids_where test xs)
-ids_kept all unit test [] h = refl
-ids_kept all unit test (e ∷ es) h =
-    cond_out test (keeps unit e) (e ∷ filter (keeps unit) es) (filter (keeps unit) es) ∙ by (test e.1) (nat_eq e.1.unit unit) same (ids_kept all unit test es h.1)
-  where
-    same : is_of_unit all unit e.0 ≡ nat_eq e.1.unit unit
-    same = ap (λ o. option_map_or (λ (item : Item). nat_eq item.unit unit) o false) h.0
-
-    step : (b : Bool) → stays all unit e.0 ≡ b → filter (stays all unit) (e.0 ∷ map (λ x. x.0) (filter (λ x. test x.1) es)) ≡ cond b (e.0 ∷ filter (stays all unit) (map (λ x. x.0) (filter (λ x. test x.1) es))) (filter (stays all unit) (map (λ x. x.0) (filter (λ x. test x.1) es)))
-    step b k = ap (λ t. cond t (e.0 ∷ filter (stays all unit) (map (λ x. x.0) (filter (λ x. test x.1) es))) (filter (stays all unit) (map (λ x. x.0) (filter (λ x. test x.1) es)))) k
-
-    by : (t u : Bool) → is_of_unit all unit e.0 ≡ u → map (λ x. x.0) (filter (λ x. test x.1) (filter (keeps unit) es)) ≡ filter (stays all unit) (map (λ x. x.0) (filter (λ x. test x.1) es))
-        → cond (not u) (map (λ x. x.0) (cond t (e ∷ filter (λ x. test x.1) (filter (keeps unit) es)) (filter (λ x. test x.1) (filter (keeps unit) es)))) (map (λ x. x.0) (filter (λ x. test x.1) (filter (keeps unit) es))) ≡ filter (stays all unit) (map (λ x. x.0) (cond t (e ∷ filter (λ x. test x.1) es) (filter (λ x. test x.1) es)))
-    by true true k ih = ih ∙ sym (step false (ap not k))
-    by true false k ih = ap (λ ids. e.0 ∷ ids) ih ∙ sym (step true (ap not k))
-    by false true k ih = ih
-    by false false k ih = ih
-
-pub ids_left : (b : PlainBoard) (unit : ℕ) (test : Item → Bool) → IsSound b → ids_where test (without_unit b unit).items ≡ filter (λ id. not (is_of_unit b.items unit id)) (ids_where test b.items)
-ids_left b unit test s = ids_kept b.items unit test b.items (all_found 0 b.next_id b.items s.ids)
+use Rattle.board_items.proofs.Nets.{absent_parts}
+use Rattle.board_items.proofs.NetIds.{differs}
 
 -- ---- what holds of each item holds of those that are left
 lower : (low more high : ℕ) (xs : List (ℕ × Item)) → low ≤ more → Rise more high xs → Rise low high xs
@@ -95,33 +50,143 @@ admitted_kept b test (x ∷ xs) h = by (test x) (admitted_kept b test xs h.1)
     by true k = (h.0, k)
     by false k = k
 
-pub sound_left : (b : PlainBoard) (unit : ℕ) → IsSound b → IsSound (without_unit b unit)
-sound_left b unit s = record {
-  ids = rise_kept (keeps unit) 0 b.next_id b.items s.ids;
-  units = units_kept (keeps unit) b.next_unit b.items s.units;
+pub sound_left : (b : PlainBoard) (test : ℕ × Item → Bool) → IsSound b → IsSound (record b { items = filter test b.items })
+sound_left b test s = record {
+  ids = rise_kept test 0 b.next_id b.items s.ids;
+  units = units_kept test b.next_unit b.items s.units;
   last_id = s.last_id;
   last_unit = s.last_unit;
-  few = let n = few_kept (keeps unit) b.items in let m = s.few in omega arith;
+  few = let n = few_kept test b.items in let m = s.few in omega arith;
   first_net = s.first_net;
   distinct = s.distinct;
   no_net = s.no_net;
-  admitted = all_kept b (without_unit b unit) (λ i h. h) (filter (keeps unit) b.items) (admitted_kept b (keeps unit) b.items s.admitted);
+  admitted = all_kept b (record b { items = filter test b.items }) (λ i h. h) (filter test b.items) (admitted_kept b test b.items s.admitted);
 }
 
--- ---- all that the board keeps
-pub kept_left : (b : PlainBoard) (unit : ℕ) (items : List (ℕ × Item)) (marks more : List ℕ) (lists : Vec (Vec ℕ Global) Global) (from ws : List (Vec ℕ Global)) (xs ys : List (ℕ × Item))
-    → IsKept b marks lists.items → items ≡ filter (λ entry. not (nat_eq entry.1.unit unit)) b.items → xs ≡ b.items → ys ≡ b.items → more ≡ filter (λ id. not (is_of_unit xs unit id)) marks
-    → from ≡ lists.items → length ws ≡ lists.len → AllZip (λ old new. new.items ≡ filter (λ id. not (is_of_unit ys unit id)) old.items) from ws
-    → IsKept (record b { items = items }) more (with_items lists ws).items
-kept_left b unit items marks more lists from ws xs ys k e f g m h long zip = record {
-  sound = subst (λ (is : List (ℕ × Item)). IsSound (record b { items = is })) (sym e) (sound_left b unit k.sound);
-  marks = m ∙ ap (λ zs. filter (λ id. not (is_of_unit zs unit id)) marks) f ∙ ap (filter (λ id. not (is_of_unit b.items unit id))) k.marks ∙ sym (ids_left b unit (λ item. is_mark item.what) k.sound) ∙ ap marks_of (sym e);
-  of_nets = subst (λ (ls : List (Vec ℕ Global)). AreIdsOf items b.nets ls) (sym (with_items_is lists ws long)) (ids_filtered b.items items (λ id. not (is_of_unit b.items unit id)) law b.nets lists.items ws lists_left k.of_nets);
-}
+-- ---- without one id
+abbrev other : ℕ → ℕ → Bool
+other id n = not (nat_eq n id)
+
+above : (low high id : ℕ) (xs : List (ℕ × Item)) → Rise low high xs → id < low → without_id id xs ≡ xs
+above low high id [] r lt = refl
+above low high id (x ∷ xs) r lt =
+    ap (λ b. cond (not b) (x ∷ without_id id xs) (without_id id xs)) (ne_eqb x.0 id (λ e. omega (arith, e, r.0)))
+    ∙ ap (λ es. x ∷ es) (above (x.0 + 1) high id xs r.1 (omega (arith, r.0)))
+
+ids_cons : (test : Item → Bool) (x : ℕ × Item) (ys zs : List (ℕ × Item)) → ids_where test ys ≡ ids_where test zs → ids_where test (x ∷ ys) ≡ ids_where test (x ∷ zs)
+ids_cons test x ys zs h = by (test x.1)
   where
-    law : (net : ℕ) → ids_of_net net items ≡ filter (λ id. not (is_of_unit b.items unit id)) (ids_of_net net b.items)
-    law net = ap (ids_of_net net) e ∙ ids_left b unit (λ item. nat_eq item.net net) k.sound
+    by : (t : Bool) → map (λ e. e.0) (cond t (x ∷ filter (λ e. test e.1) ys) (filter (λ e. test e.1) ys)) ≡ map (λ e. e.0) (cond t (x ∷ filter (λ e. test e.1) zs) (filter (λ e. test e.1) zs))
+    by true = ap (λ ids. x.0 ∷ ids) h
+    by false = h
 
-    lists_left : AllZip (λ old new. new.items ≡ filter (λ id. not (is_of_unit b.items unit id)) old.items) lists.items ws
-    lists_left = subst (λ (zs : List (ℕ × Item)). AllZip (λ old new. new.items ≡ filter (λ id. not (is_of_unit zs unit id)) old.items) lists.items ws) g
-        (subst (λ (ls : List (Vec ℕ Global)). AllZip (λ old new. new.items ≡ filter (λ id. not (is_of_unit ys unit id)) old.items) ls ws) h zip)
+ids_skip : (test : Item → Bool) (x : ℕ × Item) (ys : List (ℕ × Item)) → test x.1 ≡ false → ids_where test (x ∷ ys) ≡ ids_where test ys
+ids_skip test x ys h = ap (λ b. map (λ e. e.0) (cond b (x ∷ filter (λ e. test e.1) ys) (filter (λ e. test e.1) ys))) h
+
+ids_take : (test : Item → Bool) (x : ℕ × Item) (ys : List (ℕ × Item)) → test x.1 ≡ true → ids_where test (x ∷ ys) ≡ x.0 ∷ ids_where test ys
+ids_take test x ys h = ap (λ b. map (λ e. e.0) (cond b (x ∷ filter (λ e. test e.1) ys) (filter (λ e. test e.1) ys))) h
+
+without_same : (id : ℕ) (x : ℕ × Item) (xs : List (ℕ × Item)) → nat_eq x.0 id ≡ true → without_id id (x ∷ xs) ≡ without_id id xs
+without_same id x xs h = ap (λ b. cond (not b) (x ∷ without_id id xs) (without_id id xs)) h
+
+without_other : (id : ℕ) (x : ℕ × Item) (xs : List (ℕ × Item)) → nat_eq x.0 id ≡ false → without_id id (x ∷ xs) ≡ x ∷ without_id id xs
+without_other id x xs h = ap (λ b. cond (not b) (x ∷ without_id id xs) (without_id id xs)) h
+
+other_same : (id n : ℕ) (ns : List ℕ) → nat_eq n id ≡ true → filter (other id) (n ∷ ns) ≡ filter (other id) ns
+other_same id n ns h = ap (λ b. cond (not b) (n ∷ filter (other id) ns) (filter (other id) ns)) h
+
+other_other : (id n : ℕ) (ns : List ℕ) → nat_eq n id ≡ false → filter (other id) (n ∷ ns) ≡ n ∷ filter (other id) ns
+other_other id n ns h = ap (λ b. cond (not b) (n ∷ filter (other id) ns) (filter (other id) ns)) h
+
+ids_without : (test : Item → Bool) (id : ℕ) (xs : List (ℕ × Item)) → ids_where test (without_id id xs) ≡ filter (other id) (ids_where test xs)
+ids_without test id [] = refl
+ids_without test id (x ∷ xs) = by (ids_without test id xs) (nat_eq x.0 id) refl (test x.1) refl
+  where
+    by : ids_where test (without_id id xs) ≡ filter (other id) (ids_where test xs) → (e : Bool) → nat_eq x.0 id ≡ e → (t : Bool) → test x.1 ≡ t → ids_where test (without_id id (x ∷ xs)) ≡ filter (other id) (ids_where test (x ∷ xs))
+    by again true k true l = ap (ids_where test) (without_same id x xs k) ∙ again ∙ sym (ap (filter (other id)) (ids_take test x xs l) ∙ other_same id x.0 (ids_where test xs) k)
+    by again true k false l = ap (ids_where test) (without_same id x xs k) ∙ again ∙ sym (ap (filter (other id)) (ids_skip test x xs l))
+    by again false k true l = ap (ids_where test) (without_other id x xs k) ∙ ids_take test x (without_id id xs) l ∙ ap (λ ns. x.0 ∷ ns) again
+        ∙ sym (ap (filter (other id)) (ids_take test x xs l) ∙ other_other id x.0 (ids_where test xs) k)
+    by again false k false l = ap (ids_where test) (without_other id x xs k) ∙ ids_skip test x (without_id id xs) l ∙ again ∙ sym (ap (filter (other id)) (ids_skip test x xs l))
+
+module _ (id : ℕ) (item : Item) where
+  ids_left : (test : Item → Bool) (low high : ℕ) (xs : List (ℕ × Item)) → Rise low high xs → item_at xs id ≡ Some item → test item ≡ false → ids_where test (without_id id xs) ≡ ids_where test xs
+  ids_left test low high [] r e f = refl
+  ids_left test low high (x ∷ xs) r e f = by (λ h. ids_left test (x.0 + 1) high xs r.1 h f) (nat_eq id x.0) refl e
+    where
+      by : (item_at xs id ≡ Some item → ids_where test (without_id id xs) ≡ ids_where test xs) → (t : Bool) → nat_eq id x.0 ≡ t → cond t (Some x.1) (item_at xs id) ≡ Some item → ids_where test (without_id id (x ∷ xs)) ≡ ids_where test (x ∷ xs)
+      by again true k h =
+          let same : id ≡ x.0 = eqb-true id x.0 k in
+          let own : x.1 ≡ item = cc in
+          ap (ids_where test) (without_same id x xs (eq-eqb x.0 id (sym same)) ∙ above (x.0 + 1) high id xs r.1 (omega (arith, same)))
+          ∙ sym (ids_skip test x xs (ap test own ∙ f))
+      by again false k h =
+          ap (ids_where test) (without_other id x xs (ne_eqb x.0 id (λ s. absurd (let t = eq-eqb id x.0 (sym s) in cc))))
+          ∙ ids_cons test x (without_id id xs) xs (again h)
+
+  pub one_fewer : (low high : ℕ) (xs : List (ℕ × Item)) → Rise low high xs → item_at xs id ≡ Some item → length (without_id id xs) + 1 ≡ length xs
+  one_fewer low high [] r e = absurd cc
+  one_fewer low high (x ∷ xs) r e = by (λ h. one_fewer (x.0 + 1) high xs r.1 h) (nat_eq id x.0) refl e
+    where
+      by : (item_at xs id ≡ Some item → length (without_id id xs) + 1 ≡ length xs) → (t : Bool) → nat_eq id x.0 ≡ t → cond t (Some x.1) (item_at xs id) ≡ Some item → length (without_id id (x ∷ xs)) + 1 ≡ length (x ∷ xs)
+      by again true k h =
+          let same : id ≡ x.0 = eqb-true id x.0 k in
+          let less = ap length (without_same id x xs (eq-eqb x.0 id (sym same)) ∙ above (x.0 + 1) high id xs r.1 (omega (arith, same))) in
+          omega (arith, less)
+      by again false k h =
+          let all = ap length (without_other id x xs (ne_eqb x.0 id (λ s. absurd (let t = eq-eqb id x.0 (sym s) in cc)))) in
+          let less = again h in
+          omega (arith, all, less)
+
+  -- the lists of the other nets are as they were
+  others_left : (low high : ℕ) (items : List (ℕ × Item)) (nets : List (ℕ × List ℕ)) (lists : List (Vec ℕ Global)) → Rise low high items → item_at items id ≡ Some item → lookup (nat_eq item.net) nets ≡ None
+      → AreIdsOf items nets lists → AreIdsOf (without_id id items) nets lists
+  others_left low high items [] [] r e absent h = tt
+  others_left low high items [] (l ∷ ls) r e absent h = absurd h
+  others_left low high items (n ∷ ns) [] r e absent h = absurd h
+  others_left low high items (n ∷ ns) (l ∷ ls) r e absent h =
+      let parts = absent_parts item.net n ns absent in
+      (h.0 ∙ sym (ids_left (λ i. nat_eq i.net n.0) low high items r e parts.0), others_left low high items ns ls r e parts.1 h.1)
+
+  lists_left : (low high : ℕ) (items : List (ℕ × Item)) (nets : List (ℕ × List ℕ)) (lists : List (Vec ℕ Global)) (place : ℕ) (d v : Vec ℕ Global) → Rise low high items → item_at items id ≡ Some item
+      → AreDistinct nets → AreIdsOf items nets lists → IsNetAt item.net nets place → v.items ≡ filter (other id) (get_or lists place d).items → AreIdsOf (without_id id items) nets (set lists place v)
+  lists_left low high items [] lists place d v r e distinct h at f = absurd at
+  lists_left low high items (n ∷ ns) [] place d v r e distinct h at f = absurd h
+  lists_left low high items (n ∷ ns) (l ∷ ls) zero d v r e distinct h at f = (
+    f ∙ ap (filter (other id)) h.0 ∙ sym (ids_without (λ i. nat_eq i.net n.0) id items),
+    others_left low high items ns ls r e (subst (λ k. lookup (nat_eq k) ns ≡ None) at distinct.0) h.1,
+  )
+  lists_left low high items (n ∷ ns) (l ∷ ls) (suc place) d v r e distinct h at f = (
+    h.0 ∙ sym (ids_left (λ i. nat_eq i.net n.0) low high items r e (differs item.net n.0 ns place distinct.0 at)),
+    lists_left low high items ns ls place d v r e distinct.1 h.1 at f,
+  )
+
+  marks_left : (b : PlainBoard) (marks more : List ℕ) → IsSound b → marks ≡ marks_of b.items → item_at b.items id ≡ Some item
+      → more ≡ cond (is_mark item.what) (filter (other id) marks) marks → more ≡ marks_of (without_id id b.items)
+  marks_left b marks more s m e f = f ∙ by (is_mark item.what) refl
+    where
+      by : (t : Bool) → is_mark item.what ≡ t → cond t (filter (other id) marks) marks ≡ marks_of (without_id id b.items)
+      by true k = ap (filter (other id)) m ∙ sym (ids_without (λ i. is_mark i.what) id b.items)
+      by false k = m ∙ sym (ids_left (λ i. is_mark i.what) 0 b.next_id b.items s.ids e k)
+
+  pub notes_left : (b : PlainBoard) (items : List (ℕ × Item)) (notes more : List ℕ) → IsSound b → notes ≡ notes_of b.items → item_at b.items id ≡ Some item → items ≡ without_id id b.items
+      → more ≡ cond (is_note item.what) (filter (other id) notes) notes → more ≡ notes_of items
+  notes_left b items notes more s m e g f = f ∙ by (is_note item.what) refl ∙ ap notes_of (sym g)
+    where
+      by : (t : Bool) → is_note item.what ≡ t → cond t (filter (other id) notes) notes ≡ notes_of (without_id id b.items)
+      by true k = ap (filter (other id)) m ∙ sym (ids_without (λ i. is_note i.what) id b.items)
+      by false k = m ∙ sym (ids_left (λ i. is_note i.what) 0 b.next_id b.items s.ids e k)
+
+  -- ---- all that the board keeps
+  pub kept_left : (b : PlainBoard) (items : List (ℕ × Item)) (next : ℕ) (marks more : List ℕ) (lists : List (Vec ℕ Global)) (place : ℕ) (d old v : Vec ℕ Global) (live fewer : ℕ) → IsKept b marks lists live
+      → item_at b.items id ≡ Some item → items ≡ without_id id b.items → next ≡ b.next_id → IsNetAt item.net b.nets place → old ≡ get_or lists place d → v.items ≡ filter (other id) old.items
+      → more ≡ cond (is_mark item.what) (filter (other id) marks) marks → fewer ≡ live - 1
+      → IsKept (record b { items = items; next_id = next }) more (set lists place v) fewer
+  kept_left b items next marks more lists place d old v live fewer k e i n at o f m l =
+      subst (λ (xs : List (ℕ × Item)). IsKept (record b { items = xs; next_id = next }) more (set lists place v) fewer) (sym i)
+      (subst (λ (z : ℕ). IsKept (record b { items = without_id id b.items; next_id = z }) more (set lists place v) fewer) (sym n) (record {
+        sound = sound_left b (λ entry. not (nat_eq entry.0 id)) k.sound;
+        marks = marks_left b marks more k.sound k.marks e m;
+        of_nets = lists_left 0 b.next_id b.items b.nets lists place d v k.sound.ids e k.sound.distinct k.of_nets at (f ∙ ap (λ (w : Vec ℕ Global). filter (other id) w.items) o);
+        count = let less = one_fewer 0 b.next_id b.items k.sound.ids e in let all = k.count in omega (arith, less, all, l);
+      }))

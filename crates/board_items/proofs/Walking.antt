@@ -1,15 +1,15 @@
 -- Lists that are gone through from the first element on.
-use Rattle.std.proofs.Common.{◌≡◌, ℕ, zero, suc, ◌+◌, ◌<◌, ◌≤◌, true, false, cond, List, [], ◌∷◌, length, get_or, drop, Option, None, Some, option_map, find, bytes_eq, refl, sym, ◌∙◌, ap, arith, add-one}
+use Rattle.std.proofs.Common.{◌≡◌, ℕ, zero, suc, ◌+◌, ◌<◌, ◌≤◌, true, false, cond, List, [], ◌∷◌, length, get_or, drop, None, Some, option_map, find, bytes_eq, refl, sym, ◌∙◌, ap, arith, add-one}
 use Rattle.board_items.specs.declared.item.Item.{Item}
 use Rattle.board_items.specs.Units.{first_named}
 
 -- what is left begins with the next one
-left_at : {X : Type 0} (xs : List X) (i : ℕ) (d : X) → i < length xs → drop i xs ≡ get_or xs i d ∷ drop (suc i) xs
+pub left_at : {X : Type 0} (xs : List X) (i : ℕ) (d : X) → i < length xs → drop i xs ≡ get_or xs i d ∷ drop (suc i) xs
 left_at [] i d lt = absurd (omega arith)
 left_at (x ∷ xs) zero d lt = refl
 left_at (x ∷ xs) (suc i) d lt = left_at xs i d (omega arith)
 
-none_left : {X : Type 0} (xs : List X) (i : ℕ) → length xs ≤ i → drop i xs ≡ []
+pub none_left : {X : Type 0} (xs : List X) (i : ℕ) → length xs ≤ i → drop i xs ≡ []
 none_left [] zero le = refl
 none_left [] (suc i) le = refl
 none_left (x ∷ xs) zero le = absurd (omega arith)

@@ -11,3 +11,6 @@ pub mod Copper
 pub mod Kept
 pub mod Units
 pub mod Moves
+pub mod Slots
+pub mod Notes
+pub mod Back

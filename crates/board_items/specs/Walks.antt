@@ -2,7 +2,9 @@
 use Rattle.std.specs.Prelude.{ℕ, List}
 use denote.Ref.{Bor}
 use Rattle.board_items.specs.declared.item.Item.{Item}
+use Rattle.board_items.specs.Slots.{present, unit_items}
 use Rattle.board_items.specs.declared.walk.BoardIter.{BoardIter}
+use Rattle.board_items.specs.declared.walk.UnitIter.{UnitIter}
 use Rattle.board_items.specs.declared.walk.BoardNets.{BoardNets}
 
 -- an id with its item, and a number with its name
@@ -13,7 +15,10 @@ abbrev pub net_of : ℕ × Bor (List ℕ) → ℕ × List ℕ
 net_of given = (given.0, given.1.now)
 
 abbrev pub items_left : BoardIter → List (ℕ × Item)
-items_left walk = walk.items.now
+items_left walk = present walk.first walk.slots.now
+
+abbrev pub unit_left : UnitIter → List (ℕ × Item)
+unit_left walk = unit_items walk.unit walk.first walk.slots.now
 
 abbrev pub nets_left : BoardNets → List (ℕ × List ℕ)
 nets_left walk = walk.nets

@@ -1,24 +1,28 @@
 //! Boards.
 
-ghost use Rattle.std.specs.Prelude.{◌≡◌, ◌<◌, ◌≤◌, ℕ, List, is_some, true, false, None, Some, Err, ◌≢◌, ◌++◌, ◌∷◌, [], IfOk, IfErr, OnOk, OnErr, IfSome, IsUtf8, length, vec_len, vec_capacity};
+ghost use Rattle.std.specs.Prelude.{◌≡◌, ◌<◌, ◌≤◌, ℕ, List, is_some, true, false, None, Some, Err, ◌≢◌, not, nat_eq, filter, ◌&&◌, ◌++◌, ◌∷◌, [], IfOk, IfErr, OnOk, OnErr, IfSome, IsUtf8, length, vec_len, vec_capacity};
 ghost use Rattle.std.specs.Option.{option_copied};
 ghost use Rattle.std.specs.List.{list_all};
 ghost use Rattle.board_items.specs.Layers.{is_within};
 ghost use Rattle.board_items.specs.Parts.{parts_of};
 ghost use Rattle.board_items.specs.Refusals.{refusal_of, reason_in, room_of};
-ghost use Rattle.board_items.specs.Boards.{PlainBoard, IsSound, IsRising, Rise, empty_board, name_of, with_net, item_at, with_item, is_near, is_admitted, is_mark, marks_of, ids_of_net};
+ghost use Rattle.board_items.specs.Boards.{PlainBoard, IsSound, Rise, empty_board, name_of, with_net, item_at, with_item, is_near, is_admitted, is_mark, marks_of, ids_of_net};
 ghost use Rattle.board_items.specs.Kept.{IsNetAt};
 ghost use Rattle.board_items.specs.Moves.{unit_stays, IsMoved};
+ghost use Rattle.board_items.specs.Slots.{present, without_id};
+ghost use Rattle.board_items.specs.Notes.{notes_of, body_of};
 ghost use Rattle.board_items.specs.Units.{without_unit, found_of};
-ghost use Rattle.board_items.specs.Walks.{items_left, nets_left};
+ghost use Rattle.board_items.specs.Walks.{items_left, unit_left, nets_left};
 
 use crate::errors::{Found, ItemError};
 use crate::item::{Item, Nm, What};
 use crate::layers::LayerSet;
 use crate::moves::{Step, shift_unit, unit_stays};
+use crate::notes::{goes_on, last_body};
 use crate::parts::Part;
-use crate::units::{drop_ids, drop_ids_of_nets, drop_items, found_of};
-use crate::walk::{BoardIter, BoardNets};
+use crate::slots::{drop_id, drop_if, item_at};
+use crate::units::found_of;
+use crate::walk::{BoardIter, BoardNets, UnitIter};
 use drc_io::Name;
 use indexmap::IndexMap;
 use std::alloc::{AllocError, Global};
@@ -39,25 +43,34 @@ const GREATEST: i64 = 500_000_000;
 /// Ids rise along the list of items, and neither an id nor a unit number is ever given again.
 #[derive(Drop)]
 pub struct Board {
-    copper: LayerSet,
-    names: IndexMap<u32, Name>,
+    pub(crate) copper: LayerSet,
+    pub(crate) names: IndexMap<u32, Name>,
     // of each net, in the order of the names, the ids of its items
-    of_nets: Vec<Vec<u32>>,
-    items: Vec<(u32, Item)>,
-    marks: Vec<u32>,
-    next_id: u32,
-    next_unit: u32,
+    pub(crate) of_nets: Vec<Vec<u32>>,
+    // slot k is for the id k, and is empty once its item was taken out
+    pub(crate) slots: Vec<Option<Item>>,
+    // of each slot the unit of its item, which stays when it is taken out
+    pub(crate) units: Vec<u32>,
+    // whether no unit stands behind a greater one
+    pub(crate) in_order: bool,
+    // how many are full
+    pub(crate) live: usize,
+    pub(crate) marks: Vec<u32>,
+    pub(crate) notes: Vec<u32>,
+    pub(crate) next_unit: u32,
 }
 
 impl Model for Board {
+    ghost use Rattle.std.specs.Prelude.{length};
     ghost use Rattle.board_items.specs.Boards.{PlainBoard};
-    ghost use Rattle.board_items.specs.Kept.{IsKept};
+    ghost use Rattle.board_items.specs.Kept.{IsWhole};
+    ghost use Rattle.board_items.specs.Slots.{present};
 
     ghost Value = { PlainBoard };
 
-    ghost view = { λ b. record { copper = b.copper; nets = b.names.entries; items = b.items.items; next_id = b.next_id; next_unit = b.next_unit } };
+    ghost view = { λ b. record { copper = b.copper; nets = b.names.entries; items = present 0 b.slots.items; next_id = length b.slots.items; next_unit = b.next_unit } };
 
-    ghost invariant = { λ b. IsKept (record { copper = b.copper; nets = b.names.entries; items = b.items.items; next_id = b.next_id; next_unit = b.next_unit }) b.marks.items b.of_nets.items };
+    ghost invariant = { λ b. IsWhole (record { copper = b.copper; nets = b.names.entries; items = present 0 b.slots.items; next_id = length b.slots.items; next_unit = b.next_unit }) b.marks.items b.notes.items b.of_nets.items b.live b.slots.items b.units.items b.in_order };
 }
 
 // Whether all these parts lie on layers of the board.
@@ -88,23 +101,9 @@ pub(crate) fn is_near(z: i64) -> bool
     -GREATEST <= z && z <= GREATEST
 }
 
-// The item of an id, by halves of the list.
-pub(crate) fn item_at(items: &[(u32, Item)], id: u32) -> Option<&Item>
-    requires { IsRising items.now }
-    ensures { option_copied result ≡ item_at items.now id }
-{
-    let (front, back) = items.split_at(items.len() / 2);
-    let (middle, after) = back.split_first()?;
-    match id.cmp(&middle.0) {
-        Ordering::Equal => Some(&middle.1),
-        Ordering::Less => item_at(front, id),
-        Ordering::Greater => item_at(after, id),
-    }
-}
-
 impl What {
     // Whether it is an area or a body.
-    fn is_mark(&self) -> bool
+    pub(crate) fn is_mark(&self) -> bool
         ensures { result ≡ is_mark self.now }
     {
         matches!(self, What::Area { .. } | What::Body { .. })
@@ -124,9 +123,12 @@ impl Board {
             copper,
             names,
             of_nets,
-            items: Vec::new(alloc),
+            slots: Vec::new(alloc),
+            units: Vec::new(alloc),
+            in_order: true,
+            live: 0,
             marks: Vec::new(alloc),
-            next_id: 0,
+            notes: Vec::new(alloc),
             next_unit: 0,
         })
     }
@@ -151,7 +153,7 @@ impl Board {
         }
         self.of_nets.reserve(1)?;
         self.names.insert(net, name)?;
-        let none = Vec::new(*self.items.allocator());
+        let none = Vec::new(*self.slots.allocator());
         self.of_nets.push_reserved(none);
         Ok(())
     }
@@ -160,7 +162,8 @@ impl Board {
     pub fn reserve(&mut self, more: usize) -> Result<(), AllocError>
         ensures { self.new ≡ self.old }
     {
-        self.items.reserve(more)
+        self.units.reserve(more)?;
+        self.slots.reserve(more)
     }
 
     /// Appends an item and gives its id, one above the greatest that was ever given, or 0.
@@ -174,11 +177,16 @@ impl Board {
         ensures unchanged { OnErr result (self.new ≡ self.old) }
     {
         let place = self.admit(&item)?;
-        let id = self.next_id;
+        let id = self.slot_count();
         let next_unit = self.next_unit.max(item.unit + 1);
+        let in_order = goes_on(self.in_order, &self.units, item.unit);
         let of_net = &mut self.of_nets[place];
-        push_entry(&mut self.items, &mut self.marks, of_net, id, item)?;
-        self.next_id = id + 1;
+        let units = &mut self.units;
+        let marks = &mut self.marks;
+        let notes = &mut self.notes;
+        push_slot(&mut self.slots, units, marks, notes, of_net, id, item)?;
+        self.in_order = in_order;
+        self.live += 1;
         self.next_unit = next_unit;
         Ok(id)
     }
@@ -209,9 +217,43 @@ impl Board {
     pub fn remove(&mut self, unit: u32)
         ensures { self.new ≡ without_unit self.old unit }
     {
-        drop_ids(&mut self.marks, &self.items, unit);
-        drop_ids_of_nets(&mut self.of_nets, &self.items, unit);
-        drop_items(&mut self.items, unit);
+        for id in 0..self.slot_count() {
+            self.drop_if_of(id, unit);
+        }
+    }
+
+    // How many slots there are: the id that is given next.
+    pub(crate) fn slot_count(&self) -> u32
+        ensures slots { result ≡ self.now.next_id }
+        ensures sound { IsSound self.now }
+    {
+        self.slots.len() as u32
+    }
+
+    // Takes the item with this id out if it is of the unit.
+    fn drop_if_of(&mut self, id: u32, unit: u32)
+        requires { id < self.old.next_id }
+        ensures { self.new ≡ record self.old { items = filter (λ entry. not (nat_eq entry.0 id && nat_eq entry.1.unit unit)) self.old.items } }
+    {
+        if self.units[id as usize] == unit {
+            self.take_out(id);
+        }
+    }
+
+    // Takes the item with this id out.
+    pub(crate) fn take_out(&mut self, id: u32) -> Option<Item>
+        ensures found { result ≡ item_at self.old.items id }
+        ensures taken { self.new ≡ record self.old { items = without_id id self.old.items } }
+    {
+        let item = item_at(&self.slots, id)?;
+        let is_mark = item.what.is_mark();
+        let is_note = item.what.is_note();
+        let place = self.names.get_index_of(&item.net)?;
+        drop_id(&mut self.of_nets[place], id);
+        drop_if(&mut self.marks, id, is_mark);
+        drop_if(&mut self.notes, id, is_note);
+        self.live -= 1;
+        self.slots[id as usize].take()
     }
 
     /// Moves every item of the unit but its notes by `dx` and `dy` nanometres. It takes no memory.
@@ -225,10 +267,10 @@ impl Board {
         ensures unchanged { OnErr result (self.new ≡ self.old) }
     {
         let step = Step { dx, dy };
-        if !unit_stays(&self.items, unit, step) {
+        if !unit_stays(&self.slots, &self.units, unit, step) {
             return Err(ItemError::OutOfBoard);
         }
-        shift_unit(&mut self.items, unit, step);
+        shift_unit(&mut self.slots, &self.units, unit, step);
         Ok(())
     }
 
@@ -236,7 +278,7 @@ impl Board {
     pub fn find(&self, name: &Name) -> Found
         ensures { result ≡ found_of name.now self.now.items }
     {
-        found_of(&self.items, name)
+        found_of(self.iter(), name)
     }
 
     /// The ids of all items of the net, rising; none where the net was not declared.
@@ -249,12 +291,12 @@ impl Board {
         }
     }
 
-    /// The item with this id. It is found by halves, since ids rise. It is one that `add` took.
+    /// The item with this id, by one look. It is one that `add` took.
     pub fn get(&self, id: u32) -> Option<&Item>
         ensures found { option_copied result ≡ item_at self.now.items id }
         ensures admitted { IfSome result (λ item. is_admitted self.now item.now ≡ true) }
     {
-        item_at(&self.items, id)
+        item_at(&self.slots, id)
     }
 
     /// All items with their ids, by rising id.
@@ -262,7 +304,24 @@ impl Board {
         ensures items { items_left result ≡ self.now.items }
         ensures sound { IsSound self.now }
     {
-        BoardIter { items: &self.items }
+        BoardIter {
+            slots: &self.slots,
+            first: 0,
+        }
+    }
+
+    /// The items of the unit with their ids, by rising id. It walks a row of unit numbers, and looks at no item of
+    /// another unit.
+    pub fn of_unit(&self, unit: u32) -> UnitIter<'_>
+        ensures items { unit_left result ≡ filter (λ entry. nat_eq entry.1.unit unit) self.now.items }
+        ensures sound { IsSound self.now }
+    {
+        UnitIter {
+            slots: &self.slots,
+            units: &self.units,
+            first: 0,
+            unit,
+        }
     }
 
     /// How many more items `add` takes before it answers `TooMany`.
@@ -270,8 +329,8 @@ impl Board {
         ensures room { result ≡ room_of self.now }
         ensures sound { IsSound self.now }
     {
-        let places = MOST_ITEMS - self.items.len();
-        (places as u32).min(LAST - self.next_id)
+        let places = MOST_ITEMS - self.live;
+        (places as u32).min(LAST - self.slot_count())
     }
 
     /// The copper layers.
@@ -305,6 +364,23 @@ impl Board {
         &self.marks
     }
 
+    /// The ids of all notes, rising.
+    pub fn notes(&self) -> &[u32]
+        ensures { result.now ≡ notes_of self.now.items }
+    {
+        &self.notes
+    }
+
+    /// The body that stands last before the note among the items of the note's unit: that of the footprint of which the
+    /// note speaks. None where there is none, and where no item has the id. Where units rise along the items, as all readers
+    /// give them, it looks at none before the unit.
+    pub fn body_of(&self, note: u32) -> Option<&Item>
+        ensures { option_copied result ≡ body_of self.now note }
+    {
+        let item = item_at(&self.slots, note)?;
+        last_body(&self.slots, &self.units, self.in_order, note, item.unit)
+    }
+
     /// The name of a net; None exactly where the net was not declared.
     pub fn net_name(&self, net: u32) -> Option<&Name>
         ensures { option_copied result ≡ name_of self.now net }
@@ -313,39 +389,62 @@ impl Board {
     }
 }
 
-// Makes room for one more in both lists.
-fn make_room(marks: &mut Vec<u32>, of_net: &mut Vec<u32>) -> Result<(), AllocError>
+// Makes room for one more in each list.
+fn make_room(
+    units: &mut Vec<u32>,
+    marks: &mut Vec<u32>,
+    notes: &mut Vec<u32>,
+    of_net: &mut Vec<u32>,
+) -> Result<(), AllocError>
+    ensures units_stay { units.new.items ≡ units.old.items }
     ensures marks_stay { marks.new.items ≡ marks.old.items }
+    ensures notes_stay { notes.new.items ≡ notes.old.items }
     ensures of_net_stays { of_net.new.items ≡ of_net.old.items }
+    ensures units { OnOk result (vec_len units.new < vec_capacity units.new) }
     ensures marks { OnOk result (vec_len marks.new < vec_capacity marks.new) }
+    ensures notes { OnOk result (vec_len notes.new < vec_capacity notes.new) }
     ensures of_net { OnOk result (vec_len of_net.new < vec_capacity of_net.new) }
 {
+    units.reserve(1)?;
     marks.reserve(1)?;
+    notes.reserve(1)?;
     of_net.reserve(1)
 }
 
-// Appends an entry, and its id to those of its net and where it is a mark, or changes nothing.
-fn push_entry(
-    items: &mut Vec<(u32, Item)>,
+// Appends a slot with the item, and its id to those of its net and where it is a mark or a note, or changes nothing.
+fn push_slot(
+    slots: &mut Vec<Option<Item>>,
+    units: &mut Vec<u32>,
     marks: &mut Vec<u32>,
+    notes: &mut Vec<u32>,
     of_net: &mut Vec<u32>,
     id: u32,
     item: Item,
 ) -> Result<(), ItemError>
     ensures only { IfErr result (λ e. e ≡ ItemError.OutOfMemory) }
-    ensures items { OnOk result (items.new.items ≡ items.old.items ++ (id, item) ∷ []) }
+    ensures slots { OnOk result (slots.new.items ≡ slots.old.items ++ Some item ∷ []) }
+    ensures units { OnOk result (units.new.items ≡ units.old.items ++ item.unit ∷ []) }
     ensures marks { OnOk result (marks.new.items ≡ marks.old.items ++ marks_of ((id, item) ∷ [])) }
+    ensures notes { OnOk result (notes.new.items ≡ notes.old.items ++ notes_of ((id, item) ∷ [])) }
     ensures of_net { OnOk result (of_net.new.items ≡ of_net.old.items ++ id ∷ []) }
-    ensures items_stay { OnErr result (items.new.items ≡ items.old.items) }
+    ensures slots_stay { OnErr result (slots.new.items ≡ slots.old.items) }
+    ensures units_stay { OnErr result (units.new.items ≡ units.old.items) }
     ensures marks_stay { OnErr result (marks.new.items ≡ marks.old.items) }
+    ensures notes_stay { OnErr result (notes.new.items ≡ notes.old.items) }
     ensures of_net_stays { OnErr result (of_net.new.items ≡ of_net.old.items) }
 {
+    let unit = item.unit;
     let is_mark = item.what.is_mark();
-    make_room(marks, of_net)?;
-    items.push((id, item))?;
+    let is_note = item.what.is_note();
+    make_room(units, marks, notes, of_net)?;
+    slots.push(Some(item))?;
+    units.push_reserved(unit);
     of_net.push_reserved(id);
     if is_mark {
         marks.push_reserved(id);
+    }
+    if is_note {
+        notes.push_reserved(id);
     }
     Ok(())
 }

@@ -3,18 +3,24 @@
 //! Positions and sizes are whole nanometres; the points and radii of shapes are half nanometres.
 #![tactic(auto)]
 
+mod back;
 mod board;
 mod boxed;
+mod copying;
 mod errors;
 mod extents;
 mod item;
+pub mod laws;
 mod layers;
 mod moves;
+mod notes;
 mod parts;
+mod slots;
 mod turns;
 mod units;
 mod walk;
 
+pub use back::Kept;
 pub use board::Board;
 pub use boxed::Boxed;
 pub use errors::{BoardError, Found, ItemError};
@@ -22,4 +28,31 @@ pub use item::{About, Bans, Hole, Item, Nm, What};
 pub use layers::{LayerSet, layer_name};
 pub use parts::{Part, Parts};
 pub use turns::turn;
-pub use walk::{BoardIter, BoardNets};
+pub use walk::{BoardIter, BoardNets, UnitIter};
+
+// Each type may go to another thread and be shared by threads.
+fn crosses<T: Send + Sync>() {}
+
+fn all_cross() {
+    crosses::<Board>();
+}
+
+fn kept_cross() {
+    crosses::<Kept>();
+}
+
+fn items_cross() {
+    crosses::<Item>();
+}
+
+fn parts_cross() {
+    crosses::<Parts>();
+}
+
+fn walks_cross() {
+    crosses::<BoardIter<'_>>();
+}
+
+fn unit_walks_cross() {
+    crosses::<UnitIter<'_>>();
+}

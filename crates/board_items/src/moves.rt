@@ -1,11 +1,12 @@
 //! Moves of units.
 
-ghost use Rattle.std.specs.Prelude.{◌≡◌, ◌≤◌, ◌+ℤ◌, ◌*ℤ◌, ◌++◌, ◌&&◌, pos, true, All, unsigned_abs, if◌then◌else◌};
+ghost use Rattle.std.specs.Prelude.{◌≡◌, ◌≤◌, ◌+ℤ◌, ◌*ℤ◌, ◌++◌, ◌&&◌, pos, true, All, MatchBool, unsigned_abs, if◌then◌else◌};
 ghost use Rattle.std.specs.List.{AllZip, list_all};
 ghost use Rattle.geo_seg.specs.Shifts.{core_stays};
 ghost use Rattle.board_items.specs.Boards.{is_near, is_on_board};
 ghost use Rattle.board_items.specs.Parts.{parts_of, hole_parts, kind_parts};
-ghost use Rattle.board_items.specs.Moves.{is_note, moves, item_stays, unit_stays, IsMovedEntry, IsShiftedItem, IsShiftedPart, AreShifted, HoleIsShifted, KindIsShifted};
+ghost use Rattle.board_items.specs.Moves.{is_note, moves, item_stays, IsShiftedItem, IsShiftedPart, AreShifted, HoleIsShifted, KindIsShifted};
+ghost use Rattle.board_items.specs.Slots.{IsUnitIn, AreUnitsIn, is_slot_on_board, slot_stays, IsMovedSlot};
 
 use crate::board::is_near;
 use crate::item::{Hole, Item, Nm, What};
@@ -34,7 +35,7 @@ impl Step {
 }
 
 impl What {
-    fn is_note(&self) -> bool
+    pub(crate) fn is_note(&self) -> bool
         ensures { result ≡ is_note self.now }
     {
         matches!(self, What::Note { .. })
@@ -112,20 +113,33 @@ fn item_stays(item: &Item, step: Step) -> bool
 }
 
 // Whether the item stays, or does not move with the unit.
-fn entry_stays(item: &Item, unit: u32, step: Step) -> bool
-    requires { is_on_board item.now ≡ true }
-    ensures { result ≡ (if moves unit item.now then item_stays step.dx step.dy item.now else true) }
+fn slot_stays(slot: &Option<Item>, unit: u32, step: Step) -> bool
+    requires { is_slot_on_board slot.now ≡ true }
+    ensures { result ≡ slot_stays unit step.dx step.dy slot.now }
 {
-    !moves(item, unit) || item_stays(item, step)
+    match slot {
+        None => true,
+        Some(item) => !moves(item, unit) || item_stays(item, step),
+    }
+}
+
+// The same, asked of the unit that stands beside the slot first.
+fn own_stays(slot: &Option<Item>, own: u32, unit: u32, step: Step) -> bool
+    requires own { IsUnitIn slot.now own }
+    requires on_board { is_slot_on_board slot.now ≡ true }
+    ensures { result ≡ slot_stays unit step.dx step.dy slot.now }
+{
+    own != unit || slot_stays(slot, unit, step)
 }
 
 // Whether each item that moves with the unit stays on the board.
-pub(crate) fn unit_stays(items: &[(u32, Item)], unit: u32, step: Step) -> bool
-    requires { All (λ entry. is_on_board entry.1 ≡ true) items.now }
-    ensures { result ≡ unit_stays unit step.dx step.dy items.now }
+pub(crate) fn unit_stays(slots: &[Option<Item>], units: &[u32], unit: u32, step: Step) -> bool
+    requires units { AreUnitsIn slots.now units.now }
+    requires on_board { All (λ slot. is_slot_on_board slot ≡ true) slots.now }
+    ensures { result ≡ list_all (λ slot. slot_stays unit step.dx step.dy slot) slots.now }
 {
-    for entry in items {
-        if !entry_stays(&entry.1, unit, step) {
+    for place in 0..units.len() {
+        if !own_stays(&slots[place], units[place], unit, step) {
             return false;
         }
     }
@@ -204,23 +218,46 @@ fn shift_item(item: &mut Item, step: Step)
 }
 
 // Moves the item if it moves with the unit.
-fn shift_entry(entry: &mut (u32, Item), unit: u32, step: Step)
-    requires on_board { is_on_board entry.old.1 ≡ true }
-    requires stays { (if moves unit entry.old.1 then item_stays step.dx step.dy entry.old.1 else true) ≡ true }
-    ensures { IsMovedEntry unit step.dx step.dy entry.old entry.new }
+fn shift_moving(item: &mut Item, unit: u32, step: Step)
+    requires on_board { is_on_board item.old ≡ true }
+    requires stays { (if moves unit item.old then item_stays step.dx step.dy item.old else true) ≡ true }
+    ensures { MatchBool (moves unit item.old) (IsShiftedItem step.dx step.dy item.old item.new) (item.new ≡ item.old) }
 {
-    if moves(&entry.1, unit) {
-        shift_item(&mut entry.1, step);
+    if moves(item, unit) {
+        shift_item(item, step);
+    }
+}
+
+fn shift_slot(slot: &mut Option<Item>, unit: u32, step: Step)
+    requires on_board { is_slot_on_board slot.old ≡ true }
+    requires stays { slot_stays unit step.dx step.dy slot.old ≡ true }
+    ensures { IsMovedSlot unit step.dx step.dy slot.old slot.new }
+{
+    if let Some(item) = slot {
+        shift_moving(item, unit, step);
+    }
+}
+
+// The same, asked of the unit that stands beside the slot first.
+fn shift_own(slot: &mut Option<Item>, own: u32, unit: u32, step: Step)
+    requires own { IsUnitIn slot.old own }
+    requires on_board { is_slot_on_board slot.old ≡ true }
+    requires stays { slot_stays unit step.dx step.dy slot.old ≡ true }
+    ensures { IsMovedSlot unit step.dx step.dy slot.old slot.new }
+{
+    if own == unit {
+        shift_slot(slot, unit, step);
     }
 }
 
 // Moves each item that moves with the unit.
-pub(crate) fn shift_unit(items: &mut [(u32, Item)], unit: u32, step: Step)
-    requires on_board { All (λ entry. is_on_board entry.1 ≡ true) items.old }
-    requires stays { unit_stays unit step.dx step.dy items.old ≡ true }
-    ensures { AllZip (IsMovedEntry unit step.dx step.dy) items.old items.new }
+pub(crate) fn shift_unit(slots: &mut [Option<Item>], units: &[u32], unit: u32, step: Step)
+    requires units { AreUnitsIn slots.old units.now }
+    requires on_board { All (λ slot. is_slot_on_board slot ≡ true) slots.old }
+    requires stays { list_all (λ slot. slot_stays unit step.dx step.dy slot) slots.old ≡ true }
+    ensures { AllZip (IsMovedSlot unit step.dx step.dy) slots.old slots.new }
 {
-    for entry in items.iter_mut() {
-        shift_entry(entry, unit, step);
+    for place in 0..units.len() {
+        shift_own(&mut slots[place], units[place], unit, step);
     }
 }

@@ -1,13 +1,20 @@
 //! Iterators over a board.
 
+ghost use Rattle.std.specs.Prelude.{◌≡◌, ◌+◌, ◌≤◌, true, length};
+ghost use Rattle.board_items.specs.Slots.{are_units_in};
+
 use crate::item::Item;
+use crate::slots::{next_full, next_of_unit};
 use drc_io::Name;
 use indexmap::map::Slice;
 
 /// The items of a board that are still to come, each with its id, by rising id.
 #[derive(Clone, Copy)]
 pub struct BoardIter<'a> {
-    pub(crate) items: &'a [(u32, Item)],
+    // the slots that are still to come, and the id of the first
+    pub(crate) slots: &'a [Option<Item>],
+    pub(crate) first: u32,
+    pub(crate) ghost room: { first + length slots.now ≤ 4294967295 },
 }
 
 impl<'a> Iterator for BoardIter<'a> {
@@ -21,9 +28,41 @@ impl<'a> Iterator for BoardIter<'a> {
     ghost remaining = { item_count items_left };
 
     fn next(&mut self) -> Option<(u32, &'a Item)> {
-        let (entry, others) = self.items.split_first()?;
-        self.items = others;
-        Some((entry.0, &entry.1))
+        let (id, item, behind) = next_full(self.slots, self.first)?;
+        self.slots = behind;
+        self.first = id + 1;
+        Some((id, item))
+    }
+}
+
+/// The items of one unit that are still to come, each with its id, by rising id.
+#[derive(Clone, Copy)]
+pub struct UnitIter<'a> {
+    // the slots and their units that are still to come, and the id of the first
+    pub(crate) slots: &'a [Option<Item>],
+    pub(crate) units: &'a [u32],
+    pub(crate) first: u32,
+    pub(crate) unit: u32,
+    pub(crate) ghost room: { first + length slots.now ≤ 4294967295 },
+    pub(crate) ghost units_in: { are_units_in slots.now units.now ≡ true },
+}
+
+impl<'a> Iterator for UnitIter<'a> {
+    ghost use Rattle.std.specs.Iterator.{YieldsFirstBy, item_count};
+    ghost use Rattle.board_items.specs.Walks.{entry_of, unit_left};
+
+    type Item = (u32, &'a Item);
+
+    ghost next_gives = { YieldsFirstBy entry_of unit_left };
+
+    ghost remaining = { item_count unit_left };
+
+    fn next(&mut self) -> Option<(u32, &'a Item)> {
+        let (id, item, behind, rest) = next_of_unit(self.slots, self.units, self.first, self.unit)?;
+        self.slots = behind;
+        self.units = rest;
+        self.first = id + 1;
+        Some((id, item))
     }
 }
 

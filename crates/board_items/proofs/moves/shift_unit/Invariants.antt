@@ -1,6 +1,7 @@
+use Rattle.std.proofs.Common.{◌≡◌, length}
 use Rattle.geo_seg.proofs.Rewritten.{Rewritten}
-use Rattle.board_items.specs.Moves.{IsMovedEntry}
+use Rattle.board_items.specs.Slots.{IsMovedSlot}
 use Rattle.board_items.proofs.moves.shift_unit.Given as goal
 
-abbrev pub invariant-loop-entry : goal.invariant-loop-entry
-invariant-loop-entry l = Rewritten (IsMovedEntry l.unit l.step.dx l.step.dy) l.entry-index l.fn.items l.items
+abbrev pub invariant-loop-place : goal.invariant-loop-place
+invariant-loop-place l = Rewritten (IsMovedSlot l.unit l.step.dx l.step.dy) l.place l.fn.slots l.slots × (l.place-end ≡ length l.slots) × (length l.slots ≡ length l.fn.slots)

@@ -1,6 +1,8 @@
-use Rattle.std.proofs.Common.{◌≡◌, drop}
-use Rattle.board_items.specs.Moves.{unit_stays}
+use Rattle.std.proofs.Common.{◌≡◌, length, drop}
+use Rattle.std.specs.List.{list_all}
+use Rattle.board_items.specs.Slots.{slot_stays}
 use Rattle.board_items.proofs.moves.unit_stays.Given as goal
 
-abbrev pub invariant-loop-entry : goal.invariant-loop-entry
-invariant-loop-entry l = unit_stays l.unit l.step.dx l.step.dy l.items ≡ unit_stays l.unit l.step.dx l.step.dy (drop l.entry-index l.items)
+abbrev pub invariant-loop-place : goal.invariant-loop-place
+invariant-loop-place l =
+    (list_all (λ slot. slot_stays l.unit l.step.dx l.step.dy slot) l.slots ≡ list_all (λ slot. slot_stays l.unit l.step.dx l.step.dy slot) (drop l.place l.slots)) × (l.place-end ≡ length l.slots)

@@ -1,35 +1,52 @@
-use Rattle.std.proofs.Common.{◌≡◌, ◌<◌, None, subst, sym}
-use Rattle.board_items.specs.Boards.{PlainBoard}
+use Rattle.std.proofs.Common.{◌≡◌, ◌<◌, ◌∷◌, ◌++◌, [], ℕ, List, Option, None, refl, subst, sym, ap, ◌∙◌, length}
+use Rattle.board_items.specs.Boards.{PlainBoard, with_item}
+use Rattle.board_items.specs.declared.item.Item.{Item}
+use Rattle.board_items.specs.Slots.{present, UnitsRise}
+use Rattle.board_items.specs.Notes.{notes_of}
 use Rattle.board_items.specs.Kept.{IsNetAt}
 use Rattle.board_items.specs.Refusals.{room_of, refusal_of}
-use Rattle.board_items.proofs.Growing.{sound_added}
-use Rattle.board_items.proofs.NetIds.{place_fits, added_lists, kept_lists, kept_same}
+use Rattle.board_items.proofs.Adding.{kept_added, board_added, notes_added}
+use Rattle.board_items.proofs.NetIds.{place_fits, kept_lists, kept_same}
+use Rattle.board_items.proofs.UnitRows.{units_same, units_added}
 use Rattle.board_items.proofs.board.Board.add.Goals as goal
 
 pub index_mut-of_net-requires : goal.index_mut-of_net-requires
 index_mut-of_net-requires c =
-    let before : PlainBoard = record { copper = c.self.inside.copper; nets = c.self.inside.names.entries; items = c.self.inside.items.items; next_id = c.self.inside.next_id; next_unit = c.self.inside.next_unit } in
+    let before : PlainBoard = record { copper = c.self.inside.copper; nets = c.self.inside.names.entries; items = present 0 c.self.inside.slots.items; next_id = length c.self.inside.slots.items; next_unit = c.self.inside.next_unit } in
     let at = subst (λ (b : PlainBoard). IsNetAt c.args.item.net b.nets c.in_ok-place.place) (sym c.self.view_is) c.in_ok-place.ensures.place in
-    place_fits before c.args.item.net c.self.inside.of_nets c.in_ok-place.place c.self.invariant.of_nets at
+    place_fits before c.args.item.net c.self.inside.of_nets c.in_ok-place.place c.self.invariant.kept.of_nets at
 
 pub invariant_of-self : goal.invariant_of-self
 invariant_of-self c =
-    let before : PlainBoard = record { copper = c.self.inside.copper; nets = c.self.inside.names.entries; items = c.self.inside.items.items; next_id = c.self.inside.next_id; next_unit = c.self.inside.next_unit } in
+    let before : PlainBoard = record { copper = c.self.inside.copper; nets = c.self.inside.names.entries; items = present 0 c.self.inside.slots.items; next_id = length c.self.inside.slots.items; next_unit = c.self.inside.next_unit } in
     let at = subst (λ (b : PlainBoard). IsNetAt c.args.item.net b.nets c.in_ok-place.place) (sym c.self.view_is) c.in_ok-place.ensures.place in
-    kept_same before _ c.self.inside.marks.items _ _ c.self.invariant.sound c.self.invariant.marks c.in_err-push_entry.ensures.items_stay c.in_err-push_entry.ensures.marks_stay
-    (kept_lists before c.args.item.net _ c.self.inside.of_nets.items c.in_ok-place.place _ _ _ c.self.invariant.of_nets at c.index_mut-of_net.ensures.value c.in_err-push_entry.ensures.of_net_stays c.in_err-push_entry.ensures.items_stay)
+    let slots = c.in_err-push_slot.ensures.slots_stay in
+    record {
+      kept = kept_same before _ _ c.self.inside.marks.items _ _ _ c.self.invariant.kept.sound c.self.invariant.kept.marks c.self.invariant.kept.count (ap (present 0) slots) (ap length slots) c.in_err-push_slot.ensures.marks_stay
+          (kept_lists before c.args.item.net _ c.self.inside.of_nets.items c.in_ok-place.place _ _ _ c.self.invariant.kept.of_nets at c.index_mut-of_net.ensures.value c.in_err-push_slot.ensures.of_net_stays (ap (present 0) slots));
+      notes = c.in_err-push_slot.ensures.notes_stay ∙ c.self.invariant.notes ∙ sym (ap (λ (ss : List (Option Item)). notes_of (present 0 ss)) slots);
+      units_in = units_same c.self.inside.slots.items _ c.self.inside.units.items _ c.self.invariant.units_in slots c.in_err-push_slot.ensures.units_stay;
+      rise = λ e. subst (UnitsRise 0) (sym c.in_err-push_slot.ensures.units_stay) (c.self.invariant.rise e);
+    }
 
 pub invariant_of-self-2 : goal.invariant_of-self-2
 invariant_of-self-2 c =
-    let before : PlainBoard = record { copper = c.self.inside.copper; nets = c.self.inside.names.entries; items = c.self.inside.items.items; next_id = c.self.inside.next_id; next_unit = c.self.inside.next_unit } in
+    let before : PlainBoard = record { copper = c.self.inside.copper; nets = c.self.inside.names.entries; items = present 0 c.self.inside.slots.items; next_id = length c.self.inside.slots.items; next_unit = c.self.inside.next_unit } in
     let at = subst (λ (b : PlainBoard). IsNetAt c.args.item.net b.nets c.in_ok-place.place) (sym c.self.view_is) c.in_ok-place.ensures.place in
-    let both = sound_added before c.args.item _ c.self.inside.marks.items _ _ c.self.invariant.sound c.self.invariant.marks
-    (subst (λ (b : PlainBoard). refusal_of b c.args.item ≡ None) (sym c.self.view_is) c.in_ok-place.ensures.refused)
-    (subst (λ (b : PlainBoard). 0 < room_of b) (sym c.self.view_is) c.in_ok-place.ensures.room) c.requires
-    c.in_ok-push_entry.ensures.items c.in_ok-push_entry.ensures.marks c.max-next_unit.ensures in
+    let id : c.slot_count-id.result ≡ before.next_id = c.slot_count-id.ensures.slots ∙ ap (λ (b : PlainBoard). b.next_id) (sym c.self.view_is) in
     record {
-      sound = both.0;
-      marks = both.1;
-      of_nets = added_lists before c.self.inside.next_id c.args.item _ c.self.inside.of_nets.items c.in_ok-place.place _ _ _ c.self.invariant.sound.distinct c.self.invariant.of_nets at
-          c.index_mut-of_net.ensures.value c.in_ok-push_entry.ensures.of_net c.in_ok-push_entry.ensures.items;
+      kept = kept_added before c.args.item c.slot_count-id.result _ c.self.inside.marks.items _ c.self.inside.of_nets.items c.in_ok-place.place _ _ _ c.self.inside.live _ c.self.inside.slots.items _ c.self.invariant.kept
+          (subst (λ (b : PlainBoard). refusal_of b c.args.item ≡ None) (sym c.self.view_is) c.in_ok-place.ensures.refused)
+          (subst (λ (b : PlainBoard). 0 < room_of b) (sym c.self.view_is) c.in_ok-place.ensures.room) c.requires
+          refl refl id c.in_ok-push_slot.ensures.slots c.in_ok-push_slot.ensures.marks c.max-next_unit.ensures at c.index_mut-of_net.ensures.value c.in_ok-push_slot.ensures.of_net refl;
+      notes = notes_added before c.args.item c.slot_count-id.result c.self.inside.slots.items _ c.self.inside.notes.items _ refl refl id c.in_ok-push_slot.ensures.slots c.self.invariant.notes c.in_ok-push_slot.ensures.notes;
+      units_in = units_added c.self.inside.slots.items _ c.self.inside.units.items _ c.args.item c.self.invariant.units_in c.in_ok-push_slot.ensures.slots c.in_ok-push_slot.ensures.units;
+      rise = λ e. subst (UnitsRise 0) (sym c.in_ok-push_slot.ensures.units)
+          (subst (λ (us : List ℕ). UnitsRise 0 (us ++ c.args.item.unit ∷ [])) c.deref.ensures.value
+          (c.goes_on-in_order.ensures (λ t. subst (UnitsRise 0) (sym c.deref.ensures.value) (c.self.invariant.rise t)) e));
     }
+
+pub returns-clause-added : goal.returns-clause-added
+returns-clause-added c =
+    let before : PlainBoard = record { copper = c.self.inside.copper; nets = c.self.inside.names.entries; items = present 0 c.self.inside.slots.items; next_id = length c.self.inside.slots.items; next_unit = c.self.inside.next_unit } in
+    board_added before c.args.item c.self.inside.slots.items _ _ refl refl c.in_ok-push_slot.ensures.slots c.max-next_unit.ensures ∙ ap (λ (b : PlainBoard). with_item b c.args.item) c.self.view_is

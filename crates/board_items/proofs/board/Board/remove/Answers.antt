@@ -1,10 +1,22 @@
-use Rattle.std.proofs.Common.{arith}
+use Rattle.std.proofs.Common.{◌≤◌, sym, ◌∙◌, ap, arith}
 use Rattle.board_items.specs.Boards.{PlainBoard}
-use Rattle.board_items.proofs.Removing.{kept_left}
+use Rattle.board_items.proofs.SlotLists.{without_part, none_passed, all_passed, one_passed}
 use Rattle.board_items.proofs.board.Board.remove.Goals as goal
 
-pub invariant_of-self : goal.invariant_of-self
-invariant_of-self c =
-    let before : PlainBoard = record { copper = c.self.inside.copper; nets = c.self.inside.names.entries; items = c.self.inside.items.items; next_id = c.self.inside.next_id; next_unit = c.self.inside.next_unit } in
-    kept_left before c.args.unit c.drop_items.new.items.items c.self.inside.marks.items c.drop_ids.new.ids.items c.self.inside.of_nets c.deref_mut.result.now c.drop_ids_of_nets.new.lists c.deref.result.now c.deref-2.result.now
-    c.self.invariant c.drop_items.ensures c.deref.ensures.value c.deref-2.ensures.value c.drop_ids.ensures c.deref_mut.ensures.value (omega arith) c.drop_ids_of_nets.ensures
+pub loop-id-init : goal.loop-id-init
+loop-id-init c = (sym (ap (λ es. record c.args.self.now { items = es }) (none_passed c.args.unit c.args.self.now.items)), c.slot_count-id-end.ensures.slots)
+
+pub loop-id-preserved : goal.loop-id-preserved
+loop-id-preserved c = (
+  c.drop_if_of.ensures ∙ ap (λ (b : PlainBoard). record b { items = without_part c.loop-id.id c.args.unit b.items }) c.loop-id.invariant.0
+      ∙ ap (λ es. record c.args.self.now { items = es }) (one_passed c.args.unit c.loop-id.id c.args.self.now.items),
+  c.loop-id.invariant.1,
+)
+
+pub returns : goal.returns
+returns c =
+    let ended = c.loop-id-test.false in
+    let last = c.loop-id.invariant.1 in
+    let past : c.args.self.now.next_id ≤ c.loop-id.id = omega (arith, ended, last) in
+    c.loop-id.invariant.0
+    ∙ ap (λ es. record c.args.self.now { items = es }) (all_passed c.args.unit 0 c.args.self.now.next_id c.loop-id.id c.args.self.now.items past c.slot_count-id-end.ensures.sound.ids)
