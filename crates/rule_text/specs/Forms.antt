@@ -1,7 +1,7 @@
 -- The lists of a rule file: their heads, and the parts behind them. An atom stands for its decoded value, and what is wrong
 -- first in the text is the refusal.
-use Rattle.std.specs.Prelude.{ℕ, List, [], ◌∷◌, Bool, true, false, bytes_eq, Option, None, Some, unwrap_or, Result, Ok, Err, if◌then◌else◌}
-use Rattle.sexpr_read.specs.Tree.{Tree, span, parts, value, is_list}
+use Rattle.std.specs.Prelude.{ℕ, List, [], ◌∷◌, Bool, true, false, ◌&&◌, not, bytes_eq, Option, None, Some, unwrap_or, Result, Ok, Err, if◌then◌else◌}
+use Rattle.sexpr_read.specs.Tree.{Tree, span, parts, value, quoted, is_list}
 use Rattle.rule_text.specs.declared.error.RuleError.{RuleError}
 use Rattle.rule_text.specs.declared.error.RuleError.TheVariants.{Bad}
 
@@ -44,9 +44,17 @@ abbrev pub first_is : List Tree → List ℕ → Bool
 first_is [] head = false
 first_is (t ∷ ts) head = is_text t head
 
--- a list whose first part is this word
+-- a list whose first part stands for this text
 unfoldable pub has_head : List ℕ → Tree → Bool
 has_head head tree = first_is (parts tree) head
+
+abbrev pub first_is_word : List Tree → List ℕ → Bool
+first_is_word [] head = false
+first_is_word (t ∷ ts) head = is_text t head && not (quoted t)
+
+-- the same, where the first part does not stand in quotes
+unfoldable pub has_word_head : List ℕ → Tree → Bool
+has_word_head head tree = first_is_word (parts tree) head
 
 -- an atom, and no list in its place
 abbrev pub as_atom : Tree → Result Tree RuleError

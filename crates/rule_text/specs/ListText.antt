@@ -1,4 +1,5 @@
--- What a list (rules FORM ..) says that stands in another text: what follows its head is as the forms of a file.
+-- What a list (rules FORM ..) says that stands in another text: its head is a word and not in quotes, and what follows the head is
+-- as the forms of a file.
 use Rattle.std.specs.Prelude.{◌≡◌, ℕ, ◌+◌, List, [], ◌∷◌, codes, length, Option, None, Some, Result, Ok, Err}
 use Rattle.sexpr_read.specs.declared.place.TextError.{TextError}
 use Rattle.sexpr_read.specs.declared.place.TextError.TheVariants.{NotUtf8, CloseWithoutOpen, EndInside, TooDeep, ExtraText, EmptyText, OutOfMemory as NoMemory}
@@ -7,7 +8,7 @@ use Rattle.sexpr_read.specs.Spelling.{SpellsAll}
 use Rattle.sexpr_read.specs.Refusals.{refusal_of_all}
 use Rattle.rule_text.specs.declared.error.RuleError.{RuleError}
 use Rattle.rule_text.specs.declared.error.RuleError.TheVariants.{Text, Version, Bad, Cond, BadNumber, OutOfMemory}
-use Rattle.rule_text.specs.Forms.{◌>>=◌, check, place, bad, has_head}
+use Rattle.rule_text.specs.Forms.{◌>>=◌, check, place, bad, has_word_head}
 use Rattle.rule_text.specs.RulesOf.{PlainRules, rules_of}
 
 abbrev pub behind_one : List Tree → List Tree
@@ -27,7 +28,7 @@ nothing_more (t ∷ ts) = bad t
 abbrev pub list_among : ℕ → List Tree → Result PlainRules RuleError
 list_among size [] = Err (Bad 0)
 list_among size (t ∷ ts) = do
-  named ← check (Bad 0) (has_head (codes "rules") t)
+  named ← check (Bad 0) (has_word_head (codes "rules") t)
   rules ← rules_of (no_form size ts) (behind_one (parts t))
   alone ← nothing_more ts
   Ok rules

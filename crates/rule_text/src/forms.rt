@@ -2,7 +2,7 @@
 
 ghost use Rattle.std.specs.Prelude.{◌≡◌, IfOk};
 ghost use Rattle.sexpr_read.specs.Views.{tree_of, trees_left};
-ghost use Rattle.rule_text.specs.Forms.{place, text_of, has_head, as_atom, name_at, atom_at, clauses};
+ghost use Rattle.rule_text.specs.Forms.{place, text_of, has_head, has_word_head, as_atom, name_at, atom_at, clauses};
 ghost use Rattle.rule_text.specs.Views.{tree_in};
 
 use crate::error::RuleError;
@@ -24,7 +24,7 @@ pub(crate) fn bad(node: Node<'_, '_>) -> RuleError
     RuleError::Bad { at: place(node) }
 }
 
-/// Whether it is a list whose first part is this word.
+/// Whether it is a list whose first part stands for this text.
 #[tactic(auto, unfolding(crate::specs::Forms::has_head))]
 pub(crate) fn has_head(node: Node<'_, '_>, head: &[u8]) -> bool
     ensures { result ≡ has_head head.now (tree_of node.entry) }
@@ -33,6 +33,18 @@ pub(crate) fn has_head(node: Node<'_, '_>, head: &[u8]) -> bool
     match parts.next() {
         None => false,
         Some(first) => first.is(head),
+    }
+}
+
+/// The same, where the first part does not stand in quotes.
+#[tactic(auto, unfolding(crate::specs::Forms::has_word_head))]
+pub(crate) fn has_word_head(node: Node<'_, '_>, head: &[u8]) -> bool
+    ensures { result ≡ has_word_head head.now (tree_of node.entry) }
+{
+    let mut parts = node.children();
+    match parts.next() {
+        None => false,
+        Some(first) => first.is(head) && !first.quoted(),
     }
 }
 

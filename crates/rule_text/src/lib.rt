@@ -60,10 +60,10 @@ pub fn read_rules(alloc: Global, text: &[u8]) -> Result<Rules, RuleError>
     }
 }
 
-/// The rules of a list `(rules (version 1) (rule ..) ..)` that stands in another text, of at most 33,554,432 bytes: what
-/// follows its head is as the forms of a file. `at` is where the list begins in that text, at most 33,554,432; it is added to
-/// each place. Beside the reasons of a file, a text whose first form is no such list is Bad at its start, and one with a
-/// second form is Bad there.
+/// The rules of a list `(rules (version 1) (rule ..) ..)` that stands in another text, of at most 33,554,432 bytes: its head
+/// is a word, and what follows the head is as the forms of a file. `at` is where the list begins in that text, at most
+/// 33,554,432; it is added to each place. Beside the reasons of a file, a text whose first form is no such list, as
+/// `("rules" (version 1))`, is Bad at its start, and one with a second form is Bad there.
 pub fn read_rule_list(alloc: Global, text: &[u8], at: u32) -> Result<Rules, RuleError>
     requires text { length text.now ≤ 33_554_432 }
     requires at { at ≤ 33_554_432 }
@@ -97,4 +97,13 @@ fn crosses<T: Send + Sync>() {}
 
 fn all_cross() {
     crosses::<RuleError>();
+    crosses::<RuleNotes>();
+}
+
+fn lists_cross() {
+    crosses::<RuleList>();
+}
+
+fn rules_cross() {
+    crosses::<Rules>();
 }

@@ -9,7 +9,7 @@ ghost use Rattle.rule_text.specs.Short.{AllShort, IsShort};
 ghost use Rattle.rule_text.specs.Views.{plain_rules, Gives};
 
 use crate::error::RuleError;
-use crate::forms::{bad, has_head};
+use crate::forms::{bad, has_word_head};
 use crate::reading::rules_of;
 use crate::rules::Rules;
 use sexpr_read::{Children, Node, TextError};
@@ -24,7 +24,7 @@ fn behind_head<'d, 't>(list: Node<'d, 't>) -> Children<'d, 't>
     parts
 }
 
-/// The rules of a text of this length that is one list `(rules ..)`, by its own places.
+/// The rules of a text of this length that is one list `(rules ..)`, its head a word, by its own places.
 #[tactic(auto, using(crate::proofs::Shortness::behind_one_few, crate::proofs::Shortness::behind_one_short, crate::proofs::Shortness::first_short), unfolding(crate::specs::ListText::list_of))]
 pub(crate) fn list_of(alloc: Global, size: u32, root: Node<'_, '_>) -> Result<Rules, RuleError>
     requires { AllShort (parts (tree_of root)) }
@@ -34,7 +34,7 @@ pub(crate) fn list_of(alloc: Global, size: u32, root: Node<'_, '_>) -> Result<Ru
     let Some(list) = forms.next() else {
         return Err(RuleError::Bad { at: 0 });
     };
-    if !has_head(list, b"rules") {
+    if !has_word_head(list, b"rules") {
         return Err(RuleError::Bad { at: 0 });
     }
     match forms.next() {
