@@ -10,11 +10,9 @@ use Rattle.geo_seg.specs.declared.points.Seg.{Seg}
 use Rattle.part_read.specs.declared.numbers.Spot.{Spot}
 use Rattle.part_read.specs.OnBoard.{tested, fits_board, point_at}
 use Rattle.courtyard.specs.declared.ends.LineEnd.{LineEnd}
-use Rattle.courtyard.specs.Ends.{place, point_of, is_same, is_short, ends_of, ends_from, IsJoined}
+use Rattle.courtyard.specs.Ends.{place, point_of, is_same, is_short, ends_of, ends_from, IsJoined, AreAllMatched}
 use Rattle.courtyard.specs.Ends.{ends_at as seg_ends_at}
-use Rattle.courtyard.specs.declared.errors.ChainError.TheVariants.{Loose}
-use Rattle.courtyard.specs.Faults.{IsReason}
-use Rattle.courtyard.proofs.Matching.{matched}
+use Rattle.courtyard.proofs.Matching.{all_matched}
 use Rattle.footprint_read.specs.declared.sides.Course.{Course}
 use Rattle.footprint_read.specs.Courtyards.{at, is_long, ends_at, many_at, is_met, is_closed, seg_between, seg_of, with_seg, segs_of}
 
@@ -182,6 +180,5 @@ closed_joined lines segs closed h e k s =
     let here : double t.k ≡ k = sym t.at_place ∙ s.at in
     subst (λ (p : ℤ × ℤ). length (seg_ends_at segs p) ≡ 2) here (many t.k lines 0 segs h ∙ t.two)
 
-pub not_loose : (lines : List Course) (segs : List Seg) → is_closed lines ≡ true → segs_of lines ≡ Some segs → (line end : ℕ) → IsReason segs (Loose line end) → ⊥
-not_loose lines segs closed h line end r =
-    r.loose.loose (matched segs _ r.loose.spot r.loose.stands (closed_joined lines segs closed h _ r.loose.spot r.loose.stands))
+pub closed_matched : (lines : List Course) (segs : List Seg) → is_closed lines ≡ true → segs_of lines ≡ Some segs → AreAllMatched segs
+closed_matched lines segs closed h = all_matched segs (closed_joined lines segs closed h)

@@ -1,9 +1,6 @@
 //! The courtyard of a side.
 
 ghost use Rattle.std.specs.Prelude.{◌≡◌, ℕ, ◌<◌, ◌++◌, ◌∷◌, [], map, IfOk, OnOk, All, option_map};
-ghost use Rattle.courtyard.specs.declared.errors.ChainError.TheVariants.{Loose};
-ghost use Rattle.courtyard.specs.Faults.{IsReason};
-ghost use Rattle.courtyard.specs.Outlines.{AreChained};
 ghost use Rattle.part_read.specs.OnBoard.{tested, fits_board, point_at};
 ghost use Rattle.part_read.specs.Stances.{IsWithin};
 ghost use Rattle.part_read.specs.Figures.{HasReach, box_core};
@@ -13,7 +10,7 @@ ghost use Rattle.footprint_read.specs.Courtyards.{seg_of, segs_of, core_between,
 use crate::closing::{is_closed, is_long};
 use crate::sides::{Course, Side};
 use board_items::{LayerSet, Nm, Part, Parts};
-use courtyard::{ChainError, chain};
+use courtyard::closed_outlines;
 use geo_seg::{Core, Point, Poly, Seg};
 use part_read::{
     Figure, Radius, Stance, around, box_core, no_radius, point_at, point_stood, points_stood,
@@ -217,23 +214,6 @@ fn court_by(alloc: Global, stance: Stance, side: &Side) -> Result<Court, AllocEr
     let Some(segs) = segs_of(alloc, side.lines.as_slice())? else {
         return Ok(Court::Off);
     };
-    append_outlines(&mut parts, chained(alloc, &segs)?)?;
+    append_outlines(&mut parts, closed_outlines(alloc, &segs)?)?;
     Ok(Court::Parts(Parts::of(parts)))
-}
-
-/// The outlines of lines of which no end is loose. A text that holds 2^32 lines is out of reach, and counts as want of memory.
-fn chained(alloc: Global, segs: &[Seg]) -> Result<Vec<Poly>, AllocError>
-    requires { (line end : ℕ) → IsReason segs.now (Loose line end) → ⊥ }
-    ensures { IfOk result (λ polys. AreChained segs.now polys.items) }
-{
-    if segs.len() > u32::MAX as usize {
-        return Err(AllocError);
-    }
-    match chain(alloc, segs) {
-        Ok(polys) => Ok(polys),
-        Err(error) => {
-            prove!(matches!(&error, ChainError::OutOfMemory));
-            Err(AllocError)
-        }
-    }
 }

@@ -33,6 +33,7 @@ use Rattle.pad_read.specs.Postures.{clearance_of}
 use Rattle.pad_read.specs.PadSizes.{least_of}
 use Rattle.pad_read.specs.PadShapes.{oval_cushion, turned_cushion, cushion_at}
 use Rattle.pad_read.specs.PadFrames.{hole_sizes, is_plated, frame_of}
+use Rattle.pad_read.specs.CustomPads.{primitives_fit}
 use Rattle.pad_read.specs.PadOf.{with_parts, all_drawn, part_of, copper_of, has_copper, middle_of, frame_copper, hole_with, with_hole, hole_by, hole_of, frame_hole, local_fits, frame_fits, pad_item, pad_with, placed, form_of, label_of, pad_of}
 
 abbrev AreOn : LayerSet → List Part → Type 0
@@ -136,17 +137,17 @@ with_ready board label at (Some parts) None item near declared on drilled h = ab
 with_ready board label at (Some parts) (Some hole) item near declared on drilled h =
     tested_ready board label at parts hole (local_fits label.local) (pad_item label at parts hole) item (λ fits. item_ready board label at parts hole fits near declared on drilled) h
 
-placed_by : (board : PlainBoard) (label : Label) (layers : LayerSet) (f : Frame) (form : Form) (item : Item) (b : Bool) → frame_fits f ≡ b
+placed_by : (board : PlainBoard) (label : Label) (layers : LayerSet) (f : Frame) (form : Form) (item : Item) (b : Bool) → frame_fits f && primitives_fit form.primitives ≡ b
     → is_some (name_of board label.net) ≡ true → IsTrue (is_within layers board.copper)
     → cond b (pad_with label f.at (frame_copper layers f form) (frame_hole board.copper f)) None ≡ Some item → IsReady board label.unit item
 placed_by board label layers f form item true fits declared on h =
-    with_ready board label f.at _ _ item (front _ _ fits) declared (copper_on layers board.copper f form on)
+    with_ready board label f.at _ _ item (front _ _ (front _ _ fits)) declared (copper_on layers board.copper f form on)
     (hole_on board.copper f.at f.quarter (is_plated f.pad_type) (hole_sizes f.pad_type f.drilling.sizes)) h
 placed_by board label layers f form item false fits declared on h = absurd cc
 
 pub placed_ready : (board : PlainBoard) (label : Label) (layers : LayerSet) (f : Frame) (form : Form) (item : Item)
     → is_some (name_of board label.net) ≡ true → IsTrue (is_within layers board.copper) → placed board.copper layers label f form ≡ Some item → IsReady board label.unit item
-placed_ready board label layers f form item declared on h = placed_by board label layers f form item (frame_fits f) refl declared on h
+placed_ready board label layers f form item declared on h = placed_by board label layers f form item (frame_fits f && primitives_fit form.primitives) refl declared on h
 
 -- ---- the whole
 

@@ -1,5 +1,6 @@
 -- Custom pads: an anchor, and primitives around it.
-use Rattle.std.specs.Prelude.{◌||◌, not, List, [], ◌∷◌, ◌++◌, codes, Option, None, Some, Result, Ok, Err, if◌then◌else◌}
+use Rattle.std.specs.Prelude.{Bool, ◌||◌, not, List, [], ◌∷◌, ◌++◌, codes, Option, None, Some, Result, Ok, Err, if◌then◌else◌}
+use Rattle.std.specs.List.{list_all}
 use Rattle.sexpr_read.specs.Tree.{Tree, parts}
 use Rattle.board_items.specs.declared.errors.BoardError.{BoardError}
 use Rattle.board_items.specs.declared.errors.BoardError.TheVariants.{PadShape, Arc, Ring}
@@ -7,7 +8,8 @@ use Rattle.part_read.specs.declared.drawings.Kind.{Kind}
 use Rattle.part_read.specs.declared.drawings.Kind.TheVariants.{Line, Rect, Circle, Outline}
 use Rattle.part_read.specs.declared.figures.Drawing.{Drawing}
 use Rattle.part_read.specs.Elements.{◌>>=◌, check, place, is_text, has_head, element, atom_of}
-use Rattle.part_read.specs.Figures.{is_ring}
+use Rattle.part_read.specs.OnBoard.{is_length}
+use Rattle.part_read.specs.Figures.{is_ring, radius_with}
 use Rattle.part_read.specs.Drawings.{drawing_of}
 use Rattle.pad_read.specs.declared.sizes.Sizes.{Sizes}
 use Rattle.pad_read.specs.declared.sizes.Cushion.{Cushion}
@@ -65,3 +67,12 @@ primitives_by pad (Some list) = primitives_among pad (parts list)
 -- what (primitives ..) draws
 unfoldable pub primitives_of : Tree → Result (List Drawing) BoardError
 primitives_of pad = primitives_by pad (element (codes "primitives") pad)
+
+-- ---- what must be at most 500 mm, whether or not the pad has copper
+
+-- the width of a primitive, and of a circle the diameter of its disc, its width included. In half nanometres it is the radius
+abbrev pub primitive_fits : Drawing → Bool
+primitive_fits d = is_length (radius_with d.width d.figure)
+
+abbrev pub primitives_fit : List Drawing → Bool
+primitives_fit ds = list_all primitive_fits ds

@@ -36,7 +36,7 @@ use Rattle.pad_read.specs.declared.head.Head.{Head}
 use Rattle.pad_read.specs.Postures.{clearance_of}
 use Rattle.pad_read.specs.PadSizes.{least_of, are_equal}
 use Rattle.pad_read.specs.PadShapes.{circle_cushion, rect_cushion, oval_cushion, round_cushion, round_radius, turned_cushion, cushion_at}
-use Rattle.pad_read.specs.CustomPads.{anchor_of, primitives_of}
+use Rattle.pad_read.specs.CustomPads.{anchor_of, primitives_of, primitives_fit}
 use Rattle.pad_read.specs.PadFrames.{hole_sizes, is_plated, frame_of}
 
 -- ---- its form: what is all within a radius of a box, and what else is drawn
@@ -164,9 +164,9 @@ pad_with label at None hole = None
 pad_with label at (Some copper) None = None
 pad_with label at (Some copper) (Some hole) = tested (local_fits label.local) (pad_item label at copper hole)
 
--- the pad, if it lies on the board and no size of it is above 500 mm
+-- the pad, if it lies on the board and no size of it or of a primitive is above 500 mm
 abbrev pub placed : LayerSet → LayerSet → Label → Frame → Form → Option Item
-placed copper layers label f form = if frame_fits f then pad_with label f.at (frame_copper layers f form) (frame_hole copper f) else None
+placed copper layers label f form = if frame_fits f && primitives_fit form.primitives then pad_with label f.at (frame_copper layers f form) (frame_hole copper f) else None
 
 abbrev pub label_of : ℕ → ℕ → ℤ → Head → Tree → Tree → Label
 label_of unit net own head number tree =

@@ -25,6 +25,7 @@ use crate::holes::frame_hole;
 use crate::labels::Label;
 use crate::pads::Frame;
 use crate::postures::clearance_of;
+use crate::primitives::primitives_fit;
 use crate::turning::{Clearances, local_of, sizes_fit, some_fit};
 use board_items::{Board, BoardError, Boxed, Hole, Item, LayerSet, Nm, Parts, What};
 use drc_io::Name;
@@ -108,7 +109,7 @@ fn pad_with(
     pad_item(alloc, label, frame.at, parts, hole)
 }
 
-/// The pad, unless it leaves the board or a size of it is above 500 mm.
+/// The pad, unless it leaves the board or a size of it or of a primitive is above 500 mm.
 fn placed(
     alloc: Global,
     copper: LayerSet,
@@ -121,7 +122,7 @@ fn placed(
     requires small { IsSmall form.now.cushion }
     ensures { IfOk result (λ item. item ≡ placed copper layers label frame form.now) }
 {
-    if !frame_fits(frame) {
+    if !(frame_fits(frame) && primitives_fit(form.primitives.as_slice())) {
         return Ok(None);
     }
     pad_with(alloc, label, copper, layers, frame, form)

@@ -2,8 +2,9 @@
 
 ghost use Rattle.std.specs.Prelude.{◌≡◌, [], All};
 ghost use Rattle.part_read.specs.Figures.{IsDrawable};
+ghost use Rattle.pad_read.specs.CustomPads.{primitive_fits, primitives_fit};
 
-use part_read::Drawing;
+use part_read::{Drawing, Figure, is_length};
 use std::alloc::Global;
 use std::marker::Model;
 
@@ -47,4 +48,28 @@ impl Primitives {
     {
         &self.list
     }
+}
+
+/// Whether its width, and of a circle the diameter of its disc with the width, is at most 500 mm.
+fn primitive_fits(drawing: &Drawing) -> bool
+    requires { IsDrawable drawing.now }
+    ensures { result ≡ primitive_fits drawing.now }
+{
+    match drawing.figure {
+        Figure::Circle(_, radius) => is_length(2 * radius + drawing.width),
+        _ => is_length(drawing.width),
+    }
+}
+
+/// Whether that is so of each of them.
+pub fn primitives_fit(drawings: &[Drawing]) -> bool
+    requires { All IsDrawable drawings.now }
+    ensures { result ≡ primitives_fit drawings.now }
+{
+    for drawing in drawings {
+        if !primitive_fits(drawing) {
+            return false;
+        }
+    }
+    true
 }

@@ -103,8 +103,8 @@ area_in_room board unit tree corners = do
 
 unfoldable pub rule_area : PlainBoard → ℕ → Tree → ℕ → LayerSet → List ℕ → Tree → Result Item BoardError
 rule_area board unit tree net layers title keepout = do
-  bans ← bans_in keepout
   corners ← polygon_of tree
+  bans ← bans_in keepout
   shape ← area_in_room board unit tree corners
   Ok (plain_item (name_in tree) unit net (first_of corners) [] (Area title bans (record { layers = layers; shape = shape })) refl)
 

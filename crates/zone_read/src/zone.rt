@@ -203,8 +203,8 @@ fn rule_area(
     ensures ready { IfOk result (IsReady board.now unit) }
     ensures room { OnOk result (has_room_after 0 board.now unit ≡ true) }
 {
-    let bans = bans_in(keepout)?;
     let corners = polygon_of(alloc, node)?;
+    let bans = bans_in(keepout)?;
     let shape = area_in_room(alloc, board, unit, node, &corners)?;
     let name = name_of_list(alloc, node)?;
     let what = area_what(alloc, title, bans, Part { layers, shape })?;
