@@ -2,3 +2,9 @@ pub mod Making
 pub mod Rooming
 pub mod OneReading
 pub mod Parting
+pub mod TextPlaces
+pub mod Nearness
+pub mod Nearby
+pub mod NearPads
+pub mod NearFootprints
+pub mod NearLists

@@ -1,7 +1,9 @@
 -- One part of the root that gives items; and the whole root.
-use Rattle.std.proofs.Common.{◌≡◌, refl, sym, subst, ℕ, List, ◌⊎◌, inl, inr, Option, None, Some, Result, Ok, Err, MatchResult}
+use Rattle.std.proofs.Common.{◌≡◌, refl, sym, subst, ap, ◌∙◌, ℕ, ◌==◌, Bool, true, false, List, [], ◌∷◌, ◌++◌, ◌⊎◌, inl, inr, Option, None, Some, Result, Ok, Err, MatchResult}
+use Rattle.std.proofs.lemmas.List.{append_assoc}
 use Rattle.sexpr_read.specs.declared.place.TextError.{TextError}
-use Rattle.sexpr_read.specs.Tree.{Tree}
+use Rattle.sexpr_read.specs.declared.place.Span.{Span}
+use Rattle.sexpr_read.specs.Tree.{Tree, span}
 use Rattle.sexpr_read.specs.Spelling.{Spells}
 use Rattle.sexpr_read.specs.Refusals.{refusal_of_one}
 use Rattle.board_items.specs.declared.errors.BoardError.{BoardError}
@@ -9,9 +11,10 @@ use Rattle.board_items.specs.declared.errors.BoardError.TheVariants.{OutOfMemory
 use Rattle.board_items.specs.Boards.{PlainBoard}
 use Rattle.pcb_read.specs.declared.sorts.Sort.{Sort}
 use Rattle.pcb_read.specs.Sorts.{sort_of}
-use Rattle.pcb_read.specs.Answers.{GivesBoard, LeavesSome}
+use Rattle.pcb_read.specs.Answers.{LeavesSome}
 use Rattle.pcb_read.specs.BoardOf.{Reading, SaysWith, SaysPartBy, SaysPart, SaysBoard}
 use Rattle.pcb_read.specs.BoardText.{SaysAfter, Says}
+use Rattle.pcb_read.specs.Spans.{with_span, SaysSpans, GivesBoardWith}
 
 pub part_says : (reading : Reading) (tree : Tree) (sort : Sort) (new : PlainBoard) (answer : Result (Unit {0}) BoardError) → sort_of tree ≡ Some sort
     → LeavesSome answer new (SaysWith reading.board tree sort) → LeavesSome answer (record { board = new; layered = reading.layered }) (SaysPart reading tree)
@@ -25,9 +28,23 @@ says_tree : (text : List ℕ) (tree : Tree) (answer : Result PlainBoard BoardErr
 says_tree text tree answer none spelled h = subst (λ (refused : Option TextError). SaysAfter text refused answer) (sym none) (tree, spelled, h)
 
 -- what the tree of a text gives is all that the text says
-pub only_board : (text : List ℕ) (tree : Tree) (result answer : Result PlainBoard BoardError) → ((a b : Result PlainBoard BoardError) → Says text a → Says text b → a ≡ b)
-    → refusal_of_one text ≡ None → Spells text tree → GivesBoard result (SaysBoard tree) → Says text answer
-    → MatchResult result (λ board. answer ≡ Ok board) (λ e. (e ≡ OutOfMemory) ⊎ (answer ≡ Err e))
-only_board text tree (Ok board) answer one none spelled given h = one answer (Ok board) h (says_tree text tree (Ok board) none spelled given)
+pub only_board : {A : Type 0} → (text : List ℕ) (tree : Tree) (result : Result (PlainBoard × A) BoardError) (answer : Result PlainBoard BoardError) → ((a b : Result PlainBoard BoardError) → Says text a → Says text b → a ≡ b)
+    → refusal_of_one text ≡ None → Spells text tree → GivesBoardWith result (SaysBoard tree) → Says text answer
+    → MatchResult result (λ read. answer ≡ Ok read.0) (λ e. (e ≡ OutOfMemory) ⊎ (answer ≡ Err e))
+only_board text tree (Ok read) answer one none spelled given h = one answer (Ok read.0) h (says_tree text tree (Ok read.0) none spelled given)
 only_board text tree (Err e) answer one none spelled (inl gone) h = inl gone
 only_board text tree (Err e) answer one none spelled (inr given) h = inr (one answer (Err e) h (says_tree text tree (Err e) none spelled given))
+
+-- ---- spans of the parts that give items
+
+pub span_noted : (before after : Reading) (tree : Tree) (old others : List Span) → before.board.next_unit == after.board.next_unit ≡ false → old ++ with_span before after tree others ≡ (old ++ span tree ∷ []) ++ others
+span_noted before after tree old others h = rw h (sym (append_assoc old (span tree ∷ []) others))
+
+pub span_left : (before after : Reading) (tree : Tree) (old others : List Span) → before.board.next_unit == after.board.next_unit ≡ true → old ++ with_span before after tree others ≡ old ++ others
+span_left before after tree old others h = rw h refl
+
+-- the spans so far and those of what is left are all
+pub more_spans : (start now next : Reading) (all : List Tree) (t : Tree) (ts : List Tree) (old new : List Span) → ((others : List Span) → SaysSpans now (t ∷ ts) others → SaysSpans start all (old ++ others))
+    → SaysPart now t (Ok next) → ((others : List Span) → old ++ with_span now next t others ≡ new ++ others) → (others : List Span) → SaysSpans next ts others → SaysSpans start all (new ++ others)
+more_spans start now next all t ts old new h part same others says =
+    subst (λ (spans : List Span). SaysSpans start all spans) (same others) (h (with_span now next t others) (next, others, part, says, refl))

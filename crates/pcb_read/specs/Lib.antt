@@ -6,3 +6,6 @@ pub mod ItemsOf
 pub mod BoardOf
 pub mod BoardText
 pub mod ItemText
+pub mod Spans
+pub mod Near
+pub mod Short

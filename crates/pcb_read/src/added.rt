@@ -1,16 +1,15 @@
 //! Lists that are added to a board, read from their own text.
 
-ghost use Rattle.std.specs.Prelude.{◌≡◌, ◌≤◌, ◌⊎◌, ◌+◌, ℕ, List, length, MatchResult, IfOk, Result, Ok, Err, Some};
+ghost use Rattle.std.specs.Prelude.{◌≡◌, ◌≤◌, ◌⊎◌, List, length, MatchResult, IfOk, IfErr, Result, Ok, Err};
 ghost use Rattle.board_items.specs.declared.errors.BoardError.{BoardError};
 ghost use Rattle.board_items.specs.declared.item.Item.{Item};
-ghost use Rattle.board_items.specs.Reasons.{board_place_of};
-ghost use Rattle.sexpr_read.specs.Reasons.{place_of};
 ghost use Rattle.sexpr_read.specs.Tree.{parts};
 ghost use Rattle.sexpr_read.specs.Views.{tree_of, trees_left};
 ghost use Rattle.part_read.specs.Elements.{place};
 ghost use Rattle.part_read.specs.Nodes.{tree_in};
 ghost use Rattle.part_read.specs.Ready.{AreReady};
 ghost use Rattle.pcb_read.specs.Answers.{GivesSome};
+ghost use Rattle.pcb_read.specs.Near.{IsNear, IsNearText};
 ghost use Rattle.pcb_read.specs.ItemText.{further, text_further, alone, SaysList, SaysAlone, SaysText, SaysItem};
 
 use crate::laws::one_list;
@@ -18,6 +17,7 @@ use crate::lists::read_list;
 use crate::sorts::sort_of;
 use board_items::{Board, BoardError, Item};
 use part_read::place;
+use sexpr_read::laws::spans_in_order;
 use sexpr_read::{Node, TextError, parse_all};
 use std::alloc::Global;
 
@@ -75,12 +75,15 @@ fn read_alone(
     read_form(alloc, board, unit, form)
 }
 
-/// What a text says that stands alone.
+/// What a text says that stands alone. A refusal has its place in the text.
+#[tactic(auto, using(crate::proofs::NearLists::near_given, crate::proofs::TextPlaces::near_text))]
 fn read_text(alloc: Global, text: &[u8], board: &Board, unit: u32) -> Result<Vec<Item>, BoardError>
     requires { length text.now ≤ 33_554_432 }
     ensures items { GivesSome result (SaysText board.now unit text.now) }
     ensures ready { IfOk result (λ items. AreReady board.now unit items.items) }
+    ensures near { IfErr result IsNear }
 {
+    spans_in_order();
     match parse_all(alloc, text) {
         Ok(doc) => read_alone(alloc, board, unit, doc.root()),
         Err(TextError::OutOfMemory) => Err(BoardError::OutOfMemory),
@@ -90,54 +93,45 @@ fn read_text(alloc: Global, text: &[u8], board: &Board, unit: u32) -> Result<Vec
 
 // ---- places in a longer text
 
-/// The same refusal of a text, at this place.
-fn text_at(error: TextError, at: u32) -> TextError
-    ensures { (old by : ℕ) → place_of error ≡ Some old → at ≡ old + by → result ≡ text_further by error }
+/// The same refusal of a text, so much further on.
+fn text_further(error: TextError, by: u32) -> TextError
+    requires by { by ≤ 33554432 }
+    requires near { IsNearText error }
+    ensures { result ≡ text_further by error }
 {
     match error {
-        TextError::NotUtf8 { .. } => TextError::NotUtf8 { at },
-        TextError::CloseWithoutOpen { .. } => TextError::CloseWithoutOpen { at },
-        TextError::EndInside { .. } => TextError::EndInside { at },
-        TextError::TooDeep { .. } => TextError::TooDeep { at },
-        TextError::ExtraText { .. } => TextError::ExtraText { at },
+        TextError::NotUtf8 { at } => TextError::NotUtf8 { at: at + by },
+        TextError::CloseWithoutOpen { at } => TextError::CloseWithoutOpen { at: at + by },
+        TextError::EndInside { at } => TextError::EndInside { at: at + by },
+        TextError::TooDeep { at } => TextError::TooDeep { at: at + by },
+        TextError::ExtraText { at } => TextError::ExtraText { at: at + by },
         TextError::EmptyText => TextError::EmptyText,
         TextError::OutOfMemory => TextError::OutOfMemory,
     }
 }
 
-/// The same refusal, at this place.
-fn error_at(error: BoardError, at: u32) -> BoardError
-    ensures { (old by : ℕ) → board_place_of error ≡ Some old → at ≡ old + by → result ≡ further by error }
+/// The same refusal, so much further on. Its place stands in the text, so the sum has room.
+fn further(error: BoardError, by: u32) -> BoardError
+    requires by { by ≤ 33554432 }
+    requires near { IsNear error }
+    ensures { result ≡ further by error }
 {
     match error {
-        BoardError::Text(e) => BoardError::Text(text_at(e, at)),
-        BoardError::NotABoard { .. } => BoardError::NotABoard { at },
-        BoardError::Version { .. } => BoardError::Version { at },
-        BoardError::Missing { .. } => BoardError::Missing { at },
-        BoardError::BadNumber { .. } => BoardError::BadNumber { at },
-        BoardError::OutOfBoard { .. } => BoardError::OutOfBoard { at },
-        BoardError::Arc { .. } => BoardError::Arc { at },
-        BoardError::Turned { .. } => BoardError::Turned { at },
-        BoardError::PadShape { .. } => BoardError::PadShape { at },
-        BoardError::Ring { .. } => BoardError::Ring { at },
-        BoardError::UnknownNet { .. } => BoardError::UnknownNet { at },
-        BoardError::UnknownLayer { .. } => BoardError::UnknownLayer { at },
-        BoardError::ThickFill { .. } => BoardError::ThickFill { at },
-        BoardError::TooMany { .. } => BoardError::TooMany { at },
+        BoardError::Text(error) => BoardError::Text(text_further(error, by)),
+        BoardError::NotABoard { at } => BoardError::NotABoard { at: at + by },
+        BoardError::Version { at } => BoardError::Version { at: at + by },
+        BoardError::Missing { at } => BoardError::Missing { at: at + by },
+        BoardError::BadNumber { at } => BoardError::BadNumber { at: at + by },
+        BoardError::OutOfBoard { at } => BoardError::OutOfBoard { at: at + by },
+        BoardError::Arc { at } => BoardError::Arc { at: at + by },
+        BoardError::Turned { at } => BoardError::Turned { at: at + by },
+        BoardError::PadShape { at } => BoardError::PadShape { at: at + by },
+        BoardError::Ring { at } => BoardError::Ring { at: at + by },
+        BoardError::UnknownNet { at } => BoardError::UnknownNet { at: at + by },
+        BoardError::UnknownLayer { at } => BoardError::UnknownLayer { at: at + by },
+        BoardError::ThickFill { at } => BoardError::ThickFill { at: at + by },
+        BoardError::TooMany { at } => BoardError::TooMany { at: at + by },
         BoardError::OutOfMemory => BoardError::OutOfMemory,
-    }
-}
-
-/// The same refusal, so much further on. No text is so long that the sum has no room.
-fn further(error: BoardError, by: u32) -> BoardError
-    ensures { (result ≡ BoardError.OutOfMemory) ⊎ (result ≡ further by error) }
-{
-    let Some(old) = error.place() else {
-        return BoardError::OutOfMemory;
-    };
-    match old.checked_add(by) {
-        Some(at) => error_at(error, at),
-        None => BoardError::OutOfMemory,
     }
 }
 

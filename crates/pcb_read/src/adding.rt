@@ -26,8 +26,9 @@ fn add_item(board: &mut Board, item: Item) -> Result<(), BoardError>
     }
 }
 
-/// Appends the items of a unit in order.
-pub(crate) fn add_items(board: &mut Board, unit: u32, items: Vec<Item>) -> Result<(), BoardError>
+/// Appends the items of a unit in order. They are items that the board takes, one after another, as the readers give them.
+/// Want of memory is the one refusal; the board may then have some of them.
+pub fn add_items(board: &mut Board, unit: u32, items: Vec<Item>) -> Result<(), BoardError>
     requires { AreReady board.old unit items.items }
     ensures added { OnOk result (board.new ≡ with_items board.old items.items) }
     ensures copper { OnOk result (board.new.copper ≡ board.old.copper) }

@@ -13,11 +13,11 @@ use std::alloc::Global;
 
 /// What an item has besides its place: its name, its unit, its net, and the layers of its copper.
 #[derive(Drop)]
-pub(crate) struct Origin {
-    pub(crate) name: Name,
-    pub(crate) unit: u32,
-    pub(crate) net: u32,
-    pub(crate) layers: LayerSet,
+pub struct Origin {
+    pub name: Name,
+    pub unit: u32,
+    pub net: u32,
+    pub layers: LayerSet,
 }
 
 /// The track along a strip, unless the strip does not lie on a board.
@@ -44,12 +44,12 @@ pub(crate) fn track_along(alloc: Global, strip: Strip, origin: Origin) -> Option
 
 /// What a via is by its numbers and words, in nanometres. It may lie off the board.
 #[derive(Clone, Copy)]
-pub(crate) struct ViaForm {
-    pub(crate) at: Spot,
-    pub(crate) size: Nm,
-    pub(crate) drill: Option<Nm>,
-    pub(crate) micro: bool,
-    pub(crate) blind: bool,
+pub struct ViaForm {
+    pub at: Spot,
+    pub size: Nm,
+    pub drill: Option<Nm>,
+    pub micro: bool,
+    pub blind: bool,
 }
 
 /// A round hole through these layers, where the via has a drill; None where the hole does not lie on a board.

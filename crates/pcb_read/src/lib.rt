@@ -4,10 +4,11 @@
 //! whole nanometres on the board, what is finer cut off.
 #![tactic(auto)]
 
-ghost use Rattle.std.specs.Prelude.{◌≡◌, ◌≤◌, ◌⊎◌, ℕ, List, length, MatchResult, Result, Ok, Err};
+ghost use Rattle.std.specs.Prelude.{◌≡◌, ◌≤◌, ◌⊎◌, ℕ, List, length, MatchResult, IfOk, Result, Ok, Err};
 ghost use Rattle.board_items.specs.declared.errors.BoardError.{BoardError};
 ghost use Rattle.board_items.specs.Boards.{PlainBoard};
 ghost use Rattle.pcb_read.specs.BoardText.{Says};
+ghost use Rattle.pcb_read.specs.Spans.{HasSpans};
 
 mod added;
 mod adding;
@@ -17,13 +18,16 @@ mod lists;
 mod nets;
 mod root;
 mod sorts;
+mod spans;
 mod tracks;
 
 use crate::laws::one_reading;
 use crate::root::board_of;
 pub use added::read_item;
+pub use adding::add_items;
 use board_items::{Board, BoardError};
 use sexpr_read::{TextError, parse_one};
+pub use spans::Spans;
 use std::alloc::Global;
 
 /// The board of a text of at most 33,554,432 bytes, or the first reason in the text why there is none, with its place.
@@ -35,6 +39,20 @@ pub fn read_board(alloc: Global, text: &[u8]) -> Result<Board, BoardError>
     requires { length text.now ≤ 33_554_432 }
     ensures says { MatchResult result (λ board. Says text.now (Ok board)) (λ e. (e ≡ BoardError.OutOfMemory) ⊎ Says text.now (Err e)) }
     ensures only { (answer : Result PlainBoard BoardError) → Says text.now answer → MatchResult result (λ board. answer ≡ Ok board) (λ e. (e ≡ BoardError.OutOfMemory) ⊎ (answer ≡ Err e)) }
+{
+    match read_with_spans(alloc, text) {
+        Ok((board, _spans)) => Ok(board),
+        Err(error) => Err(error),
+    }
+}
+
+/// The same, and where its units stand in the text: entry k is the span of the list whose items have the unit number k, and
+/// there is one entry for each unit. Lists that give no item have none.
+pub fn read_with_spans(alloc: Global, text: &[u8]) -> Result<(Board, Spans), BoardError>
+    requires { length text.now ≤ 33_554_432 }
+    ensures says { MatchResult result (λ read. Says text.now (Ok read.0)) (λ e. (e ≡ BoardError.OutOfMemory) ⊎ Says text.now (Err e)) }
+    ensures only { (answer : Result PlainBoard BoardError) → Says text.now answer → MatchResult result (λ read. answer ≡ Ok read.0) (λ e. (e ≡ BoardError.OutOfMemory) ⊎ (answer ≡ Err e)) }
+    ensures spans { IfOk result (λ read. HasSpans text.now read.1) }
 {
     one_reading();
     match parse_one(alloc, text) {

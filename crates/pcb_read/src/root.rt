@@ -1,20 +1,23 @@
 //! The root of a board's text, part by part.
 
-ghost use Rattle.std.specs.Prelude.{◌≡◌, option_map, find, false, OnOk};
+ghost use Rattle.std.specs.Prelude.{◌≡◌, ◌++◌, ◌∷◌, [], List, option_map, find, false, OnOk, IfOk};
 ghost use Rattle.sexpr_read.specs.Tree.{Tree, parts, is_list};
 ghost use Rattle.sexpr_read.specs.Views.{tree_of, trees_left};
 ghost use Rattle.part_read.specs.Nodes.{Leaves};
-ghost use Rattle.pcb_read.specs.Answers.{GivesBoard, LeavesSome};
+ghost use Rattle.sexpr_read.specs.declared.place.Span.{Span};
+ghost use Rattle.pcb_read.specs.Answers.{LeavesSome};
 ghost use Rattle.pcb_read.specs.BoardOf.{Reading, with_layers, with_other, SaysWith, SaysPart, SaysParts, version_in, header_in, unread, SaysBoard};
+ghost use Rattle.pcb_read.specs.Spans.{with_span, SaysSpans, AreSpans, GivesBoardWith};
 
 use crate::adding::add_items;
 use crate::lists::read_list;
 use crate::nets::read_net;
 use crate::sorts::{Sort, sort_of};
+use crate::spans::Spans;
 use board_items::{Board, BoardError, LayerSet};
 use part_read::{first_atom, has_head, layers_listed, place};
-use sexpr_read::Node;
-use std::alloc::Global;
+use sexpr_read::{Node, Span};
+use std::alloc::{AllocError, Global};
 
 /// The first list in a list.
 fn first_list<'d, 't>(node: Node<'d, 't>) -> Option<Node<'d, 't>>
@@ -137,34 +140,65 @@ fn check_header(root: Node<'_, '_>) -> Result<(), BoardError>
     check_version(root)
 }
 
-/// Reads all parts of the root.
+fn push_span(spans: &mut Vec<Span>, span: Span) -> Result<(), AllocError>
+    ensures { OnOk result (spans.new.items ≡ spans.old.items ++ span ∷ []) }
+{
+    spans.push(span)?;
+    Ok(())
+}
+
+/// Reads one part of the root, and notes its span where it gave items.
+fn read_spanned(
+    alloc: Global,
+    board: &mut Board,
+    layered: &mut bool,
+    node: Node<'_, '_>,
+    spans: &mut Vec<Span>,
+) -> Result<(), BoardError>
+    requires { layered.old ≡ false → board.old.copper.bits ≡ 0 }
+    ensures read { LeavesSome result (record { board = board.new; layered = layered.new }) (SaysPart (record { board = board.old; layered = layered.old }) (tree_of node.entry)) }
+    ensures unlisted { OnOk result (layered.new ≡ false → board.new.copper.bits ≡ 0) }
+    ensures spans { OnOk result ((others : List Span) → spans.old.items ++ with_span (record { board = board.old; layered = layered.old }) (record { board = board.new; layered = layered.new }) (tree_of node.entry) others ≡ spans.new.items ++ others) }
+{
+    let unit = board.next_unit();
+    read_part(alloc, board, layered, node)?;
+    if board.next_unit() != unit {
+        push_span(spans, node.span())?;
+    }
+    Ok(())
+}
+
+/// Reads all parts of the root, and gives the spans of those that gave items.
 fn read_parts(
     alloc: Global,
     board: &mut Board,
     layered: &mut bool,
     root: Node<'_, '_>,
-) -> Result<(), BoardError>
+) -> Result<Vec<Span>, BoardError>
     requires { layered.old ≡ false → board.old.copper.bits ≡ 0 }
     ensures read { LeavesSome result (record { board = board.new; layered = layered.new }) (SaysParts (record { board = board.old; layered = layered.old }) (parts (tree_of root.entry))) }
+    ensures spans { IfOk result (λ spans. SaysSpans (record { board = board.old; layered = layered.old }) (parts (tree_of root.entry)) spans.items) }
 {
+    let mut spans = Vec::new(alloc);
     for part in root.children() {
-        read_part(alloc, board, layered, part)?;
+        read_spanned(alloc, board, layered, part, &mut spans)?;
     }
-    Ok(())
+    Ok(spans)
 }
 
-/// The board of the root, or the first reason in the text why there is none.
-pub(crate) fn board_of(alloc: Global, root: Node<'_, '_>) -> Result<Board, BoardError>
-    ensures { GivesBoard result (SaysBoard (tree_of root.entry)) }
+/// The board of the root and the spans of its units, or the first reason in the text why there is no board.
+pub(crate) fn board_of(alloc: Global, root: Node<'_, '_>) -> Result<(Board, Spans), BoardError>
+    ensures says { GivesBoardWith result (SaysBoard (tree_of root.entry)) }
+    ensures spans { IfOk result (λ read. AreSpans (tree_of root.entry) read.1) }
 {
     check_header(root)?;
     let mut board = Board::new(alloc, LayerSet { bits: 0 })?;
     // Most parts are items: room for all of them is made once.
     board.reserve(count_parts(root))?;
     let mut layered = false;
-    read_parts(alloc, &mut board, &mut layered, root)?;
+    let spans = read_parts(alloc, &mut board, &mut layered, root)?;
     if layered {
-        Ok(board)
+        Ok((board, Spans::of(spans)))
     } else {
         Err(BoardError::Missing { at: place(root) })
     }

@@ -1,4 +1,4 @@
-use Rattle.std.proofs.Common.{refl, Ok}
+use Rattle.std.proofs.Common.{refl, inr, Ok}
 use Rattle.pcb_read.proofs.OneReading.{only_refused}
 use Rattle.pcb_read.proofs.added.read_item.Goals as goal
 
@@ -9,4 +9,4 @@ returns-in-Ok-clause-only c answer h =
 pub returns-in-Err-clause-only : goal.returns-in-Err-clause-only
 returns-in-Err-clause-only c answer h =
     only_refused c.args.board.now c.args.unit c.args.text.now c.args.at c.in-Err.error c.further.result answer
-    (c.one_list.ensures c.args.board.now c.args.unit c.args.text.now c.args.at) c.further.ensures c.in-Err.ensures.items h
+    (c.one_list.ensures c.args.board.now c.args.unit c.args.text.now c.args.at) (inr c.further.ensures) c.in-Err.ensures.items h
