@@ -2,3 +2,4 @@ pub mod LayerNames
 pub mod Later
 pub mod OneFacts
 pub mod OnePick
+pub mod Slots

@@ -4,4 +4,5 @@ pub mod Picks
 pub mod Deciding
 pub mod FactsOf
 pub mod Reach
+pub mod ById
 pub mod AllFacts

@@ -2,11 +2,14 @@
 //!
 //! The facts of items are what rules may ask of them. [`holds`] says whether a condition holds of them, and [`pick`] which
 //! value a kind of check has between two items or of one: a value of their own, that of a rule, or the default of the board.
-//! The facts of an item of a board, and how far checks reach, are defined here too. No call takes memory.
+//! The facts of an item of a board, and how far checks reach, are defined here too. No call takes memory but
+//! those that copy facts or put them by id.
 #![tactic(auto)]
 
+mod copying;
 mod deciding;
 mod facts;
+mod facts_by_id;
 mod kinds;
 pub mod laws;
 mod lengths;
@@ -18,6 +21,7 @@ mod picking;
 mod values;
 
 pub use facts::Facts;
+pub use facts_by_id::FactsById;
 pub use kinds::{ItemKind, Source};
 pub use meaning::holds;
 pub use names::Names;
@@ -29,5 +33,6 @@ fn crosses<T: Send + Sync>() {}
 
 fn all_cross() {
     crosses::<Facts>();
+    crosses::<FactsById>();
     crosses::<Picked>();
 }

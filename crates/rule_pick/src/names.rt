@@ -1,8 +1,9 @@
 //! Lists of names.
 
-ghost use Rattle.std.specs.Prelude.{◌≡◌};
+ghost use Rattle.std.specs.Prelude.{◌≡◌, IfOk};
 
 use drc_io::Name;
+use std::alloc::AllocError;
 use std::marker::Model;
 
 /// A list of names. Contracts see it as the list of them.
@@ -32,5 +33,16 @@ impl Names {
         ensures { result.now ≡ self.now }
     {
         &self.list
+    }
+
+    /// Equal names. An empty list takes no memory.
+    pub fn copy(&self) -> Result<Names, AllocError>
+        ensures { IfOk result (λ copy. copy ≡ self.now) }
+    {
+        let mut list = Vec::with_capacity(*self.list.allocator(), self.list.len())?;
+        for name in self.list.iter() {
+            list.push(name.copy()?)?;
+        }
+        Ok(Names { list })
     }
 }

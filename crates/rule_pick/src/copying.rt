@@ -1,0 +1,31 @@
+//! Copies of facts.
+
+ghost use Rattle.std.specs.Prelude.{◌≡◌, IfOk};
+
+use crate::facts::Facts;
+use std::alloc::AllocError;
+
+impl Facts {
+    /// Equal facts. Names of up to 30 bytes take no memory.
+    pub fn copy(&self) -> Result<Facts, AllocError>
+        ensures { IfOk result (λ copy. copy ≡ self.now) }
+    {
+        Ok(Facts {
+            kind: self.kind,
+            class: self.class.copy()?,
+            net_name: self.net_name.copy()?,
+            width: self.width,
+            diameter: self.diameter,
+            hole: self.hole,
+            layers: self.layers,
+            on_edge: self.on_edge,
+            plated: self.plated,
+            micro: self.micro,
+            blind: self.blind,
+            local: self.local,
+            class_clearance: self.class_clearance,
+            areas: self.areas.copy()?,
+            courtyards: self.courtyards.copy()?,
+        })
+    }
+}
