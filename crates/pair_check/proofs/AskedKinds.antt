@@ -1,26 +1,32 @@
 -- Kinds of which nothing is asked.
-use Rattle.std.proofs.Common.{◌≡◌, inl, inr, refl, sym, ap, subst, ◌∙◌, ℕ, ◌==◌, ℤ, pos, Bool, true, false, not, cond, ◌||◌, List, [], ◌∷◌, map, All, Option, None, Some, find, arith}
+use Rattle.std.proofs.Common.{◌≡◌, inl, inr, refl, sym, ap, subst, ◌∙◌, ℕ, ◌==◌, ℤ, pos, Bool, true, false, not, cond, ◌&&◌, ◌||◌, IsTrue, is_some, List, [], ◌∷◌, map, All, Option, None, Some, find, arith}
 use Rattle.std.specs.Bool.{if◌then◌else◌}
 use Rattle.std.specs.Int.{int_max}
 use Rattle.std.specs.Ordering.{int_eq}
 use Rattle.std.proofs.lemmas.Int.{ints}
 use Rattle.std.specs.List.{list_any}
 use Rattle.std.proofs.lemmas.List.Elements.{All-nil, All-cons}
+use Rattle.board_items.specs.declared.layers.LayerSet.{LayerSet}
+use Rattle.board_items.specs.declared.item.What.{What}
+use Rattle.board_items.specs.declared.item.What.TheVariants as what
+use Rattle.board_items.specs.declared.item.Item.{Item}
 use Rattle.net_class.specs.Classes.{PlainMins}
 use Rattle.cond_lang.specs.declared.kind.Kind.{Kind}
-use Rattle.cond_lang.specs.declared.kind.Kind.TheVariants.{HoleClearance, HoleToHole, EdgeClearance, PhysicalClearance, PhysicalHoleClearance}
+use Rattle.cond_lang.specs.declared.kind.Kind.TheVariants.{HoleClearance, HoleToHole, EdgeClearance, Disallow, PhysicalClearance, PhysicalHoleClearance, Assertion}
+use Rattle.cond_lang.specs.declared.rule.Disallow.{Disallow as Bans}
 use Rattle.cond_lang.specs.declared.constraint.Constraint.{Constraint}
 use Rattle.cond_lang.specs.declared.constraints.Rule.{Rule}
 use Rattle.cond_lang.specs.Kinds.{kind_number}
 use Rattle.cond_lang.specs.Rules.{PlainConstraint, PlainRule, plain_constraint, plain_rule}
 use Rattle.rule_pick.specs.declared.facts.Facts.{Facts}
-use Rattle.rule_pick.specs.Deciding.{minimum, is_clearance, greater_if, local_if, class_clearance_if, local_of, asked_by, IsPick}
+use Rattle.rule_pick.specs.Deciding.{minimum, is_clearance, greater_if, local_if, class_clearance_if, local_of, asked_by, no_bans, IsPick}
 use Rattle.rule_pick.specs.Picks.{Pick}
 use Rattle.pair_check.specs.declared.layer.RowLayer.{RowLayer}
 use Rattle.pair_check.specs.Layers.{asked_layer}
 use Rattle.pair_check.specs.Asked.{asks, some_asks, has_default, AsksNothing}
 use Rattle.pair_check.specs.Pairs.{Deciders, Pair, IsNearAt}
-use Rattle.pair_check.specs.Stages.{is_courtyard}
+use Rattle.pair_check.specs.Singles.{bans_what, bans_item, Forbids, IsForbiddenAt}
+use Rattle.pair_check.specs.Stages.{is_courtyard, is_ban}
 use Rattle.pair_check.proofs.NearLayers.{not_near, kept_none}
 use Rattle.pair_check.proofs.NearPicks.{at_has}
 
@@ -97,3 +103,51 @@ asks_nothing d rules kind same default asked = record { none = far }
     far pair layer n =
         let zero = picks_nothing d.rules d.mins kind (clear_of d.mins kind default) (least_of d.mins kind default) none pair.facts_a (Some pair.facts_b) (asked_layer layer) n.pick n.picked in
         not_near kind layer pair.a pair.b n.pick.least (kept_none kind layer pair.a pair.b n.pick.least zero) (λ e m. absurd (yard_of d.mins kind default e)) n.near
+
+-- ---- kinds that forbid
+
+and_false : (b : Bool) → (b && false) ≡ false
+and_false true = refl
+and_false false = refl
+
+or_false : (b c : Bool) → b ≡ false → c ≡ false → (b || c) ≡ false
+or_false false c e f = f
+or_false true c e f = absurd (cc)
+
+no_ban_of : (w : What) → bans_what no_bans w ≡ false
+no_ban_of (what.Via size drill micro blind) = or_false (micro && false) (blind && false) (and_false micro) (and_false blind)
+no_ban_of (what.Track width) = refl
+no_ban_of (what.Pad number reference) = refl
+no_ban_of what.Graphic = refl
+no_ban_of what.Fill = refl
+no_ban_of (what.Body reference front back on_back) = refl
+no_ban_of _ = refl
+
+no_ban_item : (item : Item) → bans_item no_bans item ≡ false
+no_ban_item item = or_false (bans_what no_bans item.what) (is_some item.hole && false) (no_ban_of item.what) (and_false (is_some item.hole))
+
+allows : (kind : Kind) (pick : Pick) (item : Item) → pick.bans ≡ no_bans → pick.holds ≡ true → ¬ (Forbids kind pick item)
+allows Disallow pick item e f h = let none = ap (λ (b : Bans). bans_item b item) e ∙ no_ban_item item in cc
+allows Assertion pick item e f h = cc
+allows _ pick item e f h = h
+
+ban_unclear : (kind : Kind) → IsTrue (is_ban kind) → is_clearance kind ≡ false
+ban_unclear Disallow m = refl
+ban_unclear Assertion m = refl
+ban_unclear _ m = absurd (cc)
+
+-- without a rule that asks for it a kind forbids nothing
+pub forbids_nothing : (rules : List Rule) (mins : PlainMins) (kind : Kind) → IsTrue (is_ban kind) → some_asks kind rules ≡ false → (item : Item) (facts : Facts) (layer : RowLayer) (copper : LayerSet)
+    → ¬ (IsForbiddenAt (record { copper = copper; mins = mins; rules = map plain_rule rules }) kind item facts layer)
+forbids_nothing rules mins kind m asked item facts layer copper is = by is.picked
+  where
+    none : All (λ (r : PlainRule). asked_by kind r ≡ None) (map plain_rule rules)
+    none = none_asks kind rules asked
+
+    no_local : local_of kind facts None ≡ None
+    no_local = ap (λ (t : Bool). if t then greater_if facts.local (local_if None) else None) (ban_unclear kind m)
+
+    by : IsPick (map plain_rule rules) mins kind facts None (asked_layer layer) is.pick → ⊥
+    by (inl local) = some_none (local_of kind facts None) local.nm no_local local.local
+    by (inr (inl rule)) = some_none (asked_by kind rule.rule) rule.constraint (at_has (λ (r : PlainRule). asked_by kind r ≡ None) (map plain_rule rules) rule.place rule.rule none rule.deciding.stands) rule.asked
+    by (inr (inr default)) = allows kind is.pick item (ap (λ (p : Pick). p.bans) default.value) (ap (λ (p : Pick). p.holds) default.value) is.forbids

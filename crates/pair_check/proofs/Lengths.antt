@@ -1,12 +1,12 @@
 -- Lengths that a single item has.
-use Rattle.std.proofs.Common.{◌≡◌, refl, sym, ap, ◌∙◌, ℤ, pos, negsuc, neg_ℤ, ◌-ℤ◌, ◌≤ℤ◌, Bool, Option, Some, FitsSigned, to_z, of_z, subst, arith, rules}
+use Rattle.std.proofs.Common.{◌≡◌, sym, ap, ℤ, pos, negsuc, neg_ℤ, ◌-ℤ◌, ◌≤ℤ◌, Bool, Option, Some, FitsSigned, subst, arith, rules}
 use Rattle.std.proofs.lemmas.Int.{ints}
 use mir.Syntax.{w64}
 use Rattle.drc_io.specs.Lengths.{IsLength, IsLengthIfSome}
 use Rattle.board_items.specs.declared.item.Hole.{Hole}
 use Rattle.board_items.specs.declared.item.What.{What}
 use Rattle.board_items.specs.declared.item.What.TheVariants.{Via}
-use Rattle.int_algebra.proofs.Scalars.{passed, passed_length}
+use Rattle.int_algebra.proofs.Scalars.{passed}
 use Rattle.pair_check.specs.PlainRow.{IsWithin}
 use Rattle.pair_check.specs.Singles.{ring_of}
 

@@ -10,3 +10,4 @@ pub mod FacedLists
 pub mod NearPicks
 pub mod Unfaced
 pub mod AskedKinds
+pub mod SameRow

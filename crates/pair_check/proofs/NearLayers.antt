@@ -1,5 +1,5 @@
 -- What is too near on a layer, and on which layers anything is.
-use Rattle.std.proofs.Common.{◌≡◌, ◌⊎◌, inl, inr, refl, sym, subst, ◌∙◌, ℕ, ◌<◌, ℤ, pos, ◌≤ℤ◌, ◌<ℤ◌, Bool, true, false, IsTrue, List, [], All, arith}
+use Rattle.std.proofs.Common.{◌≡◌, ◌⊎◌, inl, inr, refl, sym, subst, ◌∙◌, ℤ, pos, ◌≤ℤ◌, ◌<ℤ◌, true, List, [], All, arith}
 use Rattle.std.specs.List.{Any}
 use Rattle.std.proofs.lemmas.Int.{ints}
 use Rattle.drc_io.specs.Lengths.{IsLength}
@@ -10,8 +10,7 @@ use Rattle.board_items.specs.declared.layers.LayerSet.{LayerSet}
 use Rattle.board_items.specs.declared.item.Item.{Item}
 use Rattle.board_items.specs.Copper.{SomeMeet, Keeps}
 use Rattle.cond_lang.specs.declared.kind.Kind.{Kind}
-use Rattle.cond_lang.specs.declared.kind.Kind.TheVariants.{Short, Clearance, HoleClearance, HoleToHole, EdgeClearance, CourtyardClearance, Keepout, TrackWidth, ViaDiameter, HoleSize, AnnularWidth, Disallow, PhysicalClearance, PhysicalHoleClearance, Assertion}
-use Rattle.rule_pick.specs.Reach.{is_between_two}
+use Rattle.cond_lang.specs.declared.kind.Kind.TheVariants.{Short, Clearance, HoleClearance, HoleToHole, EdgeClearance, CourtyardClearance, Keepout, PhysicalClearance, PhysicalHoleClearance}
 use Rattle.pair_check.specs.declared.layer.RowLayer.{RowLayer}
 use Rattle.pair_check.specs.declared.layer.RowLayer.TheVariants.{Copper, FrontYard, BackYard, Nowhere}
 use Rattle.pair_check.specs.PlainRow.{IsLayerOf}
@@ -22,7 +21,7 @@ use Rattle.pair_check.specs.Stages.{is_courtyard}
 -- ---- layers
 
 -- something faces something only on the layers that the kind can have
-faces_on : (copper : LayerSet) (kind : Kind) (layer : RowLayer) (a b : Item) → IsTried copper layer → IsLayerOf kind layer ⊎ (facings kind layer a b ≡ [])
+pub faces_on : (copper : LayerSet) (kind : Kind) (layer : RowLayer) (a b : Item) → IsTried copper layer → IsLayerOf kind layer ⊎ (facings kind layer a b ≡ [])
 unfolding facings
 faces_on copper Short (Copper n) a b is = inl is.below
 faces_on copper Clearance (Copper n) a b is = inl is.below

@@ -1,5 +1,5 @@
 -- What was picked on a layer.
-use Rattle.std.proofs.Common.{◌≡◌, sym, ap, subst, Option, Some, List, ℕ, Bool, false, true, IsTrue, ◌↔◌}
+use Rattle.std.proofs.Common.{◌≡◌, subst, Option, List, ℕ, Bool, false, true, IsTrue, ◌↔◌}
 use Rattle.net_class.specs.Classes.{PlainMins}
 use Rattle.cond_lang.specs.declared.kind.Kind.{Kind}
 use Rattle.cond_lang.specs.declared.rule.Severity.{Severity}

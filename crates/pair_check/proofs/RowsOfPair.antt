@@ -1,7 +1,5 @@
 -- The rows of a pair, kind by kind.
-use Rattle.std.proofs.Common.{◌≡◌, ◌⊎◌, inl, inr, refl, sym, ap, subst, ◌∙◌, ℕ, ◌+◌, ◌<◌, ◌≤◌, ℤ, pos, false, IsTrue, Option, Some, List, [], ◌∷◌, ◌++◌, arith}
-use Rattle.std.proofs.lemmas.Int.{ints}
-use Rattle.drc_io.specs.Lengths.{IsLength}
+use Rattle.std.proofs.Common.{◌≡◌, Bool, ◌⊎◌, inl, inr, refl, sym, subst, ◌∙◌, ℕ, ◌+◌, ◌<◌, pos, false, IsTrue, Option, Some, List, [], ◌∷◌, ◌++◌, arith}
 use Rattle.board_items.specs.declared.item.Item.{Item}
 use Rattle.board_items.specs.Boards.{item_at}
 use Rattle.cond_lang.specs.declared.kind.Kind.{Kind}
@@ -14,10 +12,12 @@ use Rattle.rule_pick.specs.FactsOf.{AreFactsOf}
 use Rattle.rule_pick.specs.Reach.{is_between_two}
 use Rattle.rule_pick.proofs.OneFacts.{one_facts}
 use Rattle.pair_check.specs.declared.layer.RowLayer.{RowLayer}
-use Rattle.pair_check.specs.PlainRow.{PlainRow, IsOfTwo, AreInOrder, IsWithin}
+use Rattle.pair_check.specs.PlainRow.{PlainRow, IsOfTwo, AreInOrder}
 use Rattle.pair_check.specs.Layers.{IsFirst}
+use Rattle.pair_check.specs.Compared.{is_compared}
 use Rattle.pair_check.specs.Facing.{MeetAt}
 use Rattle.pair_check.specs.Pairs.{Deciders, Pair, DoMeet, SaysMeeting, SaysNear, Breaks}
+use Rattle.pair_check.specs.Asked.{AsksNothing}
 use Rattle.pair_check.specs.Rows.{Checked, deciders, Stands, IsRowOfTwo, AreRowsWhere, AreRowsOfPair}
 use Rattle.pair_check.specs.Stages.{IsOfPair, IsOfKind, IsBelow, AreRowsBelow}
 use Rattle.pair_check.proofs.TriedLayers.{none_of_no_first}
@@ -65,7 +65,20 @@ module _ (d : Deciders) (pair : Pair) where
   breaks_near PhysicalHoleClearance row m says = says
   breaks_near _ row m says = absurd (cc)
 
+  pub says_near : (kind : Kind) (row : PlainRow) → IsTrue (is_between_two kind) → Breaks d kind pair row → SaysNear d kind pair row
+  says_near Clearance row m broken = broken
+  says_near HoleClearance row m broken = broken
+  says_near HoleToHole row m broken = broken
+  says_near EdgeClearance row m broken = broken
+  says_near CourtyardClearance row m broken = broken
+  says_near PhysicalClearance row m broken = broken
+  says_near PhysicalHoleClearance row m broken = broken
+  says_near _ row m broken = absurd (cc)
+
 -- ---- rows of one pair
+
+unlike : (b : Bool) → b ≡ false → IsTrue b → ⊥
+unlike b e t = cc
 
 abbrev short_row : ℕ → ℕ → RowLayer → PlainRow
 short_row first second layer = record { first = first; second = second; kind = Short; layer = layer; value = pos 0; gap = pos 0; over = false; source = Default; severity = Error }
@@ -85,6 +98,24 @@ module _ (d : Deciders) (pair : Pair) (first second : ℕ) where
   pub pair_without : (kind : Kind) (rows : List PlainRow) → ((row : PlainRow) → ¬ (IsOfKind (IsOfPair d pair first second) kind row)) → AreRowsBelow (IsOfPair d pair first second) (kind_number kind) rows
       → AreRowsBelow (IsOfPair d pair first second) (kind_number kind + 1) rows
   pair_without kind rows none r = without_row (IsOfPair d pair first second) first second (λ s h. (h.first_is, h.second_is)) kind rows none r
+
+  -- nothing is asked of the kind
+  pub pair_unasked : (kind : Kind) (rows : List PlainRow) → IsTrue (is_between_two kind) → AsksNothing d kind → AreRowsBelow (IsOfPair d pair first second) (kind_number kind) rows
+      → AreRowsBelow (IsOfPair d pair first second) (kind_number kind + 1) rows
+  pair_unasked kind rows m nothing r =
+      pair_without kind rows
+      (λ row h.
+      let says = says_near d pair kind row m (subst (λ (l : Kind). Breaks d l pair row) h.kind_is h.is.broken) in
+      nothing.none pair row.layer says.where_first.holds) r
+
+  -- the pair is not compared for the kind
+  pub pair_uncompared : (kind : Kind) (rows : List PlainRow) → IsTrue (is_between_two kind) → is_compared kind pair.a pair.b ≡ false → AreRowsBelow (IsOfPair d pair first second) (kind_number kind) rows
+      → AreRowsBelow (IsOfPair d pair first second) (kind_number kind + 1) rows
+  pair_uncompared kind rows m other r =
+      pair_without kind rows
+      (λ row h.
+      let says = says_near d pair kind row m (subst (λ (l : Kind). Breaks d l pair row) h.kind_is h.is.broken) in
+      unlike (is_compared kind pair.a pair.b) other says.compared) r
 
   -- ---- a short takes the place of others
 

@@ -1,18 +1,20 @@
 -- The rows of a single item, kind by kind.
-use Rattle.std.proofs.Common.{◌≡◌, ◌⊎◌, inl, inr, refl, sym, ap, subst, ◌∙◌, ℕ, ◌+◌, ◌<◌, ◌≤◌, ℤ, Bool, true, false, IsTrue, if◌then◌else◌, List, [], ◌∷◌, ◌++◌, arith}
+use Rattle.std.proofs.Common.{◌≡◌, ◌⊎◌, inl, inr, refl, sym, ap, subst, ◌∙◌, ℕ, ◌+◌, ◌<◌, ◌≤◌, Bool, true, false, IsTrue, if◌then◌else◌, List, [], ◌∷◌, ◌++◌, arith}
 use Rattle.board_items.specs.declared.layers.LayerSet.{LayerSet}
 use Rattle.board_items.specs.declared.parts.Part.{Part}
 use Rattle.board_items.specs.declared.item.What.{What}
 use Rattle.board_items.specs.declared.item.What.TheVariants as what
 use Rattle.board_items.specs.declared.item.Item.{Item}
 use Rattle.cond_lang.specs.declared.kind.Kind.{Kind}
-use Rattle.cond_lang.specs.declared.kind.Kind.TheVariants.{Short, Clearance, HoleClearance, HoleToHole, EdgeClearance, CourtyardClearance, Keepout, TrackWidth, ViaDiameter, HoleSize, AnnularWidth, Disallow, PhysicalClearance, PhysicalHoleClearance, Assertion}
+use Rattle.cond_lang.specs.declared.kind.Kind.TheVariants.{TrackWidth, ViaDiameter, HoleSize, AnnularWidth, Disallow, Assertion}
 use Rattle.cond_lang.specs.Kinds.{kind_number}
+use Rattle.board_items.specs.Layers.{has_layer}
+use Rattle.rule_pick.specs.FactsOf.{SomeOn}
 use Rattle.rule_pick.specs.declared.facts.Facts.{Facts}
 use Rattle.pair_check.specs.declared.layer.RowLayer.{RowLayer}
 use Rattle.pair_check.specs.declared.layer.RowLayer.TheVariants.{Copper, FrontYard, BackYard, Nowhere}
 use Rattle.pair_check.specs.PlainRow.{PlainRow, AreInOrder, IsLayerOf, IsCopper, IsNowhere}
-use Rattle.pair_check.specs.Layers.{IsTried}
+use Rattle.pair_check.specs.Layers.{rank, IsTried}
 use Rattle.pair_check.specs.Singles.{LiesAt, IsAskedAt, IsMeasuredAt, SaysLimit, SaysForbidden, BreaksAlone}
 use Rattle.pair_check.specs.Pairs.{Deciders}
 use Rattle.pair_check.specs.Rows.{Checked, deciders, Stands, IsRowOfOne, AreRowsWhere, AreRowsOfItem}
@@ -47,6 +49,22 @@ limit_layer copper ViaDiameter item layer m is at = nowhere layer at
 limit_layer copper HoleSize item layer m is at = nowhere layer at
 limit_layer copper AnnularWidth item layer m is at = nowhere layer at
 limit_layer copper _ item layer m is at = absurd (cc)
+
+-- where the layers of the copper have places from the one to before the other, the width of a track is measured on such places
+pub width_within : (item : Item) (parts : List Part) (set : LayerSet) (from to : ℕ) → item.copper ≡ parts → ((layer : ℕ) → SomeOn layer parts → IsTrue (has_layer set layer))
+    → ((layer : ℕ) → IsTrue (has_layer set layer) → (from ≤ layer) × (layer < to)) → (layer : RowLayer) → IsMeasuredAt TrackWidth item layer → (from ≤ rank layer) × (rank layer < to)
+width_within item parts set from to same each places (Copper n) at = places n (each n (subst (λ (ps : List Part). SomeOn n ps) same at))
+width_within item parts set from to same each places FrontYard at = absurd at
+width_within item parts set from to same each places BackYard at = absurd at
+width_within item parts set from to same each places Nowhere at = absurd at
+
+-- the other lengths are measured on none
+pub none_within : (kind : Kind) (item : Item) → IsTrue (is_limit kind) → ¬ (kind ≡ TrackWidth) → (layer : RowLayer) → IsMeasuredAt kind item layer → (34 ≤ rank layer) × (rank layer < 35)
+none_within TrackWidth item m other layer at = absurd (other refl)
+none_within ViaDiameter item m other layer at = let e = ap rank at in (omega arith, omega arith)
+none_within HoleSize item m other layer at = let e = ap rank at in (omega arith, omega arith)
+none_within AnnularWidth item m other layer at = let e = ap rank at in (omega arith, omega arith)
+none_within _ item m other layer at = absurd (cc)
 
 lies_layer : (copper : LayerSet) (parts : List Part) (layer : RowLayer) → IsTried copper layer → LiesAt parts layer → IsCopper layer ⊎ IsNowhere layer
 lies_layer copper parts (Copper n) is at = inl is.below

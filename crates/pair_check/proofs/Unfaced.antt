@@ -1,5 +1,10 @@
 -- Items of which nothing faces anything.
-use Rattle.std.proofs.Common.{◌≡◌, ◌⊎◌, inl, inr, refl, sym, subst, ℕ, ℤ, pos, ◌*ℤ◌, Bool, true, false, cond, IsTrue, List, [], ◌∷◌, All, Option, None, Some, suc, ◌∙◌, ap, ◌↔◌, drop, ◌+◌, ◌<◌, ◌≤◌, get_or, length, arith}
+use mir.Syntax.{w32}
+use Rattle.std.proofs.Common.{◌≡◌, ◌⊎◌, inl, inr, refl, sym, subst, ℕ, ℤ, pos, ◌*ℤ◌, Bool, true, false, cond, IsTrue, List, [], ◌∷◌, All, Option, None, Some, zero, suc, ◌∙◌, ap, ◌↔◌, drop, ◌+◌, ◌-◌, ◌^◌, ◌<◌, ◌≤◌, ◌==◌, min, bit_and, get_or, length, arith, rules}
+use Rattle.std.specs.Int.{bit_at, trailing_zeros, leading_zeros}
+use Rattle.std.specs.Int.Count.{count_leading_zeros}
+use Rattle.std.proofs.lemmas.Nat.{leading_top}
+use Rattle.std.proofs.lemmas.Nat.Bits.{bit_at_and, bit_at_above, bit_at-zero, bit_at-trailing_zeros}
 use Rattle.std.specs.List.{Any, filter}
 use Rattle.geo_seg.specs.Distances.{Apart, Meet}
 use Rattle.std.proofs.Math.Seq.{drop-cons}
@@ -18,11 +23,11 @@ use Rattle.rule_pick.specs.FactsOf.{SomeOn}
 use Rattle.item_copper.proofs.Meeting.{any_here, any_later, any_none, any_cases}
 use Rattle.pair_check.specs.declared.layer.RowLayer.{RowLayer}
 use Rattle.pair_check.specs.declared.layer.RowLayer.TheVariants.{Copper, Nowhere}
-use Rattle.pair_check.specs.Facing.{Facing, facing, facings, copper_on, hole_on, lines_of, MeetAt}
-use Rattle.pair_check.specs.Sides.{IsUnfaced, FaceNowhere}
-use Rattle.pair_check.specs.Pairs.{Deciders, Pair, IsNearAt}
-use Rattle.pair_check.specs.Stages.{HoldsNowhere}
-use Rattle.pair_check.proofs.NearLayers.{not_near}
+use Rattle.pair_check.specs.PlainRow.{IsLayerOf}
+use Rattle.pair_check.specs.Layers.{rank, IsTried}
+use Rattle.pair_check.specs.Facing.{Facing, facing, facings, copper_on, hole_on, lines_of, MeetAt, TooNear}
+use Rattle.pair_check.specs.Sides.{IsUnfaced, FaceWithin}
+use Rattle.pair_check.proofs.NearLayers.{faces_on, not_near}
 
 pub unlike : (b : Bool) → b ≡ false → b ≡ true → ⊥
 unlike b e f = cc
@@ -38,14 +43,14 @@ none_or_some test (x ∷ xs) = by (test x) refl (none_or_some test xs)
     by false e (inl n) = inl n
     by false e (inr a) = inr (any_later (λ x. IsTrue (test x)) x xs a)
 
--- no layer has parts of both
-pub unshared : (layer : ℕ) (xs ys : List Part) → (SomeOn layer xs → SomeOn layer ys → ⊥) → IsUnfaced (facing (on_layer layer xs) (on_layer layer ys))
-unshared layer xs ys apart = by (none_or_some (λ part. has_layer part.layers layer) xs) (none_or_some (λ part. has_layer part.layers layer) ys)
+-- only layers of the set have parts of both
+pub shared_in : (set : LayerSet) (layer : ℕ) (xs ys : List Part) → (SomeOn layer xs → SomeOn layer ys → IsTrue (has_layer set layer)) → IsUnfaced (facing (on_layer layer xs) (on_layer layer ys)) ⊎ IsTrue (has_layer set layer)
+shared_in set layer xs ys both = by (none_or_some (λ part. has_layer part.layers layer) xs) (none_or_some (λ part. has_layer part.layers layer) ys)
   where
-    by : (on_layer layer xs ≡ []) ⊎ SomeOn layer xs → (on_layer layer ys ≡ []) ⊎ SomeOn layer ys → IsUnfaced (facing (on_layer layer xs) (on_layer layer ys))
-    by (inl e) other = inl e
-    by (inr s) (inl e) = inr e
-    by (inr s) (inr t) = absurd (apart s t)
+    by : (on_layer layer xs ≡ []) ⊎ SomeOn layer xs → (on_layer layer ys ≡ []) ⊎ SomeOn layer ys → IsUnfaced (facing (on_layer layer xs) (on_layer layer ys)) ⊎ IsTrue (has_layer set layer)
+    by (inl e) other = inl (inl e)
+    by (inr s) (inl e) = inl (inr e)
+    by (inr s) (inr t) = inr (both s t)
 
 -- the layers of the hole are those of its part
 pub hole_some : (layer : ℕ) (hole : Option Hole) (h : Hole) → hole ≡ Some h → SomeOn layer (hole_parts hole) → IsTrue (has_layer h.layers layer)
@@ -55,9 +60,9 @@ hole_some layer hole h e s = on (any_cases (λ part. IsTrue (has_layer part.laye
     on (inl t) = t
     on (inr n) = absurd (any_none (λ part. IsTrue (has_layer part.layers layer)) n)
 
-pub no_hole : (layer : ℕ) (hole : Option Hole) (others : List Part) → hole ≡ None → IsUnfaced (facing (on_layer layer (hole_parts hole)) others)
-no_hole layer None others e = inl refl
-no_hole layer (Some h) others e = absurd (cc)
+pub no_hole : (layer : ℕ) (hole : Option Hole) → hole ≡ None → SomeOn layer (hole_parts hole) → ⊥
+no_hole layer None e s = any_none (λ (part : Part). IsTrue (has_layer part.layers layer)) s
+no_hole layer (Some h) e s = absurd (cc)
 
 -- ---- the layers of all parts
 
@@ -110,24 +115,26 @@ all_keep : (fs : List Facing) (v : ℤ) → All IsUnfaced fs → All (λ (f : Fa
 all_keep [] v u = All-nil (λ (f : Facing). Keeps f.own f.others v)
 all_keep (f ∷ fs) v u = All-cons (λ (f : Facing). Keeps f.own f.others v) f fs (kept f v (All-head IsUnfaced f fs u)) (all_keep fs v (All-tail IsUnfaced f fs u))
 
--- what faces nothing does not meet, and keeps every distance
-pub meets_nowhere : (copper : LayerSet) (kind : Kind) (a b : Item) → FaceNowhere kind a b → HoldsNowhere copper (λ layer. MeetAt kind layer a b)
-meets_nowhere copper kind a b far = record { none = λ layer is m. none_meet (facings kind layer a b) (far.each layer) m }
+-- what faces nothing does not meet, and is not too near
+pub meet_within : (kind : Kind) (a b : Item) (from to : ℕ) (layer : RowLayer) → FaceWithin kind a b from to layer → MeetAt kind layer a b → (from ≤ rank layer) × (rank layer < to)
+meet_within kind a b from to layer (inl far) m = absurd (none_meet (facings kind layer a b) far m)
+meet_within kind a b from to layer (inr w) m = w
 
-pub near_nowhere : (d : Deciders) (kind : Kind) (pair : Pair) → FaceNowhere kind pair.a pair.b → HoldsNowhere d.copper (IsNearAt d kind pair)
-near_nowhere d kind pair far = record {
-  none = λ layer is n.
-      not_near kind layer pair.a pair.b n.pick.least (all_keep (facings kind layer pair.a pair.b) n.pick.least (far.each layer))
-      (λ e m. none_meet (facings kind layer pair.a pair.b) (far.each layer) m) n.near;
-}
+pub near_within : (kind : Kind) (a b : Item) (v : ℤ) (from to : ℕ) (layer : RowLayer) → FaceWithin kind a b from to layer → TooNear kind layer a b v → (from ≤ rank layer) × (rank layer < to)
+near_within kind a b v from to layer (inl far) n = absurd (not_near kind layer a b v (all_keep (facings kind layer a b) v far) (λ e m. none_meet (facings kind layer a b) far m) n)
+near_within kind a b v from to layer (inr w) n = w
 
 -- ---- kinds
 
-abbrev NoCopper : Item → Item → Type 0
-NoCopper a b = (layer : ℕ) → IsUnfaced (facing (copper_on layer a) (copper_on layer b))
+abbrev CopperIn : LayerSet → Item → Item → Type 0
+CopperIn set a b = (layer : ℕ) → IsUnfaced (facing (copper_on layer a) (copper_on layer b)) ⊎ IsTrue (has_layer set layer)
 
-abbrev NoHole : Item → Item → Type 0
-NoHole a b = (layer : ℕ) → IsUnfaced (facing (hole_on layer a) (copper_on layer b))
+abbrev HoleIn : LayerSet → Item → Item → Type 0
+HoleIn set a b = (layer : ℕ) → IsUnfaced (facing (hole_on layer a) (copper_on layer b)) ⊎ IsTrue (has_layer set layer)
+
+-- the layers of the set have places from the one to before the other
+abbrev PlacesFrom : LayerSet → ℕ → ℕ → Type 0
+PlacesFrom set from to = (layer : ℕ) → IsTrue (has_layer set layer) → (from ≤ layer) × (layer < to)
 
 one : (f : Facing) → IsUnfaced f → All IsUnfaced (f ∷ [])
 one f u = All-cons IsUnfaced f [] u (All-nil IsUnfaced)
@@ -135,51 +142,88 @@ one f u = All-cons IsUnfaced f [] u (All-nil IsUnfaced)
 two : (f g : Facing) → IsUnfaced f → IsUnfaced g → All IsUnfaced (f ∷ g ∷ [])
 two f g u v = All-cons IsUnfaced f (g ∷ []) u (one g v)
 
-short_at : (a b : Item) → NoCopper a b → (layer : RowLayer) → All IsUnfaced (facings Short layer a b)
+module _ (set : LayerSet) (a b : Item) (from to : ℕ) (places : PlacesFrom set from to) where
+  one_within : (f : Facing) (layer : ℕ) → IsUnfaced f ⊎ IsTrue (has_layer set layer) → All IsUnfaced (f ∷ []) ⊎ ((from ≤ layer) × (layer < to))
+  one_within f layer (inl u) = inl (one f u)
+  one_within f layer (inr h) = inr (places layer h)
+
+  two_within : (f g : Facing) (layer : ℕ) → IsUnfaced f ⊎ IsTrue (has_layer set layer) → IsUnfaced g ⊎ IsTrue (has_layer set layer) → All IsUnfaced (f ∷ g ∷ []) ⊎ ((from ≤ layer) × (layer < to))
+  two_within f g layer (inl u) (inl v) = inl (two f g u v)
+  two_within f g layer (inr h) w = inr (places layer h)
+  two_within f g layer u (inr h) = inr (places layer h)
+
+  pub short_within : CopperIn set a b → (layer : RowLayer) → FaceWithin Short a b from to layer
+  unfolding facings
+  short_within each (Copper layer) = one_within _ layer (each layer)
+  short_within each _ = inl (All-nil IsUnfaced)
+
+  pub clearance_within : CopperIn set a b → (layer : RowLayer) → FaceWithin Clearance a b from to layer
+  unfolding facings
+  clearance_within each (Copper layer) = one_within _ layer (each layer)
+  clearance_within each _ = inl (All-nil IsUnfaced)
+
+  pub physical_within : CopperIn set a b → (layer : RowLayer) → FaceWithin PhysicalClearance a b from to layer
+  unfolding facings
+  physical_within each (Copper layer) = one_within _ layer (each layer)
+  physical_within each _ = inl (All-nil IsUnfaced)
+
+  pub hole_within : HoleIn set a b → HoleIn set b a → (layer : RowLayer) → FaceWithin HoleClearance a b from to layer
+  unfolding facings
+  hole_within there back (Copper layer) = two_within _ _ layer (there layer) (back layer)
+  hole_within there back _ = inl (All-nil IsUnfaced)
+
+  pub physical_hole_within : HoleIn set a b → HoleIn set b a → (layer : RowLayer) → FaceWithin PhysicalHoleClearance a b from to layer
+  unfolding facings
+  physical_hole_within there back (Copper layer) = two_within _ _ layer (there layer) (back layer)
+  physical_hole_within there back _ = inl (All-nil IsUnfaced)
+
+pub edge_within : (a b : Item) (from to : ℕ) → lines_of a.what ≡ [] → lines_of b.what ≡ [] → (layer : RowLayer) → FaceWithin EdgeClearance a b from to layer
 unfolding facings
-short_at a b far (Copper layer) = one _ (far layer)
-short_at a b far _ = All-nil IsUnfaced
+edge_within a b from to e f (Copper layer) = inl (two _ _ (inl e) (inl f))
+edge_within a b from to e f Nowhere = inl (two _ _ (inl e) (inl f))
+edge_within a b from to e f _ = inl (All-nil IsUnfaced)
 
-clearance_at : (a b : Item) → NoCopper a b → (layer : RowLayer) → All IsUnfaced (facings Clearance layer a b)
-unfolding facings
-clearance_at a b far (Copper layer) = one _ (far layer)
-clearance_at a b far _ = All-nil IsUnfaced
+-- a kind has its places
+pub kind_within : (kind : Kind) (a b : Item) (from to : ℕ) → ((layer : RowLayer) → IsLayerOf kind layer → (from ≤ rank layer) × (rank layer < to)) → (copper : LayerSet) (layer : RowLayer) → IsTried copper layer
+    → FaceWithin kind a b from to layer
+kind_within kind a b from to places copper layer is = by (faces_on copper kind layer a b is)
+  where
+    by : IsLayerOf kind layer ⊎ (facings kind layer a b ≡ []) → FaceWithin kind a b from to layer
+    by (inl l) = inr (places layer l)
+    by (inr e) = inl (subst (λ (fs : List Facing). All IsUnfaced fs) (sym e) (All-nil IsUnfaced))
 
-physical_at : (a b : Item) → NoCopper a b → (layer : RowLayer) → All IsUnfaced (facings PhysicalClearance layer a b)
-unfolding facings
-physical_at a b far (Copper layer) = one _ (far layer)
-physical_at a b far _ = All-nil IsUnfaced
+-- ---- sets of layers
 
-hole_at : (a b : Item) → NoHole a b → NoHole b a → (layer : RowLayer) → All IsUnfaced (facings HoleClearance layer a b)
-unfolding facings
-hole_at a b far back (Copper layer) = two _ _ (far layer) (back layer)
-hole_at a b far back _ = All-nil IsUnfaced
+set_bit : (n layer : ℕ) → IsTrue (bit_at n layer == 1) → bit_at n layer ≡ 1
+set_bit n layer h = search (rules, h)
 
-physical_hole_at : (a b : Item) → NoHole a b → NoHole b a → (layer : RowLayer) → All IsUnfaced (facings PhysicalHoleClearance layer a b)
-unfolding facings
-physical_hole_at a b far back (Copper layer) = two _ _ (far layer) (back layer)
-physical_hole_at a b far back _ = All-nil IsUnfaced
+bit_set : (n layer : ℕ) → bit_at n layer ≡ 1 → IsTrue (bit_at n layer == 1)
+bit_set n layer h = search (rules, h)
 
-edge_at : (a b : Item) → lines_of a.what ≡ [] → lines_of b.what ≡ [] → (layer : RowLayer) → All IsUnfaced (facings EdgeClearance layer a b)
-unfolding facings
-edge_at a b e f (Copper layer) = two _ _ (inl e) (inl f)
-edge_at a b e f Nowhere = two _ _ (inl e) (inl f)
-edge_at a b e f _ = All-nil IsUnfaced
+both_set : (a b : ℕ) → a ≡ 1 → b ≡ 1 → min a b ≡ 1
+both_set a b h k = omega arith
 
-pub short_nowhere : (a b : Item) → NoCopper a b → FaceNowhere Short a b
-short_nowhere a b far = record { each = short_at a b far }
+pub in_both : (a b layer : ℕ) → IsTrue (bit_at a layer == 1) → IsTrue (bit_at b layer == 1) → IsTrue (bit_at (bit_and a b) layer == 1)
+in_both a b layer h k = bit_set (bit_and a b) layer (bit_at_and a b layer ∙ both_set (bit_at a layer) (bit_at b layer) (set_bit a layer h) (set_bit b layer k))
 
-pub clearance_nowhere : (a b : Item) → NoCopper a b → FaceNowhere Clearance a b
-clearance_nowhere a b far = record { each = clearance_at a b far }
+not_outside : (a b bit : ℕ) → (b < a → bit ≡ 0) → bit ≡ 1 → a ≤ b
+not_outside a b bit h e = grind arith
 
-pub physical_nowhere : (a b : Item) → NoCopper a b → FaceNowhere PhysicalClearance a b
-physical_nowhere a b far = record { each = physical_at a b far }
+some_of : (n layer : ℕ) → bit_at n layer ≡ 1 → 0 < n
+some_of zero layer e = absurd (omega (arith, e, bit_at-zero layer))
+some_of (suc n) layer e = omega arith
 
-pub hole_nowhere : (a b : Item) → NoHole a b → NoHole b a → FaceNowhere HoleClearance a b
-hole_nowhere a b far back = record { each = hole_at a b far back }
+pub place_in : (n layer : ℕ) → n < 2 ^ 32 → IsTrue (bit_at n layer == 1) → (trailing_zeros w32 n ≤ layer) × (layer < 32 - leading_zeros w32 n)
+place_in n layer fits h = (not_outside (trailing_zeros w32 n) layer (bit_at n layer) (λ lt. (bit_at-trailing_zeros w32 n some fits).2 layer lt) bit, last (leading_top 32 n some fits))
+  where
+    bit : bit_at n layer ≡ 1
+    bit = set_bit n layer h
 
-pub physical_hole_nowhere : (a b : Item) → NoHole a b → NoHole b a → FaceNowhere PhysicalHoleClearance a b
-physical_hole_nowhere a b far back = record { each = physical_hole_at a b far back }
+    some : 0 < n
+    some = some_of n layer bit
 
-pub edge_nowhere : (a b : Item) → lines_of a.what ≡ [] → lines_of b.what ≡ [] → FaceNowhere EdgeClearance a b
-edge_nowhere a b e f = record { each = edge_at a b e f }
+    last : (j : ℕ) × (count_leading_zeros 32 n + suc j ≡ 32) × (2 ^ j ≤ n) × (n < 2 ^ suc j) → layer < 32 - leading_zeros w32 n
+    last top =
+        let outside : suc layer ≤ suc top.0 = not_outside (suc layer) (suc top.0) (bit_at n layer) (λ lt. bit_at_above n (suc top.0) layer top.3 (omega (arith, lt))) bit in
+        let places = top.1 in
+        omega (arith, outside, places)

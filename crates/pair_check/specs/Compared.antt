@@ -1,6 +1,6 @@
 -- Which pairs of items are compared for which kind, as this project's profile has it. Two items are of one footprint where they
 -- are of one unit.
-use Rattle.std.specs.Prelude.{ℕ, List, [], Bool, true, false, ◌&&◌, ◌||◌, not, nat_eq, ◌==◌, bytes_eq, bit_and, Option, None, Some}
+use Rattle.std.specs.Prelude.{ℕ, List, [], Bool, true, false, ◌&&◌, ◌||◌, not, nat_eq, ◌==◌, bytes_eq, bit_and, Option, Some}
 use Rattle.std.specs.Ordering.{int_eq}
 use Rattle.geo_seg.specs.declared.points.Point.{Point}
 use Rattle.geo_seg.specs.declared.shapes.Core.{Core}

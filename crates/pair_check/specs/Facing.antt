@@ -1,5 +1,5 @@
 -- What is measured for a kind on a layer: which parts of the one item face which parts of the other.
-use Rattle.std.specs.Prelude.{◌≡◌, ℕ, ℤ, nat_eq, List, [], ◌∷◌, ◌⊎◌, All, if◌then◌else◌, Option}
+use Rattle.std.specs.Prelude.{ℕ, ℤ, nat_eq, List, [], ◌∷◌, ◌⊎◌, All, if◌then◌else◌, Option}
 use Rattle.std.specs.List.{Any}
 use Rattle.board_items.specs.declared.parts.Part.{Part}
 use Rattle.board_items.specs.declared.item.Hole.{Hole}

@@ -9,3 +9,4 @@ pub mod Singles
 pub mod Rows
 pub mod Views
 pub mod Stages
+pub mod SameRows

@@ -1,5 +1,5 @@
 -- What two items of a board break.
-use Rattle.std.specs.Prelude.{◌≡◌, ◌⊎◌, ℕ, ℤ, pos, false, IsTrue, List, Option, Some}
+use Rattle.std.specs.Prelude.{◌≡◌, pos, false, IsTrue, List, Some}
 use Rattle.geo_seg.specs.Distances.{IsGap}
 use Rattle.board_items.specs.declared.layers.LayerSet.{LayerSet}
 use Rattle.board_items.specs.declared.item.Item.{Item}

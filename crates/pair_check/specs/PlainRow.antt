@@ -2,7 +2,7 @@
 use Rattle.std.specs.Prelude.{◌≡◌, ◌⊎◌, ℕ, ℤ, pos, neg_ℤ, ◌<◌, ◌≤ℤ◌, Bool}
 use Rattle.drc_io.specs.Lengths.{IsLength}
 use Rattle.cond_lang.specs.declared.kind.Kind.{Kind}
-use Rattle.cond_lang.specs.declared.kind.Kind.TheVariants.{Short, Clearance, HoleClearance, HoleToHole, EdgeClearance, CourtyardClearance, Keepout, TrackWidth, ViaDiameter, HoleSize, AnnularWidth, Disallow, PhysicalClearance, PhysicalHoleClearance, Assertion}
+use Rattle.cond_lang.specs.declared.kind.Kind.TheVariants.{HoleToHole, EdgeClearance, CourtyardClearance, TrackWidth, ViaDiameter, HoleSize, AnnularWidth, Disallow, Assertion}
 use Rattle.cond_lang.specs.declared.rule.Severity.{Severity}
 use Rattle.cond_lang.specs.declared.rule.Severity.TheVariants.{Error, Warning, Ignore, Exclusion}
 use Rattle.rule_pick.specs.declared.kinds.Source.{Source}

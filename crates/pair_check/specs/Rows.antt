@@ -1,5 +1,5 @@
 -- The rows of a board: everything that its items break, over all pairs and all items.
-use Rattle.std.specs.Prelude.{◌≡◌, ◌⊎◌, ℕ, ◌<◌, List, length, map, All, Contains, Some, IsSome}
+use Rattle.std.specs.Prelude.{◌≡◌, ◌⊎◌, ℕ, ◌<◌, List, length, All, Contains, Some, IsSome}
 use Rattle.std.specs.List.{AllPairs}
 use Rattle.board_items.specs.declared.item.Item.{Item}
 use Rattle.board_items.specs.Boards.{PlainBoard, item_at}

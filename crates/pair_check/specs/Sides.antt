@@ -1,5 +1,5 @@
 -- Facings as the code has them: sides that face each other, one way or both ways.
-use Rattle.std.specs.Prelude.{◌≡◌, ◌⊎◌, ◌<◌, ℤ, List, [], ◌∷◌, All}
+use Rattle.std.specs.Prelude.{◌≡◌, ◌⊎◌, ◌<◌, ◌≤◌, ℕ, ℤ, List, [], ◌∷◌, All}
 use Rattle.std.specs.List.{Any}
 use Rattle.board_items.specs.Copper.{SomeMeet, Keeps}
 use Rattle.board_items.specs.declared.item.Item.{Item}
@@ -10,6 +10,7 @@ use Rattle.pair_check.specs.declared.layer.RowLayer.TheVariants.{Copper}
 use Rattle.pair_check.specs.declared.measure.Faced.{Faced}
 use Rattle.pair_check.specs.declared.measure.Facings.{Facings}
 use Rattle.pair_check.specs.declared.measure.Facings.TheVariants.{Nothing, OneWay, BothWays}
+use Rattle.pair_check.specs.Layers.{rank}
 use Rattle.pair_check.specs.Facing.{Facing, facing, facings}
 
 -- a copper layer is one of the 32 that there can be
@@ -37,6 +38,6 @@ AllFacingsKeep faced v = All (λ f. Keeps f.own f.others v) faced
 abbrev pub IsUnfaced : Facing → Type 0
 IsUnfaced f = (f.own ≡ []) ⊎ (f.others ≡ [])
 
--- on no layer anything faces anything
-pub record FaceNowhere (kind : Kind) (a b : Item) : Type 0 where
-  pub each : (layer : RowLayer) → All IsUnfaced (facings kind layer a b)
+-- on this layer nothing faces anything, or its place is one from `from` to before `to`
+abbrev pub FaceWithin : Kind → Item → Item → ℕ → ℕ → RowLayer → Type 0
+FaceWithin kind a b from to layer = All IsUnfaced (facings kind layer a b) ⊎ ((from ≤ rank layer) × (rank layer < to))

@@ -39,7 +39,8 @@ fn asks(rule: &Rule, kind: Kind) -> bool
         .any(|constraint| constraint.kind.number() == kind.number())
 }
 
-fn some_asks(rules: &[Rule], kind: Kind) -> bool
+/// Whether some rule asks something of the kind.
+pub(crate) fn some_asks(rules: &[Rule], kind: Kind) -> bool
     ensures { result ≡ some_asks kind rules.now }
 {
     rules.iter().any(|rule| asks(rule, kind))
@@ -80,6 +81,7 @@ impl Asked {
     }
 
     /// Whether anything may be asked of the kind.
+    #[inline(always)]
     pub(crate) fn has(self, kind: Kind) -> bool
         ensures { result ≡ is_asked self kind }
     {

@@ -140,6 +140,7 @@ fn is_body(item: &Item) -> bool
 }
 
 /// Whether the pair is compared for the kind. Nets and units are looked at first, and the kinds of most items tell the rest.
+#[inline(always)]
 #[tactic(auto, unfolding(crate::specs::Compared::is_compared))]
 pub(crate) fn is_compared(kind: Kind, a: &Item, b: &Item) -> bool
     ensures { result ≡ is_compared kind a.now b.now }

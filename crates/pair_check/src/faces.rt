@@ -1,17 +1,21 @@
-//! Whether two items face each other on any layer. Layers are looked at, and no shapes.
+//! On which layers two items can face each other. Layers are looked at, and no shapes.
 
-ghost use Rattle.std.specs.Prelude.{◌≡◌, ℕ, IsTrue, false, []};
+ghost use Rattle.std.specs.Prelude.{◌≡◌, ◌⊎◌, ◌<◌, ◌≤◌, ℕ, IsTrue, false, []};
+ghost use Rattle.board_items.specs.declared.layers.LayerSet.{LayerSet};
 ghost use Rattle.board_items.specs.Layers.{has_layer};
+ghost use Rattle.board_items.specs.Parts.{hole_parts};
 ghost use Rattle.rule_pick.specs.FactsOf.{SomeOn};
+ghost use Rattle.pair_check.specs.declared.layer.RowLayer.{RowLayer};
+ghost use Rattle.pair_check.specs.Layers.{IsTried};
 ghost use Rattle.pair_check.specs.Facing.{facing, copper_on, hole_on, lines_of};
-ghost use Rattle.pair_check.specs.Sides.{IsUnfaced, FaceNowhere};
+ghost use Rattle.pair_check.specs.Sides.{IsUnfaced, FaceWithin};
 
-use board_items::{Item, LayerSet, Part, What};
+use crate::places::{Places, places_of};
+use board_items::{Hole, Item, LayerSet, Part, What};
 use cond_lang::Kind;
-use item_copper::share_layer;
 
-// The layers of all the parts.
-fn layers_of(parts: &[Part]) -> LayerSet
+/// The layers of all the parts.
+pub(crate) fn layers_of(parts: &[Part]) -> LayerSet
     ensures { (layer : ℕ) → SomeOn layer parts.now → IsTrue (has_layer result layer) }
 {
     let mut layers = LayerSet { bits: 0 };
@@ -21,30 +25,59 @@ fn layers_of(parts: &[Part]) -> LayerSet
     layers
 }
 
-// Whether copper of both lies on a layer together.
-fn share_copper(a: &Item, b: &Item) -> bool
-    ensures { result ≡ false → (layer : ℕ) → IsUnfaced (facing (copper_on layer a.now) (copper_on layer b.now)) }
+// The layers of both sets.
+fn both(a: LayerSet, b: LayerSet) -> LayerSet
+    ensures { (layer : ℕ) → IsTrue (has_layer a layer) → IsTrue (has_layer b layer) → IsTrue (has_layer result layer) }
 {
-    let own = layers_of(a.copper.as_slice());
-    share_layer(own, layers_of(b.copper.as_slice()))
-}
-
-// Whether the one has a hole that goes through a layer of the other's copper.
-fn has_hole_in(a: &Item, b: &Item) -> bool
-    ensures { result ≡ false → (layer : ℕ) → IsUnfaced (facing (hole_on layer a.now) (copper_on layer b.now)) }
-{
-    match &a.hole {
-        Some(hole) => share_layer(hole.layers, layers_of(b.copper.as_slice())),
-        None => false,
+    LayerSet {
+        bits: a.bits & b.bits,
     }
 }
 
-// Whether one of them has a hole that goes through a layer of the other's copper.
-fn has_hole_beside(a: &Item, b: &Item) -> bool
-    ensures there { result ≡ false → (layer : ℕ) → IsUnfaced (facing (hole_on layer a.now) (copper_on layer b.now)) }
-    ensures back { result ≡ false → (layer : ℕ) → IsUnfaced (facing (hole_on layer b.now) (copper_on layer a.now)) }
+// The layers that the hole goes through, if there is one.
+fn layers_through(hole: &Option<Hole>) -> LayerSet
+    ensures { (layer : ℕ) → SomeOn layer (hole_parts hole.now) → IsTrue (has_layer result layer) }
 {
-    has_hole_in(a, b) || has_hole_in(b, a)
+    match hole {
+        Some(hole) => hole.layers,
+        None => LayerSet { bits: 0 },
+    }
+}
+
+// The layers on which copper of both lies.
+fn shared_copper(a: &Item, b: &Item) -> LayerSet
+    ensures { (layer : ℕ) → IsUnfaced (facing (copper_on layer a.now) (copper_on layer b.now)) ⊎ IsTrue (has_layer result layer) }
+{
+    let own = layers_of(a.copper.as_slice());
+    both(own, layers_of(b.copper.as_slice()))
+}
+
+// The layers of the other's copper that the hole of the one goes through.
+fn holed_copper(a: &Item, b: &Item) -> LayerSet
+    ensures { (layer : ℕ) → IsUnfaced (facing (hole_on layer a.now) (copper_on layer b.now)) ⊎ IsTrue (has_layer result layer) }
+{
+    let own = layers_through(&a.hole);
+    both(own, layers_of(b.copper.as_slice()))
+}
+
+// The layers of copper of one of them that the hole of the other goes through.
+fn holed_beside(a: &Item, b: &Item) -> LayerSet
+    ensures there { (layer : ℕ) → IsUnfaced (facing (hole_on layer a.now) (copper_on layer b.now)) ⊎ IsTrue (has_layer result layer) }
+    ensures back { (layer : ℕ) → IsUnfaced (facing (hole_on layer b.now) (copper_on layer a.now)) ⊎ IsTrue (has_layer result layer) }
+{
+    let there = holed_copper(a, b);
+    there.union(holed_copper(b, a))
+}
+
+/// The places from the first layer of the set to the last.
+pub(crate) fn places_in(layers: LayerSet) -> Places
+    ensures bound { result.to ≤ 32 }
+    ensures each { (layer : ℕ) → IsTrue (has_layer layers layer) → (result.from ≤ layer) × (layer < result.to) }
+{
+    Places {
+        from: layers.bits.trailing_zeros(),
+        to: 32 - layers.bits.leading_zeros(),
+    }
 }
 
 fn has_lines(item: &Item) -> bool
@@ -53,17 +86,30 @@ fn has_lines(item: &Item) -> bool
     matches!(item.what, What::Edge { .. })
 }
 
-/// Whether anything may face anything for this kind. It is a quick test: only what it answers no to is sure.
-pub(crate) fn face_somewhere(kind: Kind, a: &Item, b: &Item) -> bool
-    ensures { result ≡ false → FaceNowhere kind a.now b.now }
+// The places on which an edge may be near: none where neither is one.
+fn places_of_lines(a: &Item, b: &Item) -> Places
+    ensures bound { result.to ≤ 35 }
+    ensures each { (copper : LayerSet) (layer : RowLayer) → IsTried copper layer → FaceWithin Kind.EdgeClearance a.now b.now result.from result.to layer }
+{
+    if has_lines(a) || has_lines(b) {
+        places_of(Kind::EdgeClearance)
+    } else {
+        Places { from: 0, to: 0 }
+    }
+}
+
+/// The places of all layers on which anything may face anything for this kind.
+pub(crate) fn places_between(kind: Kind, a: &Item, b: &Item) -> Places
+    ensures bound { result.to ≤ 35 }
+    ensures each { (copper : LayerSet) (layer : RowLayer) → IsTried copper layer → FaceWithin kind a.now b.now result.from result.to layer }
 {
     match kind {
-        Kind::Short => share_copper(a, b),
-        Kind::Clearance => share_copper(a, b),
-        Kind::PhysicalClearance => share_copper(a, b),
-        Kind::HoleClearance => has_hole_beside(a, b),
-        Kind::PhysicalHoleClearance => has_hole_beside(a, b),
-        Kind::EdgeClearance => has_lines(a) || has_lines(b),
-        _ => true,
+        Kind::Short => places_in(shared_copper(a, b)),
+        Kind::Clearance => places_in(shared_copper(a, b)),
+        Kind::PhysicalClearance => places_in(shared_copper(a, b)),
+        Kind::HoleClearance => places_in(holed_beside(a, b)),
+        Kind::PhysicalHoleClearance => places_in(holed_beside(a, b)),
+        Kind::EdgeClearance => places_of_lines(a, b),
+        _ => places_of(kind),
     }
 }

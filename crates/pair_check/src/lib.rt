@@ -7,22 +7,28 @@ mod asked;
 mod compared;
 mod faces;
 mod found;
+pub mod laws;
 mod layer;
 mod measure;
 mod pair;
 mod pair_rows;
 mod places;
 mod row;
+mod same;
 mod single;
 mod steps;
 mod view;
 
 pub use asked::Asked;
+use board_items::Board;
+use cond_lang::Rule;
 pub use found::Single;
 pub use layer::RowLayer;
+use net_class::Classes;
 pub use pair::{test_beside, test_pair};
 pub use pair_rows::PairRows;
 pub use row::Row;
+use rule_pick::FactsById;
 pub use single::{single_at, test_item};
 pub use steps::Steps;
 pub use view::CheckView;
@@ -32,4 +38,22 @@ fn crosses<T: Send + Sync>() {}
 
 fn all_cross() {
     crosses::<Row>();
+    crosses::<RowLayer>();
+}
+
+// All that a view lends may.
+fn boards_cross<'a>() {
+    crosses::<&'a Board>();
+}
+
+fn facts_cross<'a>() {
+    crosses::<&'a FactsById>();
+}
+
+fn rules_cross<'a>() {
+    crosses::<&'a [Rule]>();
+}
+
+fn classes_cross<'a>() {
+    crosses::<&'a Classes>();
 }

@@ -8,25 +8,24 @@ ghost use Rattle.board_items.specs.Parts.{hole_parts};
 ghost use Rattle.rule_pick.specs.FactsOf.{parts_asked};
 ghost use Rattle.item_copper.specs.Sides.{parts_at};
 ghost use Rattle.pair_check.specs.declared.layer.RowLayer.TheVariants.{Copper, FrontYard, BackYard, Nowhere};
-ghost use Rattle.pair_check.specs.Layers.{IsTried};
 ghost use Rattle.pair_check.specs.Facing.{copper_on, hole_on, hole_alone, lines_of, front_of, back_of, area_on, yard_on, placed_on, both_ways, copper_facing, holes_facing, facings, MeetAt, KeepAt};
 ghost use Rattle.pair_check.specs.Sides.{IsInStack, facings_of, SomeFacingMeets, AllFacingsKeep};
 
 use crate::layer::RowLayer;
-use board_items::{Hole, Item, LayerSet, Nm, Part, Parts, What};
+use board_items::{Hole, Item, Nm, Part, Parts, What};
 use cond_lang::Kind;
 use item_copper::{ListedParts, Side, SinglePart, is_empty, sides_gap, sides_meet};
 
 // Parts of the one item, and those of the other that they are measured against.
 #[derive(Clone, Copy)]
-struct Faced<'a> {
+pub(crate) struct Faced<'a> {
     own: Side<'a>,
     others: Side<'a>,
 }
 
-// All that faces each other.
+/// All that faces each other.
 #[derive(Clone, Copy)]
-enum Facings<'a> {
+pub(crate) enum Facings<'a> {
     Nothing,
     OneWay(Faced<'a>),
     BothWays(Faced<'a>, Faced<'a>),
@@ -317,8 +316,8 @@ fn facings_in_back<'a>(kind: Kind, a: &'a Item, b: &'a Item) -> Facings<'a>
     }
 }
 
-// All that faces each other for the kind on the layer.
-fn facings_at<'a>(kind: Kind, layer: RowLayer, a: &'a Item, b: &'a Item) -> Facings<'a>
+/// All that faces each other for the kind on the layer.
+pub(crate) fn facings_at<'a>(kind: Kind, layer: RowLayer, a: &'a Item, b: &'a Item) -> Facings<'a>
     requires { IsInStack layer }
     ensures { facings_of result ≡ facings kind layer a.now b.now }
 {
@@ -379,47 +378,35 @@ fn gap_of(facings: &Facings<'_>, most: Nm) -> Nm
     }
 }
 
-// Whether a copper layer is one of those that there can be.
-fn is_in_stack(layer: RowLayer) -> bool
-    ensures { IsTrue result ↔ IsInStack layer }
-{
-    match layer {
-        RowLayer::Copper(layer) => layer < 32,
-        _ => true,
-    }
-}
-
-/// Whether anything may face anything for this kind on this layer. It is a quick test: only what it answers no to is sure.
-pub(crate) fn may_face(kind: Kind, layer: RowLayer, a: &Item, b: &Item) -> bool
+/// Whether anything may face anything. It is a quick test: only what it answers no to is sure.
+pub(crate) fn may_face(faced: &Facings<'_>, kind: Kind, layer: RowLayer, a: &Item, b: &Item) -> bool
+    requires { facings_of faced.now ≡ facings kind layer a.now b.now }
     ensures meet { result ≡ false → ¬ (MeetAt kind layer a.now b.now) }
     ensures keep { result ≡ false → (v : ℤ) → KeepAt kind layer a.now b.now v }
 {
-    if !is_in_stack(layer) {
-        return true;
-    }
-    may_meet(&facings_at(kind, layer, a, b))
+    may_meet(faced)
 }
 
 /// Whether some of what faces each other touches or overlaps.
-pub(crate) fn meet_at(copper: LayerSet, kind: Kind, layer: RowLayer, a: &Item, b: &Item) -> bool
-    requires { IsTried copper layer }
+pub(crate) fn meet_at(faced: &Facings<'_>, kind: Kind, layer: RowLayer, a: &Item, b: &Item) -> bool
+    requires { facings_of faced.now ≡ facings kind layer a.now b.now }
     ensures { IsTrue result ↔ MeetAt kind layer a.now b.now }
 {
-    do_meet(&facings_at(kind, layer, a, b))
+    do_meet(faced)
 }
 
 /// The greatest whole number of nanometres from 1 to `most` that all that faces each other keeps, or 0.
 pub(crate) fn gap_at(
-    copper: LayerSet,
+    faced: &Facings<'_>,
     kind: Kind,
     layer: RowLayer,
     a: &Item,
     b: &Item,
     most: Nm,
 ) -> Nm
-    requires tried { IsTried copper layer }
+    requires same { facings_of faced.now ≡ facings kind layer a.now b.now }
     requires most { IsLength most }
     ensures { IsGap (KeepAt kind layer a.now b.now) most result }
 {
-    gap_of(&facings_at(kind, layer, a, b), most)
+    gap_of(faced, most)
 }

@@ -1,6 +1,6 @@
 //! What two items break.
 
-ghost use Rattle.std.specs.Prelude.{◌≡◌, ◌≢◌, ◌⊎◌, ◌+◌, ◌<◌, ◌≤◌, ℕ, IsTrue, IsSome, length, MatchOption};
+ghost use Rattle.std.specs.Prelude.{◌≡◌, ◌≢◌, ◌⊎◌, ◌↔◌, ◌+◌, ◌<◌, ◌≤◌, ℕ, IsTrue, IsSome, length, MatchOption};
 ghost use Rattle.drc_io.specs.Lengths.{IsLength};
 ghost use Rattle.geo_seg.specs.Distances.{IsGap};
 ghost use Rattle.board_items.specs.Boards.{item_at};
@@ -8,7 +8,9 @@ ghost use Rattle.cond_lang.specs.Kinds.{kind_number};
 ghost use Rattle.rule_pick.specs.Reach.{is_between_two};
 ghost use Rattle.pair_check.specs.PlainRow.{PlainRow};
 ghost use Rattle.pair_check.specs.Layers.{IsTried, IsFirst};
-ghost use Rattle.pair_check.specs.Facing.{MeetAt, KeepAt, TooNear};
+ghost use Rattle.pair_check.specs.Compared.{is_compared};
+ghost use Rattle.pair_check.specs.Facing.{facings, MeetAt, KeepAt, TooNear};
+ghost use Rattle.pair_check.specs.Sides.{IsInStack, facings_of};
 ghost use Rattle.pair_check.specs.Pairs.{IsGivenPlace, IsNearAt};
 ghost use Rattle.pair_check.specs.Asked.{IsNoteOf};
 ghost use Rattle.pair_check.specs.Rows.{deciders, Stands, AreRowsWhere, AreRowsOfPair};
@@ -17,12 +19,12 @@ ghost use Rattle.pair_check.specs.Stages.{pair_of, is_courtyard, HoldsNowhere, I
 
 use crate::asked::{ANYTHING, Asked};
 use crate::compared::is_compared;
-use crate::faces::face_somewhere;
+use crate::faces::places_between;
 use crate::found::{Near, Pair, Single};
 use crate::layer::RowLayer;
-use crate::measure::{gap_at, may_face, meet_at};
+use crate::measure::{Facings, facings_at, gap_at, may_face, meet_at};
 use crate::pair_rows::PairRows;
-use crate::places::{places_of, tried_at};
+use crate::places::tried_at;
 use crate::row::{Row, counts};
 use crate::single::single_at;
 use crate::steps::Steps;
@@ -41,14 +43,14 @@ fn is_courtyard(kind: Kind) -> bool
 
 // The gap on the layer, where the two are nearer than `least`; courtyards may not touch either.
 fn gap_if_near(
-    copper: LayerSet,
+    faced: &Facings<'_>,
     kind: Kind,
     layer: RowLayer,
     a: &Item,
     b: &Item,
     least: Nm,
 ) -> Option<Nm>
-    requires tried { IsTried copper layer }
+    requires same { facings_of faced.now ≡ facings kind layer a.now b.now }
     requires least { IsLength least }
     ensures { MatchOption result (¬ (TooNear kind layer a.now b.now least)) (λ gap. TooNear kind layer a.now b.now least × IsGap (KeepAt kind layer a.now b.now) least gap) }
 {
@@ -57,11 +59,11 @@ fn gap_if_near(
     if least == 0 && !yards {
         return None;
     }
-    let gap = gap_at(copper, kind, layer, a, b, least);
+    let gap = gap_at(faced, kind, layer, a, b, least);
     if gap < least {
         return Some(gap);
     }
-    if yards && meet_at(copper, kind, layer, a, b) {
+    if yards && meet_at(faced, kind, layer, a, b) {
         Some(gap)
     } else {
         None
@@ -76,7 +78,8 @@ fn near_at(view: &CheckView, kind: Kind, pair: Pair<'_>, layer: RowLayer) -> Opt
     ensures { MatchOption result (¬ (IsNearAt (deciders (checked_by view.now)) kind (pair_of pair.entry) layer))
         (λ near. (near.layer ≡ layer) × IsNear (deciders (checked_by view.now)) kind (pair_of pair.entry) near) }
 {
-    if !may_face(kind, layer, pair.a, pair.b) {
+    let faced = facings_at(kind, layer, pair.a, pair.b);
+    if !may_face(&faced, kind, layer, pair.a, pair.b) {
         return None;
     }
     let mins = view.classes.mins();
@@ -91,26 +94,18 @@ fn near_at(view: &CheckView, kind: Kind, pair: Pair<'_>, layer: RowLayer) -> Opt
     if !counts(picked.severity) {
         return None;
     }
-    let copper = view.board.copper();
-    let gap = gap_if_near(copper, kind, layer, pair.a, pair.b, picked.least)?;
+    let gap = gap_if_near(&faced, kind, layer, pair.a, pair.b, picked.least)?;
     Some(Near { layer, picked, gap })
 }
 
-// The first layer on which the two are too near. Most pairs are told before any layer is tried.
-fn first_near(view: &CheckView, asked: Asked, kind: Kind, pair: Pair<'_>) -> Option<Near>
+// The first layer on which the two are too near. No layer is tried before the first on which they face each other, or after the last.
+fn first_near(view: &CheckView, kind: Kind, pair: Pair<'_>) -> Option<Near>
     requires few { length view.now.rules.now < 4294967295 }
-    requires asked { IsNoteOf (deciders (checked_by view.now)) asked }
     requires measured { IsTrue (is_between_two kind) }
     ensures { MatchOption result (HoldsNowhere view.now.board.now.copper (IsNearAt (deciders (checked_by view.now)) kind (pair_of pair.entry)))
         (λ near. IsNear (deciders (checked_by view.now)) kind (pair_of pair.entry) near × IsFirst view.now.board.now.copper (IsNearAt (deciders (checked_by view.now)) kind (pair_of pair.entry)) near.layer) }
 {
-    if !asked.has(kind) {
-        return None;
-    }
-    if !face_somewhere(kind, pair.a, pair.b) {
-        return None;
-    }
-    let places = places_of(kind);
+    let places = places_between(kind, pair.a, pair.b);
     for place in places.from..places.to {
         if let Some(layer) = tried_at(view.board.copper(), place) {
             if let Some(near) = near_at(view, kind, pair, layer) {
@@ -121,17 +116,23 @@ fn first_near(view: &CheckView, asked: Asked, kind: Kind, pair: Pair<'_>) -> Opt
     None
 }
 
+// Whether the two meet on the layer.
+fn meet_on(kind: Kind, layer: RowLayer, a: &Item, b: &Item) -> bool
+    requires { IsInStack layer }
+    ensures { IsTrue result ↔ MeetAt kind layer a.now b.now }
+{
+    let faced = facings_at(kind, layer, a, b);
+    meet_at(&faced, kind, layer, a, b)
+}
+
 // The first layer on which the two meet.
 fn first_meeting(copper: LayerSet, kind: Kind, a: &Item, b: &Item) -> Option<RowLayer>
     ensures { MatchOption result (HoldsNowhere copper (λ layer. MeetAt kind layer a.now b.now)) (IsFirst copper (λ layer. MeetAt kind layer a.now b.now)) }
 {
-    if !face_somewhere(kind, a, b) {
-        return None;
-    }
-    let places = places_of(kind);
+    let places = places_between(kind, a, b);
     for place in places.from..places.to {
         if let Some(layer) = tried_at(copper, place) {
-            if may_face(kind, layer, a, b) && meet_at(copper, kind, layer, a, b) {
+            if meet_on(kind, layer, a, b) {
                 return Some(layer);
             }
         }
@@ -164,26 +165,16 @@ fn meeting_row(view: &CheckView, kind: Kind, first: u32, second: u32, pair: Pair
 }
 
 // That the two are too near.
-fn near_row(
-    view: &CheckView,
-    asked: Asked,
-    kind: Kind,
-    first: u32,
-    second: u32,
-    pair: Pair<'_>,
-) -> Option<Row>
+fn near_row(view: &CheckView, kind: Kind, first: u32, second: u32, pair: Pair<'_>) -> Option<Row>
     requires few { length view.now.rules.now < 4294967295 }
-    requires asked { IsNoteOf (deciders (checked_by view.now)) asked }
     requires measured { IsTrue (is_between_two kind) }
     requires place { IsGivenPlace (deciders (checked_by view.now)) kind (pair_of pair) }
+    requires compared { IsTrue (is_compared kind pair.a.now pair.b.now) }
     requires ordered { first < second }
     ensures { MatchOption result ((row : PlainRow) → ¬ (IsOfKind (IsOfPair (deciders (checked_by view.now)) (pair_of pair.entry) first second) kind row))
         (λ row. IsOfKind (IsOfPair (deciders (checked_by view.now)) (pair_of pair.entry) first second) kind row) }
 {
-    if !is_compared(kind, pair.a, pair.b) {
-        return None;
-    }
-    let near = first_near(view, asked, kind, pair)?;
+    let near = first_near(view, kind, pair)?;
     Some(Row {
         first,
         second,
@@ -198,6 +189,32 @@ fn near_row(
 }
 
 // Appends the row of a kind that measures, if the two break it.
+#[inline(never)]
+fn add_measured(
+    view: &CheckView,
+    kind: Kind,
+    first: u32,
+    second: u32,
+    pair: Pair<'_>,
+    rows: &mut PairRows,
+)
+    requires few { length view.now.rules.now < 4294967295 }
+    requires measured { IsTrue (is_between_two kind) }
+    requires place { IsGivenPlace (deciders (checked_by view.now)) kind (pair_of pair) }
+    requires compared { IsTrue (is_compared kind pair.a.now pair.b.now) }
+    requires ordered { first < second }
+    requires room { length rows.old < 8 }
+    requires below { AreRowsBelow (IsOfPair (deciders (checked_by view.now)) (pair_of pair) first second) (kind_number kind) rows.old }
+    ensures rows { AreRowsBelow (IsOfPair (deciders (checked_by view.now)) (pair_of pair.entry) first second) (kind_number kind + 1) rows.new }
+    ensures count { length rows.new ≤ length rows.old + 1 }
+{
+    if let Some(row) = near_row(view, kind, first, second, pair) {
+        rows.push(row);
+    }
+}
+
+// As `add_measured`, where anything is asked of the kind and the two are compared for it.
+#[inline(always)]
 fn add_near(
     view: &CheckView,
     asked: Asked,
@@ -217,8 +234,8 @@ fn add_near(
     ensures rows { AreRowsBelow (IsOfPair (deciders (checked_by view.now)) (pair_of pair.entry) first second) (kind_number kind + 1) rows.new }
     ensures count { length rows.new ≤ length rows.old + 1 }
 {
-    if let Some(row) = near_row(view, asked, kind, first, second, pair) {
-        rows.push(row);
+    if asked.has(kind) && is_compared(kind, pair.a, pair.b) {
+        add_measured(view, kind, first, second, pair, rows);
     }
 }
 

@@ -21,7 +21,7 @@ pub(crate) fn counts(severity: Severity) -> bool
 }
 
 /// What one item or two items of a board break. Contracts see it as the record of what its readers give. It is made in this
-/// crate alone.
+/// crate alone. `==` holds of two rows exactly where they are the same.
 #[derive(Clone, Copy, Debug)]
 pub struct Row {
     pub(crate) first: u32,

@@ -3,21 +3,25 @@
 ghost use Rattle.std.specs.Prelude.{◌≡◌, ◌↔◌, ◌+◌, ◌<◌, ◌≤◌, ℤ, pos, ◌*ℤ◌, ◌≤ℤ◌, Bool, IsTrue, IsSome, IfSome, None, length, MatchOption, if◌then◌else◌};
 ghost use Rattle.std.specs.Option.{option_map};
 ghost use Rattle.drc_io.specs.Lengths.{IsLength};
+ghost use Rattle.board_items.specs.declared.item.Item.{Item};
 ghost use Rattle.board_items.specs.Boards.{item_at};
 ghost use Rattle.cond_lang.specs.Kinds.{kind_number};
 ghost use Rattle.rule_pick.specs.FactsOf.{SomeOn};
 ghost use Rattle.rule_pick.specs.Picks.{pick_of};
 ghost use Rattle.pair_check.specs.PlainRow.{PlainRow, IsWithin};
-ghost use Rattle.pair_check.specs.Layers.{IsTried, IsFirst};
+ghost use Rattle.pair_check.specs.declared.layer.RowLayer.{RowLayer};
+ghost use Rattle.pair_check.specs.Layers.{rank, IsTried, IsFirst};
 ghost use Rattle.pair_check.specs.Singles.{LiesAt, IsAskedAt, IsOnCopper, IsMeasuredAt, ring_of, track_width, via_size, length_of, times, BreaksLimit, IsQuotient, bans_what, bans_item, Forbids, IsOffAt, IsForbiddenAt};
 ghost use Rattle.pair_check.specs.Rows.{deciders, Stands, AreRowsWhere, AreRowsOfItem};
 ghost use Rattle.pair_check.specs.Views.{checked_by, IsWhole};
 ghost use Rattle.pair_check.specs.Stages.{is_limit, is_ban, HoldsNowhere, IsOff, IsForbidden, IsOfSingle, IsOfKind, AreRowsBelow};
 
+use crate::asked::some_asks;
+use crate::faces::{layers_of, places_in};
 use crate::found::{Forbidden, Limit, Off, Single};
 use crate::layer::RowLayer;
 use crate::pair_rows::PairRows;
-use crate::places::{places_of, tried_at};
+use crate::places::{Places, places_of, tried_at};
 use crate::row::{Row, counts};
 use crate::view::CheckView;
 use board_items::{Item, LayerSet, Nm, Part, What};
@@ -31,7 +35,7 @@ pub fn single_at<'a>(view: &CheckView<'a>, id: u32) -> Option<Single<'a>>
     ensures { MatchOption result (item_at (checked_by view.now).board.items id ≡ None) (λ s. Stands (checked_by view.now) id s.item.now s.facts.now) }
 {
     let item = view.board.get(id)?;
-    let facts = view.facts.get(&id)?;
+    let facts = view.facts.get(id)?;
     Some(Single { item, facts })
 }
 
@@ -116,6 +120,17 @@ fn is_measured_at(copper: LayerSet, kind: Kind, item: &Item, layer: RowLayer) ->
     match kind {
         Kind::TrackWidth => is_on_copper(copper, item.copper.as_slice(), layer),
         _ => is_nowhere(layer),
+    }
+}
+
+// The places of all layers on which the kind is measured.
+fn places_measured(kind: Kind, parts: &[Part]) -> Places
+    ensures bound { result.to ≤ 35 }
+    ensures each { (item : Item) → item.copper ≡ parts.now → IsTrue (is_limit kind) → (layer : RowLayer) → IsMeasuredAt kind item layer → (result.from ≤ rank layer) × (rank layer < result.to) }
+{
+    match kind {
+        Kind::TrackWidth => places_in(layers_of(parts)),
+        _ => Places { from: 34, to: 35 },
     }
 }
 
@@ -258,7 +273,7 @@ fn off_at(view: &CheckView, kind: Kind, single: Single<'_>, n: Nm, layer: RowLay
     })
 }
 
-// The first layer on which a limit is broken.
+// The first layer on which a limit is broken. Only places where the kind is measured are tried.
 fn first_off(view: &CheckView, kind: Kind, single: Single<'_>, n: Nm) -> Option<Off>
     requires few { length view.now.rules.now < 4294967295 }
     requires limit { IsTrue (is_limit kind) }
@@ -267,7 +282,7 @@ fn first_off(view: &CheckView, kind: Kind, single: Single<'_>, n: Nm) -> Option<
         (λ off. IsOff (deciders (checked_by view.now)) kind single.entry.facts.now n off × IsFirst view.now.board.now.copper (IsOffAt (deciders (checked_by view.now)) kind single.entry.item.now single.entry.facts.now n) off.layer) }
     ensures range { IfSome result (λ off. IsLength off.limit.nm) }
 {
-    let places = places_of(kind);
+    let places = places_measured(kind, single.item.copper.as_slice());
     for place in places.from..places.to {
         if let Some(layer) = tried_at(view.board.copper(), place) {
             if let Some(off) = off_at(view, kind, single, n, layer) {
@@ -421,7 +436,8 @@ fn add_limit(view: &CheckView, kind: Kind, id: u32, single: Single<'_>, rows: &m
 }
 
 // Appends the row of a kind that forbids, if the item is forbidden.
-fn add_ban(view: &CheckView, kind: Kind, id: u32, single: Single<'_>, rows: &mut PairRows)
+#[inline(never)]
+fn add_forbidden(view: &CheckView, kind: Kind, id: u32, single: Single<'_>, rows: &mut PairRows)
     requires few { length view.now.rules.now < 4294967295 }
     requires ban { IsTrue (is_ban kind) }
     requires room { length rows.old < 8 }
@@ -431,6 +447,21 @@ fn add_ban(view: &CheckView, kind: Kind, id: u32, single: Single<'_>, rows: &mut
 {
     if let Some(row) = ban_row(view, kind, id, single) {
         rows.push(row);
+    }
+}
+
+// As `add_forbidden`; where no rule asks for the kind nothing is forbidden.
+#[inline(always)]
+fn add_ban(view: &CheckView, kind: Kind, id: u32, single: Single<'_>, rows: &mut PairRows)
+    requires few { length view.now.rules.now < 4294967295 }
+    requires ban { IsTrue (is_ban kind) }
+    requires room { length rows.old < 8 }
+    requires below { AreRowsBelow (IsOfSingle (deciders (checked_by view.now)) single.item.now single.facts.now id) (kind_number kind) rows.old }
+    ensures rows { AreRowsBelow (IsOfSingle (deciders (checked_by view.now)) single.entry.item.now single.entry.facts.now id) (kind_number kind + 1) rows.new }
+    ensures count { length rows.new ≤ length rows.old + 1 }
+{
+    if some_asks(view.rules, kind) {
+        add_forbidden(view, kind, id, single, rows);
     }
 }
 

@@ -5,15 +5,14 @@ ghost use Rattle.std.specs.Prelude.{◌≡◌};
 use board_items::Board;
 use cond_lang::Rule;
 use net_class::Classes;
-use rule_pick::Facts;
-use std::collections::BTreeMap;
+use rule_pick::FactsById;
 
 /// A board with the facts of its items, by their ids, and the rules and classes by which it is checked. The facts are those
 /// that the items have under these classes (`specs/Views`), which each call that takes a view asks for.
 #[derive(Clone, Copy)]
 pub struct CheckView<'a> {
     pub board: &'a Board,
-    pub facts: &'a BTreeMap<u32, Facts>,
+    pub facts: &'a FactsById,
     pub rules: &'a [Rule],
     pub classes: &'a Classes,
 }

@@ -11,4 +11,4 @@ pub returns : goal.returns
 returns c =
     let is = gap_same (passed_length c.args.most c.requires.most.from c.requires.most.to) refl c.gap_of.ensures in
     gap_same refl (sym (passed_length c.gap_of.result is.from (omega (arith, ints, is.to, c.requires.most.to))))
-    (subst (λ (fs : List Facing). IsGap (AllFacingsKeep fs) c.args.most c.gap_of.result) c.facings_at.ensures is)
+    (subst (λ (fs : List Facing). IsGap (AllFacingsKeep fs) c.args.most c.gap_of.result) c.requires.same is)

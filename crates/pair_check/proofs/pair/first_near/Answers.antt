@@ -6,8 +6,7 @@ use Rattle.pair_check.specs.Pairs.{IsNearAt}
 use Rattle.pair_check.specs.Rows.{deciders}
 use Rattle.pair_check.specs.Views.{checked_by}
 use Rattle.pair_check.specs.Stages.{pair_of}
-use Rattle.pair_check.proofs.NearLayers.{near_layer}
-use Rattle.pair_check.proofs.Unfaced.{near_nowhere}
+use Rattle.pair_check.proofs.Unfaced.{near_within}
 use Rattle.pair_check.proofs.TriedLayers.{none_at_start, none_in_none, none_here, none_untried, first_here, tried_in, untried_in}
 use Rattle.pair_check.proofs.pair.first_near.Goals.{in-Some+in_default-near_at, in_default}
 use Rattle.pair_check.proofs.pair.first_near.Goals as goal
@@ -16,9 +15,9 @@ pub loop-place-init : goal.loop-place-init
 loop-place-init c =
     let d = deciders (checked_by c.args.view.now) in
     let p = c.args.pair in
-    let places = c.places_of-places.result in
+    let places = c.places_between-places.result in
     none_at_start d.copper (IsNearAt d c.args.kind (pair_of p)) places.from places.to
-    (record { within = λ layer is n. c.places_of-places.ensures.all layer (near_layer d.copper c.args.kind layer p.a.now p.b.now n.pick.least is n.near) })
+    (record { within = λ layer is n. near_within c.args.kind p.a.now p.b.now n.pick.least places.from places.to layer (c.places_between-places.ensures.each d.copper layer is) n.near })
 
 pub loop-place-preserved : goal.loop-place-preserved
 loop-place-preserved c =
@@ -34,9 +33,9 @@ pub returns : goal.returns
 returns c =
     let d = deciders (checked_by c.args.view.now) in
     let p = c.args.pair in
-    let places = c.places_of-places.result in
+    let places = c.places_between-places.result in
     none_in_none d.copper (IsNearAt d c.args.kind (pair_of p)) places.from places.to c.loop-place.place
-    (record { within = λ layer is n. c.places_of-places.ensures.all layer (near_layer d.copper c.args.kind layer p.a.now p.b.now n.pick.least is n.near) }) c.loop-place-test.false c.loop-place.invariant
+    (record { within = λ layer is n. near_within c.args.kind p.a.now p.b.now n.pick.least places.from places.to layer (c.places_between-places.ensures.each d.copper layer is) n.near }) c.loop-place-test.false c.loop-place.invariant
 
 pub returns-in-Some-near_at : goal.returns-in-Some-near_at
 returns-in-Some-near_at c =
@@ -49,9 +48,3 @@ returns-in-Some-near_at c =
       first_here d.copper (IsNearAt d c.args.kind (pair_of c.args.pair)) c.loop-place.place near.layer (ap rank found.0 ∙ c.in-Some.ensures.0) (subst (λ (l : RowLayer). IsTried d.copper l) (sym found.0) tried)
           (record { pick = pick_of near.picked; picked = is.picked; counts = is.counts; near = is.too_near }) c.loop-place.invariant,
     )
-
-pub returns-then-not-has : goal.returns-then-not-has
-returns-then-not-has c = let nothing = c.requires.asked.each c.args.kind (sym c.has.ensures ∙ c.if-not-has.true) in record { none = λ layer is n. nothing.none (pair_of c.args.pair) layer n }
-
-pub returns-then-not-face_somewhere : goal.returns-then-not-face_somewhere
-returns-then-not-face_somewhere c = near_nowhere (deciders (checked_by c.args.view.now)) c.args.kind (pair_of c.args.pair) (c.face_somewhere.ensures c.if-not-face_somewhere.true)

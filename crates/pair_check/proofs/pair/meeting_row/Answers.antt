@@ -1,4 +1,4 @@
-use Rattle.std.proofs.Common.{◌≡◌, refl, sym, ◌∙◌, pos, IsTrue, arith}
+use Rattle.std.proofs.Common.{refl, sym, ◌∙◌, IsTrue, arith}
 use Rattle.std.proofs.lemmas.Int.{ints}
 use Rattle.pair_check.specs.declared.layer.RowLayer.{RowLayer}
 use Rattle.pair_check.specs.Facing.{MeetAt}

@@ -1,7 +1,7 @@
-use Rattle.std.proofs.Common.{◌≡◌, ℤ, refl, sym, ap, subst, Some}
+use Rattle.std.proofs.Common.{ℤ, refl, sym, ap, subst, Some}
 use Rattle.rule_pick.specs.Picks.{Pick, pick_of}
 use Rattle.rule_pick.proofs.OnePick.{one_pick}
-use Rattle.int_algebra.proofs.Scalars.{passed, passed_length}
+use Rattle.int_algebra.proofs.Scalars.{passed_length}
 use Rattle.pair_check.specs.Layers.{asked_layer}
 use Rattle.pair_check.specs.Facing.{KeepAt, TooNear}
 use Rattle.pair_check.specs.Pairs.{IsPickOf}

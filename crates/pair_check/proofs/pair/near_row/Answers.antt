@@ -1,5 +1,3 @@
-use Rattle.std.proofs.Common.{◌≡◌, refl, sym, ◌∙◌, ℤ, pos, IsTrue, arith}
-use Rattle.std.proofs.lemmas.Int.{ints}
 use Rattle.pair_check.specs.Rows.{deciders}
 use Rattle.pair_check.specs.Views.{checked_by}
 use Rattle.pair_check.proofs.Lengths.{passed_is_length, passed_gap_within}

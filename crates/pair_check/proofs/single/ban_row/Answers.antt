@@ -1,4 +1,4 @@
-use Rattle.std.proofs.Common.{refl, pos, arith}
+use Rattle.std.proofs.Common.{refl, arith}
 use Rattle.std.proofs.lemmas.Int.{ints}
 use Rattle.rule_pick.specs.Picks.{pick_of}
 use Rattle.pair_check.specs.Rows.{deciders}

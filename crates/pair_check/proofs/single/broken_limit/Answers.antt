@@ -1,5 +1,3 @@
-use Rattle.std.proofs.Common.{◌≡◌, ℤ, Option, Some}
-use Rattle.drc_io.specs.Lengths.{IsLength, IsLengthIfSome}
 use Rattle.pair_check.proofs.Lengths.{passed_is_length, length_if}
 use Rattle.pair_check.proofs.single.broken_limit.Goals as goal
 

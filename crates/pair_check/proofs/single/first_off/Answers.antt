@@ -1,14 +1,13 @@
-use Rattle.std.proofs.Common.{◌≡◌, sym, ap, subst, ◌∙◌, ℕ, ℤ, ◌+◌}
+use Rattle.std.proofs.Common.{sym, ap, subst, ◌∙◌, ℤ}
 use Rattle.rule_pick.specs.Picks.{pick_of}
 use Rattle.int_algebra.proofs.Scalars.{passed}
 use Rattle.pair_check.specs.declared.layer.RowLayer.{RowLayer}
-use Rattle.pair_check.specs.Layers.{rank, IsTried, IsFirst}
+use Rattle.pair_check.specs.Layers.{rank, IsTried}
 use Rattle.pair_check.specs.Singles.{IsMeasuredAt, IsOffAt}
 use Rattle.pair_check.specs.Rows.{deciders}
 use Rattle.pair_check.specs.Views.{checked_by}
 use Rattle.pair_check.specs.Stages.{IsOff}
 use Rattle.pair_check.proofs.Lengths.{within_passed}
-use Rattle.pair_check.proofs.RowsOfSingle.{limit_layer}
 use Rattle.pair_check.proofs.TriedLayers.{NoneBefore, none_at_start, none_in_none, none_here, none_untried, first_here, tried_in, untried_in}
 use Rattle.pair_check.proofs.single.first_off.Goals.{in-Some+in_default-off_at, in_default}
 use Rattle.pair_check.proofs.single.first_off.Goals as goal
@@ -17,9 +16,9 @@ pub loop-place-init : goal.loop-place-init
 loop-place-init c =
     let d = deciders (checked_by c.args.view.now) in
     let s = c.args.single in
-    let places = c.places_of-places.result in
+    let places = c.places_measured-places.result in
     none_at_start d.copper (IsOffAt d c.args.kind s.item.now s.facts.now (passed c.args.n)) places.from places.to
-    (record { within = λ layer is n. c.places_of-places.ensures.all layer (limit_layer d.copper c.args.kind s.item.now layer c.requires.limit is n.asked) })
+    (record { within = λ layer is n. c.places_measured-places.ensures.each s.item.now (sym c.as_slice.ensures) c.requires.limit layer n.asked })
 
 pub loop-place-preserved : goal.loop-place-preserved
 loop-place-preserved c =
@@ -36,11 +35,11 @@ pub returns-clause-broken : goal.returns-clause-broken
 returns-clause-broken c =
     let d = deciders (checked_by c.args.view.now) in
     let s = c.args.single in
-    let places = c.places_of-places.result in
+    let places = c.places_measured-places.result in
     let before : NoneBefore d.copper (IsOffAt d c.args.kind s.item.now s.facts.now c.args.n) c.loop-place.place =
     subst (λ (z : ℤ). NoneBefore d.copper (IsOffAt d c.args.kind s.item.now s.facts.now z) c.loop-place.place) (within_passed c.args.n c.requires.within) c.loop-place.invariant in
     none_in_none d.copper (IsOffAt d c.args.kind s.item.now s.facts.now c.args.n) places.from places.to c.loop-place.place
-    (record { within = λ layer is n. c.places_of-places.ensures.all layer (limit_layer d.copper c.args.kind s.item.now layer c.requires.limit is n.asked) }) c.loop-place-test.false before
+    (record { within = λ layer is n. c.places_measured-places.ensures.each s.item.now (sym c.as_slice.ensures) c.requires.limit layer n.asked }) c.loop-place-test.false before
 
 pub returns-in-Some-off_at-clause-broken : goal.returns-in-Some-off_at-clause-broken
 returns-in-Some-off_at-clause-broken c =

@@ -1,5 +1,4 @@
-use Rattle.std.proofs.Common.{◌≡◌, refl, sym, ap, subst, ◌∙◌, ℤ, pos, Some, arith}
-use Rattle.std.proofs.lemmas.Int.{ints}
+use Rattle.std.proofs.Common.{refl, sym, ap, subst, ◌∙◌, ℤ, Some}
 use Rattle.rule_pick.specs.Picks.{pick_of}
 use Rattle.int_algebra.proofs.Scalars.{passed, passed_length}
 use Rattle.pair_check.specs.Singles.{times, BreaksLimit, IsQuotient}

@@ -10,7 +10,7 @@ pub returns : goal.returns
 returns c =
     let view = c.args.view.now in
     let item = c.in_ok-item.ensures.found in
-    let facts = c.requires.facts.right c.args.id c.in_ok-facts.facts.now (sym c.in_ok-facts.ensures.value) in
+    let facts = c.requires.facts.right c.args.id c.in_ok-facts.facts.now (sym c.in_ok-facts.ensures) in
     record {
       item_is = sym item;
       facts_are = subst (λ (i : Item). AreFactsOf view.board.now view.classes.now i c.in_ok-facts.facts.now) (some_once _ facts.item c.in_ok-item.item.now facts.stands (sym item)) facts.facts_of;

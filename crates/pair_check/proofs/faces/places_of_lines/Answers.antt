@@ -1,0 +1,15 @@
+use Rattle.std.proofs.Common.{sym, ◌∙◌}
+use Rattle.cond_lang.specs.declared.kind.Kind.TheVariants.{EdgeClearance}
+use Rattle.pair_check.proofs.Unfaced.{edge_within, kind_within}
+use Rattle.pair_check.proofs.faces.places_of_lines.Goals.{then-has_lines, else-has_lines}
+use Rattle.pair_check.proofs.faces.places_of_lines.Goals as goal
+
+pub returns-then-has_lines-2-clause-each : goal.returns-then-has_lines-2-clause-each
+returns-then-has_lines-2-clause-each c = λ copper layer is.
+    kind_within EdgeClearance c.args.a.now c.args.b.now c.places_of.result.from c.places_of.result.to c.places_of.ensures.all copper layer is
+
+pub returns-else-has_lines-2-clause-each : goal.returns-else-has_lines-2-clause-each
+returns-else-has_lines-2-clause-each c = elim c.if-has_lines.branch [
+  | then-has_lines w ↦ λ copper layer is. absurd (cc)
+  | else-has_lines w ↦ λ copper layer is. edge_within c.args.a.now c.args.b.now 0 0 (c.has_lines.ensures w.if-has_lines.false) (w.has_lines-else-has_lines.ensures (sym w.value-is ∙ c.if-has_lines-2.false)) layer
+]
