@@ -9,3 +9,4 @@ pub mod LeftItems
 pub mod Picked
 pub mod Marked
 pub mod SoFar
+pub mod Alone

@@ -1,9 +1,7 @@
 -- What an item meets of an area or a body has a box that meets its own.
-use Rattle.std.proofs.Common.{◌≡◌, ◌≢◌, inl, inr, refl, sym, subst, ℕ, true, List, [], ◌∷◌, ◌++◌, Contains, Option, Some, arith}
+use Rattle.std.proofs.Common.{◌≡◌, ◌≢◌, inl, inr, refl, sym, subst, ℕ, true, List, [], ◌∷◌, ◌++◌, Contains, Option, arith}
 use Rattle.std.specs.List.{Any}
 use Rattle.std.proofs.lemmas.List.Elements.{Contains-append_left, Contains-append_right}
-use Rattle.geo_seg.specs.declared.boxes.Bounds.{Bounds}
-use Rattle.geo_seg.specs.Boxes.{BoxesMeet}
 use Rattle.geo_seg.specs.Distances.{Meet}
 use Rattle.board_items.specs.declared.parts.Part.{Part}
 use Rattle.board_items.specs.declared.item.Hole.{Hole}
@@ -14,9 +12,9 @@ use Rattle.board_items.specs.Boards.{is_mark}
 use Rattle.board_items.specs.Layers.{has_layer}
 use Rattle.board_items.specs.Copper.{PartsMeet, on_layer}
 use Rattle.board_items.specs.Parts.{parts_of, hole_parts, kind_parts}
-use Rattle.board_items.specs.Extents.{AreBoundsOf}
 use Rattle.item_copper.proofs.Meeting.{any_of_chosen}
 use Rattle.item_copper.proofs.Rooms.{parts_meet}
+use Rattle.item_facts.specs.Near.{IsNear}
 use Rattle.rule_pick.specs.FactsOf.{placed_parts, parts_asked, MeetsPart, MeetsArea, MeetsEither, MeetsCourtyard}
 
 -- a part of the one list and a part of the other meet
@@ -87,13 +85,6 @@ courtyard_meeting item (what.Body reference front back on_back) name m = (refl, 
 courtyard_meeting item _ name m = absurd m
 
 -- ---- boxes
-
--- the other is an area or a body, with a box that meets each box of the item
-pub record IsNear (item other : Item) : Type 0 where
-  pub mark : is_mark other.what ≡ true
-  pub own : parts_of item ≢ []
-  pub parts : parts_of other ≢ []
-  pub boxes : (b c : Bounds) → AreBoundsOf (parts_of item) (Some b) → AreBoundsOf (parts_of other) (Some c) → BoxesMeet b c
 
 not_empty : (ps : List Part) (part : Part) → Contains ps part → ps ≢ []
 not_empty ps part c e = nothing (subst (λ (qs : List Part). Contains qs part) e c)

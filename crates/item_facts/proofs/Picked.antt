@@ -9,6 +9,7 @@ use Rattle.board_items.specs.Boards.{Rise, item_at}
 use Rattle.rule_pick.specs.FactsOf.{AreNamesOf}
 use Rattle.item_facts.specs.Near.{DoRise, entry_if, picked}
 use Rattle.item_facts.proofs.LeftItems.{none_below, at_head, past_head}
+use Rattle.item_facts.proofs.NearIds.{lower}
 
 contains_cases : (x : ℕ) (xs : List ℕ) (y : ℕ) → Contains (x ∷ xs) y → (x ≡ y) ⊎ Contains xs y
 contains_cases x xs y c = by_place c.0 c.1 c.2
@@ -24,10 +25,6 @@ not_under low (x ∷ ids) h id c = elim (contains_cases x ids id c) [
   | inl same ↦ omega (arith, h.0, same)
   | inr later ↦ let le = not_under (x + 1) ids h.1 id later in omega (arith, h.0)
 ]
-
-lower : (low high : ℕ) (ids : List ℕ) → low ≤ high → DoRise high ids → DoRise low ids
-lower low high [] le h = tt
-lower low high (x ∷ ids) le h = let first = h.0 in (omega arith, h.1)
 
 -- ids above the head are sought behind it
 picked_behind : (entry : ℕ × Item) (items : List (ℕ × Item)) (ids : List ℕ) → DoRise (entry.0 + 1) ids → picked (entry ∷ items) ids ≡ picked items ids
@@ -51,7 +48,7 @@ module _ (Gives : What → List ℕ → Type 0) where
   abbrev pub Covers : List (ℕ × Item) → List ℕ → Type 0
   Covers items ids = (id : ℕ) (item : Item) → item_at items id ≡ Some item → (name : List ℕ) → Gives item.what name → Contains ids id
 
-  skipped : (entry : ℕ × Item) (left : List (ℕ × Item)) (names : List (List ℕ)) → ((name : List ℕ) → ¬ (Gives entry.1.what name)) → AreNamesOf Gives left names → AreNamesOf Gives (entry ∷ left) names
+  pub skipped : (entry : ℕ × Item) (left : List (ℕ × Item)) (names : List (List ℕ)) → ((name : List ℕ) → ¬ (Gives entry.1.what name)) → AreNamesOf Gives left names → AreNamesOf Gives (entry ∷ left) names
   skipped entry left [] none a = (none, a)
   skipped entry left (name ∷ names) none a = inr (none, a)
 
@@ -76,7 +73,7 @@ module _ (Gives : What → List ℕ → Type 0) where
       differ e f = cc
 
   -- the head gives the first name, or none
-  head_kept : (entry : ℕ × Item) (left items : List (ℕ × Item)) (names : List (List ℕ)) → ((rest : List (List ℕ)) → AreNamesOf Gives left rest → AreNamesOf Gives items rest) → AreNamesOf Gives (entry ∷ left) names → AreNamesOf Gives (entry ∷ items) names
+  pub head_kept : (entry : ℕ × Item) (left items : List (ℕ × Item)) (names : List (List ℕ)) → ((rest : List (List ℕ)) → AreNamesOf Gives left rest → AreNamesOf Gives items rest) → AreNamesOf Gives (entry ∷ left) names → AreNamesOf Gives (entry ∷ items) names
   head_kept entry left items [] on a = (a.0, on [] a.1)
   head_kept entry left items (name ∷ names) on (inl a) = inl (a.0, on names a.1)
   head_kept entry left items (name ∷ names) on (inr a) = inr (a.0, on (name ∷ names) a.1)

@@ -1,5 +1,5 @@
 -- Classes of nets that were found, and facts of items that were.
-use Rattle.std.specs.Prelude.{◌≡◌, ◌⊎◌, ℕ, List, Some, IsSome}
+use Rattle.std.specs.Prelude.{◌≡◌, ◌⊎◌, ℕ, List, Option, Some, IsSome}
 use Rattle.std.specs.Ordering.{nat_cmp}
 use Rattle.std.specs.BTreeMap as tree
 use Rattle.std.specs.BTreeMap.{BTreeMap}
@@ -9,6 +9,7 @@ use Rattle.board_items.specs.Boards.{PlainBoard, IsRising, item_at}
 use Rattle.net_class.specs.declared.lengths.Class.{Class}
 use Rattle.net_class.specs.Classes.{PlainClasses}
 use Rattle.net_class.specs.Views.{plain_class}
+use Rattle.rule_pick.specs.ById.{facts_at}
 use Rattle.rule_pick.specs.FactsOf.{class_of_net, AreFacts}
 use Rattle.rule_pick.specs.declared.facts.Facts.{Facts}
 
@@ -22,6 +23,6 @@ pub record AreLeft (items left : List (ℕ × Item)) : Type 0 where
   pub same : (id : ℕ) (item : Item) → item_at left id ≡ Some item → item_at items id ≡ Some item
 
 -- all entries are right, and each item that is not left has one
-pub record HasFactsSoFar (board : PlainBoard) (classes : PlainClasses) (left : List (ℕ × Item)) (facts : BTreeMap ℕ Facts) : Type 0 where
-  pub right : (id : ℕ) (f : Facts) → tree.get nat_cmp facts id ≡ Some f → AreFacts board classes id f
-  pub all : (id : ℕ) (item : Item) → item_at board.items id ≡ Some item → (item_at left id ≡ Some item) ⊎ IsSome (tree.get nat_cmp facts id)
+pub record HasFactsSoFar (board : PlainBoard) (classes : PlainClasses) (left : List (ℕ × Item)) (facts : List (Option Facts)) : Type 0 where
+  pub right : (id : ℕ) (f : Facts) → facts_at facts id ≡ Some f → AreFacts board classes id f
+  pub all : (id : ℕ) (item : Item) → item_at board.items id ≡ Some item → (item_at left id ≡ Some item) ⊎ IsSome (facts_at facts id)

@@ -1,7 +1,7 @@
 -- The areas and bodies near an item, as an index finds them.
-use Rattle.std.specs.Prelude.{◌≡◌, ◌≢◌, ℕ, ◌+◌, ◌<◌, ◌≤◌, true, List, [], ◌∷◌, Contains, Option, None, Some}
+use Rattle.std.specs.Prelude.{◌≡◌, ◌≢◌, ℕ, ◌+◌, ◌<◌, ◌≤◌, Bool, true, false, List, [], ◌∷◌, Contains, Option, None, Some}
 use Rattle.geo_seg.specs.declared.boxes.Bounds.{Bounds}
-use Rattle.geo_seg.specs.Boxes.{do_boxes_meet}
+use Rattle.geo_seg.specs.Boxes.{BoxesMeet, do_boxes_meet}
 use Rattle.board_items.specs.declared.item.Item.{Item}
 use Rattle.board_items.specs.Boards.{item_at, is_mark}
 use Rattle.board_items.specs.Parts.{parts_of}
@@ -19,27 +19,40 @@ abbrev pub DoRise : ℕ → List ℕ → Type 0
 DoRise low [] = Unit {0}
 DoRise low (id ∷ ids) = (low ≤ id) × DoRise (id + 1) ids
 
--- the ids still rise, none is gone, and this one is among them
-pub record IsWith (id : ℕ) (old new : List ℕ) : Type 0 where
-  pub rises : DoRise 0 new
-  pub kept : (other : ℕ) → Contains old other → Contains new other
-  pub has : Contains new id
-
--- the ids still rise, none is gone, and among them is that of each entry whose box meets this one
+-- none is gone, and among them is the id of each of these entries whose box meets this one
 pub record HasMet (box : Bounds) (entries : List Entry) (old new : List ℕ) : Type 0 where
-  pub rises : DoRise 0 new
-  pub kept : (other : ℕ) → Contains old other → Contains new other
+  pub kept : (id : ℕ) → Contains old id → Contains new id
   pub met : (e : Entry) → Contains entries e → do_boxes_meet box e.bounds ≡ true → Contains new e.id
+
+-- the same of boxes that meet, however it is tested
+pub record HasReached (box : Bounds) (entries : List Entry) (old new : List ℕ) : Type 0 where
+  pub kept : (id : ℕ) → Contains old id → Contains new id
+  pub met : (e : Entry) → Contains entries e → BoxesMeet box e.bounds → Contains new e.id
 
 -- ---- tiles
 
 -- what holds when the tiles of an area before this one were asked
-pub record IsWalked (index : PlainIndex) (area : Area) (box : Bounds) (ids : List ℕ) (here : ℕ) : Type 0 where
+pub record IsWalked (index : PlainIndex) (area : Area) (box : Bounds) (old ids : List ℕ) (here : ℕ) : Type 0 where
   pub next : here < end_of area → has_tile area here ≡ true
-  pub rises : DoRise 0 ids
+  pub kept : (id : ℕ) → Contains old id → Contains ids id
   pub met : (tile : ℕ) → tile < here → has_tile area tile ≡ true → (e : Entry) → Contains (near_of index tile) e → do_boxes_meet box e.bounds ≡ true → Contains ids e.id
 
 -- ---- items
+
+abbrev is_mark_if : Option Item → Bool
+is_mark_if None = false
+is_mark_if (Some item) = is_mark item.what
+
+-- whether the id is that of an area or a body
+abbrev pub is_mark_of : List (ℕ × Item) → ℕ → Bool
+is_mark_of items id = is_mark_if (item_at items id)
+
+-- the other item is an area or a body, and its box meets each box of this one
+pub record IsNear (item other : Item) : Type 0 where
+  pub mark : is_mark other.what ≡ true
+  pub own : parts_of item ≢ []
+  pub parts : parts_of other ≢ []
+  pub boxes : (b c : Bounds) → AreBoundsOf (parts_of item) (Some b) → AreBoundsOf (parts_of other) (Some c) → BoxesMeet b c
 
 -- the index has an entry of the item, under its bounds
 pub record HasMark (index : PlainIndex) (id : ℕ) (item : Item) : Type 0 where

@@ -1,26 +1,27 @@
-//! The facts of all items.
+//! The facts of items.
 
-ghost use Rattle.std.specs.Prelude.{◌≡◌, IfOk, OnOk};
+ghost use Rattle.std.specs.Prelude.{◌≡◌, IfOk, OnOk, IsSome};
+ghost use Rattle.board_items.specs.Boards.{IsSound, marks_of, item_at};
 ghost use Rattle.net_class.specs.Classes.{PlainClasses};
 ghost use Rattle.net_class.specs.Views.{plain_class};
-ghost use Rattle.rule_pick.specs.FactsOf.{AreFactsOf, class_of_net};
+ghost use Rattle.rule_pick.specs.FactsOf.{AreFactsOf, AreFacts, class_of_net};
 ghost use Rattle.rule_pick.specs.AllFacts.{HasFacts};
 ghost use Rattle.item_facts.specs.Known.{AreKnown};
-ghost use Rattle.item_facts.specs.Near.{HoldsMarks};
+ghost use Rattle.item_facts.specs.Near.{AreEnough, HoldsMarks};
 
 use crate::classes::class_of_net;
 use crate::names::{areas_near, courtyards_near};
-use crate::near::{gather, index_marks};
+use crate::near::{index_marks, marks_near};
 use crate::of_item::facts_with;
 use board_items::{Board, Item};
 use box_index::TileIndex;
 use net_class::{Class, Classes};
-use rule_pick::Facts;
+use rule_pick::{Facts, FactsById};
 use std::alloc::{AllocError, Global};
 use std::collections::BTreeMap;
 
-// The class of a net, sought once for each net: patterns are dear.
-fn known_class<'c>(
+/// The class of a net, sought once for each net: patterns are dear.
+pub fn known_class<'c>(
     known: &mut BTreeMap<u32, &'c Class>,
     board: &Board,
     classes: &'c Classes,
@@ -38,40 +39,98 @@ fn known_class<'c>(
     Ok(class)
 }
 
-// The facts of an item of this class. `ids` is room for the areas and bodies near it.
-fn facts_near(
+/// The facts of an item of this class, where the ids are enough to ask for the areas and bodies that it meets. Only want of memory
+/// refuses it.
+pub fn facts_among(
     alloc: Global,
     board: &Board,
-    index: &TileIndex,
     class: &Class,
     item: &Item,
-    ids: &mut Vec<u32>,
+    ids: &[u32],
 ) -> Result<Facts, AllocError>
-    requires { HoldsMarks board.now.items index.now }
+    requires { AreEnough item.now board.now.items ids.now }
     ensures { (classes : PlainClasses) → plain_class class.now ≡ class_of_net classes board.now item.now.net → IfOk result (λ facts. AreFactsOf board.now classes item.now facts) }
 {
-    gather(board, index, item, ids)?;
     let areas = areas_near(alloc, board, item, ids)?;
     let courtyards = courtyards_near(alloc, board, item, ids)?;
     facts_with(alloc, board, class, item, areas, courtyards)
 }
 
-/// The facts of all items of the board, by id. Each is asked only against the areas and bodies near it, and the class of each
-/// net is found once. Only want of memory refuses it.
-pub fn all_facts(
+/// The facts of an item, which is asked only against the areas and bodies near it. The index has all areas and bodies of the
+/// board, and may have its other items. `known` are classes of nets that were sought, and `room` is room for ids; a walk over
+/// many items hands both on. Only want of memory refuses it.
+pub fn facts_near<'c>(
+    alloc: Global,
+    board: &Board,
+    classes: &'c Classes,
+    index: &TileIndex,
+    known: &mut BTreeMap<u32, &'c Class>,
+    room: &mut Vec<u32>,
+    item: &Item,
+) -> Result<Facts, AllocError>
+    requires index { HoldsMarks board.now.items index.now }
+    requires known { AreKnown classes.now board.now known.old }
+    ensures known { OnOk result (AreKnown classes.now board.now known.new) }
+    ensures facts { IfOk result (AreFactsOf board.now classes.now item.now) }
+{
+    let class = known_class(known, board, classes, item.net)?;
+    marks_near(board, index, item, room)?;
+    facts_among(alloc, board, class, item, room)
+}
+
+// The ids of all areas and bodies.
+fn all_marks(board: &Board) -> &[u32]
+    ensures marks { result.now ≡ marks_of board.now.items }
+    ensures sound { IsSound board.now }
+{
+    // the board says here that its ids rise
+    let _ = board.left();
+    board.marks()
+}
+
+// The facts of an item, which is asked against all areas and bodies.
+fn facts_of(
     alloc: Global,
     board: &Board,
     classes: &Classes,
-) -> Result<BTreeMap<u32, Facts>, AllocError>
+    item: &Item,
+) -> Result<Facts, AllocError>
+    ensures { IfOk result (AreFactsOf board.now classes.now item.now) }
+{
+    let class = class_of_net(board, classes, item.net);
+    facts_among(alloc, board, class, item, all_marks(board))
+}
+
+/// The facts of the item of this id, which is one of the board's: what rules may ask of it. The titles of the rule areas that
+/// it meets, and the references of the footprints whose courtyards it meets, stand in the order of the items. Only want of
+/// memory refuses it.
+pub fn facts(alloc: Global, board: &Board, classes: &Classes, id: u32) -> Result<Facts, AllocError>
+    requires { IsSome (item_at board.now.items id) }
+    ensures { IfOk result (AreFacts board.now classes.now id) }
+{
+    facts_of(alloc, board, classes, board.get(id).unwrap())
+}
+
+// How many slots the facts of all items take.
+fn slots_of(board: &Board) -> usize {
+    let mut count = 0;
+    for (id, _) in board.iter() {
+        count = id as usize + 1;
+    }
+    count
+}
+
+/// The facts of all items of the board, by id. Each is asked only against the areas and bodies near it, and the class of each
+/// net is found once. Only want of memory refuses it.
+pub fn all_facts(alloc: Global, board: &Board, classes: &Classes) -> Result<FactsById, AllocError>
     ensures { IfOk result (HasFacts board.now classes.now) }
 {
     let index = index_marks(alloc, board)?;
     let mut known = BTreeMap::new(alloc);
-    let mut ids = Vec::new(alloc);
-    let mut all = BTreeMap::new(alloc);
+    let mut room = Vec::new(alloc);
+    let mut all = FactsById::with_room(alloc, slots_of(board))?;
     for (id, item) in board.iter() {
-        let class = known_class(&mut known, board, classes, item.net)?;
-        let facts = facts_near(alloc, board, &index, class, item, &mut ids)?;
+        let facts = facts_near(alloc, board, classes, &index, &mut known, &mut room, item)?;
         all.insert(id, facts)?;
     }
     Ok(all)

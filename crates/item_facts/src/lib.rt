@@ -7,6 +7,7 @@ mod all;
 mod classes;
 mod equality;
 mod kinds;
+pub mod laws;
 mod layers;
 mod lengths;
 mod meets;
@@ -15,7 +16,8 @@ mod near;
 mod of_item;
 mod reaching;
 
-pub use all::all_facts;
+pub use all::{all_facts, facts, facts_among, facts_near, known_class};
 pub use equality::same;
-pub use of_item::facts;
+pub use meets::{area_met, courtyard_met};
+pub use near::marks_near;
 pub use reaching::reach;

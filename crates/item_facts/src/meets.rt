@@ -106,7 +106,7 @@ fn meets_part(item: &Item, area: &Part) -> bool
 }
 
 /// The title of the other item, where it is a rule area that the item meets.
-pub(crate) fn area_met<'o>(item: &Item, other: &'o Item) -> Option<&'o Name>
+pub fn area_met<'o>(item: &Item, other: &'o Item) -> Option<&'o Name>
     ensures { MatchOption result ((name : List ℕ) → ¬ (MeetsArea item.now other.now.what name)) (λ name. MeetsArea item.now other.now.what name.now) }
 {
     match &other.what {
@@ -147,7 +147,7 @@ fn meets_either(item: &Item, front: &[Part], back: &[Part]) -> bool
 }
 
 /// The reference of the other item, where it is a body and the item meets one of its courtyards.
-pub(crate) fn courtyard_met<'o>(item: &Item, other: &'o Item) -> Option<&'o Name>
+pub fn courtyard_met<'o>(item: &Item, other: &'o Item) -> Option<&'o Name>
     ensures { MatchOption result ((name : List ℕ) → ¬ (MeetsCourtyard item.now other.now.what name)) (λ name. MeetsCourtyard item.now other.now.what name.now) }
 {
     match &other.what {

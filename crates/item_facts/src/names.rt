@@ -25,29 +25,7 @@ fn push_if(names: &mut Vec<Name>, name: Option<&Name>) -> Result<(), AllocError>
     }
 }
 
-/// The titles of the areas that the item meets, in the order of their places.
-pub(crate) fn areas_of(alloc: Global, board: &Board, item: &Item) -> Result<Names, AllocError>
-    ensures { IfOk result (λ names. AreNamesOf (MeetsArea item.now) board.now.items names) }
-{
-    let mut names = Vec::new(alloc);
-    for (_, other) in board.iter() {
-        push_if(&mut names, area_met(item, other))?;
-    }
-    Ok(Names::of(names))
-}
-
-/// The references of the bodies whose courtyards the item meets, in the order of their places.
-pub(crate) fn courtyards_of(alloc: Global, board: &Board, item: &Item) -> Result<Names, AllocError>
-    ensures { IfOk result (λ names. AreNamesOf (MeetsCourtyard item.now) board.now.items names) }
-{
-    let mut names = Vec::new(alloc);
-    for (_, other) in board.iter() {
-        push_if(&mut names, courtyard_met(item, other))?;
-    }
-    Ok(Names::of(names))
-}
-
-/// `areas_of`, where the ids are enough to ask.
+/// The titles of the areas that the item meets, in the order of their places, where the ids are enough to ask.
 pub(crate) fn areas_near(
     alloc: Global,
     board: &Board,
@@ -68,7 +46,7 @@ pub(crate) fn areas_near(
     Ok(Names::of(names))
 }
 
-/// `courtyards_of`, where the ids are enough to ask.
+/// The references of the bodies whose courtyards the item meets, in the order of their places, where the ids are enough to ask.
 pub(crate) fn courtyards_near(
     alloc: Global,
     board: &Board,

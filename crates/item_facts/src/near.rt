@@ -1,18 +1,21 @@
-//! The areas and bodies near an item. An index of their boxes tells them, so that an item is not asked against all of them.
+//! The areas and bodies near an item. An index of boxes tells them, so that an item is not asked against all of them.
 
-ghost use Rattle.std.specs.Prelude.{◌≡◌, ℕ, pos, List, IfOk, OnOk, IfSome};
+ghost use Rattle.std.specs.Prelude.{◌≡◌, ℕ, pos, [], Contains, filter, IfOk, OnOk, IfSome};
+ghost use Rattle.std.specs.List.Sorted.{IsStrictlyIncreasing};
 ghost use Rattle.geo_seg.specs.Boxes.{FitsWithin};
-ghost use Rattle.board_items.specs.declared.item.Item.{Item};
-ghost use Rattle.board_items.specs.Boards.{is_mark};
+ghost use Rattle.board_items.specs.Boards.{IsSound, is_mark, marks_of};
 ghost use Rattle.board_items.specs.Parts.{parts_of};
 ghost use Rattle.board_items.specs.Extents.{AreBoundsOf};
 ghost use Rattle.box_index.specs.Tiles.{IsAbsent, near_of};
-ghost use Rattle.item_facts.specs.Near.{DoRise, IsWith, HasMet, HoldsMarks, IsMarked, AreEnough};
+ghost use Rattle.item_facts.specs.Near.{HasMet, HasReached, is_mark_of, HoldsMarks, IsMarked, AreEnough};
 
 use board_items::{Board, Item, What};
 use box_index::{TileIndex, do_boxes_meet};
 use geo_seg::Bounds;
 use std::alloc::{AllocError, Global};
+
+/// How many tiles lie beside one another.
+const LANES: usize = 125;
 
 fn is_mark(what: &What) -> bool
     ensures { result ≡ is_mark what.now }
@@ -53,56 +56,95 @@ pub(crate) fn index_marks(alloc: Global, board: &Board) -> Result<TileIndex, All
     Ok(index)
 }
 
-// Puts an id into its place, unless it is there.
-fn put(ids: &mut Vec<u32>, id: u32) -> Result<(), AllocError>
-    requires { DoRise 0 ids.old.items }
-    ensures { OnOk result (IsWith id ids.old.items ids.new.items) }
-{
-    match ids.binary_search(&id) {
-        Ok(_) => Ok(()),
-        Err(place) => {
-            ids.insert(place, id)?;
-            Ok(())
-        }
-    }
-}
-
-// Puts the ids of a tile's entries in whose boxes meet this one.
-fn visit_tile(
+// Appends the ids of a tile's entries whose boxes meet this one.
+fn push_tile(
     index: &TileIndex,
     tile: u32,
     bounds: Bounds,
     ids: &mut Vec<u32>,
 ) -> Result<(), AllocError>
-    requires { DoRise 0 ids.old.items }
     ensures { OnOk result (HasMet bounds (near_of index.now tile) ids.old.items ids.new.items) }
 {
     for entry in index.near(tile) {
         if do_boxes_meet(bounds, entry.bounds) {
-            put(ids, entry.id)?;
+            ids.push(entry.id)?;
         }
     }
     Ok(())
 }
 
-// Asks each tile that the box meets.
-fn visit_tiles(index: &TileIndex, bounds: Bounds, ids: &mut Vec<u32>) -> Result<(), AllocError>
-    requires rises { DoRise 0 ids.old.items }
-    requires fits { FitsWithin (pos 2000000000) bounds }
-    ensures { (items : List (ℕ × Item)) (item : Item) → HoldsMarks items index.now → AreBoundsOf (parts_of item) (Some bounds) → OnOk result (AreEnough item items ids.new.items) }
+// Appends the ids of all entries whose boxes meet this one; an entry of many tiles more than once.
+fn push_near(index: &TileIndex, bounds: Bounds, ids: &mut Vec<u32>) -> Result<(), AllocError>
+    requires { FitsWithin (pos 2000000000) bounds }
+    ensures { OnOk result (HasReached bounds index.now.entries ids.old.items ids.new.items) }
 {
     let area = index.area(bounds);
     let end = area.end();
     let mut tile = area.first();
     'tiles: while tile < end {
-        visit_tile(index, tile as u32, bounds, ids)?;
+        push_tile(index, tile as u32, bounds, ids)?;
         tile = area.after(tile);
     }
     Ok(())
 }
 
-/// Leaves in `ids` those of the areas and bodies whose boxes meet that of the item; rising. An item without bounds meets none.
-pub(crate) fn gather(
+// Puts ids in order, each once. It takes no memory.
+fn put_in_order(ids: &mut Vec<u32>)
+    ensures rise { IsStrictlyIncreasing ids.new.items }
+    ensures kept { (id : ℕ) → Contains ids.old.items id → Contains ids.new.items id }
+{
+    ids.sort_unstable();
+    ids.dedup();
+}
+
+// Whether the id is that of an area or a body.
+fn is_mark_of(board: &Board, id: u32) -> bool
+    ensures { result ≡ is_mark_of board.now.items id }
+{
+    match board.get(id) {
+        None => false,
+        Some(item) => is_mark(&item.what),
+    }
+}
+
+// Leaves those of the ids that are areas or bodies.
+fn keep_marks(board: &Board, ids: &mut Vec<u32>)
+    ensures { ids.new.items ≡ filter (λ id. is_mark_of board.now.items id) ids.old.items }
+{
+    ids.retain(|id| is_mark_of(board, *id));
+}
+
+// Whether the box meets more tiles than this.
+fn spans_more(index: &TileIndex, bounds: Bounds, count: usize) -> bool
+    requires { FitsWithin (pos 2000000000) bounds }
+{
+    let area = index.area(bounds);
+    let first = area.first();
+    let last = area.end() - 1;
+    let rows = (last / LANES).abs_diff(first / LANES);
+    let columns = (last % LANES).abs_diff(first % LANES);
+    rows.saturating_add(1)
+        .saturating_mul(columns.saturating_add(1))
+        > count
+}
+
+// Puts the ids of all areas and bodies of the board.
+fn push_marks(board: &Board, ids: &mut Vec<u32>) -> Result<(), AllocError>
+    requires { ids.old.items ≡ [] }
+    ensures marks { OnOk result (ids.new.items ≡ marks_of board.now.items) }
+    ensures sound { IsSound board.now }
+{
+    // the board says here that its ids rise
+    let _ = board.left();
+    ids.extend_from_slice(board.marks())?;
+    Ok(())
+}
+
+/// Leaves in `ids` those of the areas and bodies whose boxes meet that of the item, and maybe others; rising. An item without
+/// bounds meets none. Where its box meets more tiles than the board has areas and bodies, they are all of these.
+///
+/// The index has all areas and bodies of the board, and may have other items. Only want of memory refuses it.
+pub fn marks_near(
     board: &Board,
     index: &TileIndex,
     item: &Item,
@@ -114,6 +156,14 @@ pub(crate) fn gather(
     ids.clear();
     match bounds_of(item) {
         None => Ok(()),
-        Some(bounds) => visit_tiles(index, bounds, ids),
+        Some(bounds) => {
+            if spans_more(index, bounds, board.marks().len()) {
+                return push_marks(board, ids);
+            }
+            push_near(index, bounds, ids)?;
+            keep_marks(board, ids);
+            put_in_order(ids);
+            Ok(())
+        }
     }
 }

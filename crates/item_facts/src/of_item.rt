@@ -1,20 +1,18 @@
 //! The facts of an item.
 
-ghost use Rattle.std.specs.Prelude.{◌≡◌, [], unwrap_or, IfOk, IsSome};
-ghost use Rattle.board_items.specs.Boards.{item_at, name_of};
+ghost use Rattle.std.specs.Prelude.{◌≡◌, [], unwrap_or, IfOk};
+ghost use Rattle.board_items.specs.Boards.{name_of};
 ghost use Rattle.net_class.specs.Classes.{PlainClasses};
 ghost use Rattle.net_class.specs.Views.{plain_class};
-ghost use Rattle.rule_pick.specs.FactsOf.{MeetsArea, MeetsCourtyard, AreNamesOf, class_of_net, AreFactsOf, AreFacts};
+ghost use Rattle.rule_pick.specs.FactsOf.{MeetsArea, MeetsCourtyard, AreNamesOf, class_of_net, AreFactsOf};
 
-use crate::classes::class_of_net;
 use crate::kinds::{
     diameter_of, hole_of, is_blind, is_edge, is_micro, is_plated, kind_of, local_of, width_of,
 };
 use crate::layers::layers_of;
-use crate::names::{areas_of, courtyards_of};
 use board_items::{Board, Item};
 use drc_io::Name;
-use net_class::{Class, Classes};
+use net_class::Class;
 use rule_pick::{Facts, Names};
 use std::alloc::{AllocError, Global};
 
@@ -58,29 +56,4 @@ pub(crate) fn facts_with(
         areas,
         courtyards,
     })
-}
-
-// The facts of an item of the board.
-fn facts_of(
-    alloc: Global,
-    board: &Board,
-    classes: &Classes,
-    item: &Item,
-) -> Result<Facts, AllocError>
-    ensures { IfOk result (λ facts. AreFactsOf board.now classes.now item.now facts) }
-{
-    let class = class_of_net(board, classes, item.net);
-    let areas = areas_of(alloc, board, item)?;
-    let courtyards = courtyards_of(alloc, board, item)?;
-    facts_with(alloc, board, class, item, areas, courtyards)
-}
-
-/// The facts of the item of this id, which is one of the board's: what rules may ask of it. The titles of the rule areas that
-/// it meets, and the references of the footprints whose courtyards it meets, stand in the order of the items. Only want of
-/// memory refuses it.
-pub fn facts(alloc: Global, board: &Board, classes: &Classes, id: u32) -> Result<Facts, AllocError>
-    requires { IsSome (item_at board.now.items id) }
-    ensures { IfOk result (λ facts. AreFacts board.now classes.now id facts) }
-{
-    facts_of(alloc, board, classes, board.get(id).unwrap())
 }

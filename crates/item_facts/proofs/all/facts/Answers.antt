@@ -3,7 +3,7 @@ use Rattle.std.proofs.lemmas.Result.{IfOk-weaker}
 use Rattle.std.specs.Option.{option_copied}
 use Rattle.board_items.specs.declared.item.Item.{Item}
 use Rattle.rule_pick.specs.FactsOf.{AreFactsOf, AreFacts}
-use Rattle.item_facts.proofs.of_item.facts.Goals as goal
+use Rattle.item_facts.proofs.all.facts.Goals as goal
 
 pub returns : goal.returns
 returns c =
