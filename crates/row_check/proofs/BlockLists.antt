@@ -1,16 +1,17 @@
 -- Blocks of entries, and the ends of lists.
-use Rattle.std.proofs.Common.{◌≡◌, ◌⊎◌, inl, inr, ◌∙◌, ap, sym, subst, refl, ℕ, ◌+◌, ◌-◌, ◌*◌, ◌<◌, ◌≤◌, zero, suc, ℤ, ◌≤ℤ◌, Bool, true, false, ◌&&◌, int_le, List, [], ◌∷◌, ◌++◌, length, take, drop, get_or, Some, slice_get, arith}
+use Rattle.std.proofs.Common.{◌≡◌, ◌⊎◌, inl, inr, ◌∙◌, ap, sym, subst, refl, ℕ, ◌+◌, ◌-◌, ◌*◌, ◌<◌, ◌≤◌, zero, suc, ℤ, ◌≤ℤ◌, Bool, true, false, ◌&&◌, List, [], ◌∷◌, ◌++◌, length, take, drop, get_or, Some, slice_get, arith}
 use Rattle.std.specs.List.{filter, All}
 use Rattle.std.proofs.lemmas.Int.{ints}
 use Rattle.std.proofs.lemmas.List.{append_assoc, length-append, take_more, take-append-drop, take_all, length-drop}
 use Rattle.std.proofs.lemmas.List.Elements.{All-weaker, All-push, filter-append}
 use Rattle.std.proofs.lemmas.Option.{slice_get_within}
 use Rattle.geo_seg.specs.declared.boxes.Bounds.{Bounds}
-use Rattle.geo_seg.specs.Boxes.{IsPartOf, BoxesMeet, widened, do_boxes_meet, are_near}
+use Rattle.geo_seg.specs.Boxes.{IsPartOf, widened, are_near}
 use Rattle.box_index.specs.declared.entry.Entry.{Entry}
 use Rattle.box_index.specs.Tiles.{PlainIndex, margin}
 use Rattle.box_index.proofs.EntryLists.{filter_none}
 use Rattle.box_index.proofs.TileLemmas.{near_sides}
+use Rattle.box_index.proofs.Reaching.{meet_true}
 use Rattle.row_check.specs.Blocks.{AreBlocks, IsFar}
 use Rattle.row_check.specs.Walks.{is_owned, IsEndOf}
 
@@ -26,37 +27,6 @@ part_on a b c h k = record {
   where
     on : (x y z : ℤ) → x ≤ℤ y → y ≤ℤ z → x ≤ℤ z
     on x y z l m = omega (arith, ints)
-
-and_from : (x y : Bool) → x ≡ true → y ≡ true → (x && y) ≡ true
-and_from x y e f = cc
-
--- a box made to reach as far as another on each side, one after the other
-module _ (a b l r t m : Bounds) (in_l : IsPartOf a l) (in_r : IsPartOf l r) (in_t : IsPartOf r t) (in_m : IsPartOf t m) where
-  in_last : IsPartOf l m
-  in_last = part_on l r m in_r (part_on r t m in_t in_m)
-
-  pub first_in_all : IsPartOf a m
-  first_in_all = part_on a l m in_l in_last
-
-  pub second_in_all : l.left ≤ℤ b.left → b.right ≤ℤ r.right → t.top ≤ℤ b.top → b.bottom ≤ℤ m.bottom → IsPartOf b m
-  second_in_all left right top bottom = record {
-    left = on m.left l.left b.left in_last.left left;
-    top = on m.top t.top b.top in_m.top top;
-    right = on b.right r.right m.right right (part_on r t m in_t in_m).right;
-    bottom = bottom;
-  }
-    where
-      on : (x y z : ℤ) → x ≤ℤ y → y ≤ℤ z → x ≤ℤ z
-      on x y z l m = omega (arith, ints)
-
-int_le_true : (x y : ℤ) → x ≤ℤ y → int_le x y ≡ true
-int_le_true x y h = grind (arith, ints)
-
-meet_true : (b c : Bounds) → BoxesMeet b c → do_boxes_meet b c ≡ true
-meet_true b c m =
-    and_from (int_le b.left c.right && int_le c.left b.right) (int_le b.top c.bottom && int_le c.top b.bottom)
-    (and_from (int_le b.left c.right) (int_le c.left b.right) (int_le_true b.left c.right m.left) (int_le_true c.left b.right m.right))
-    (and_from (int_le b.top c.bottom) (int_le c.top b.bottom) (int_le_true b.top c.bottom m.top) (int_le_true c.top b.bottom m.bottom))
 
 -- what is far from a box is far from each part of it
 far_part : (m : ℤ) (first part box : Bounds) → IsPartOf part box → are_near m first box ≡ false → are_near m first part ≡ false

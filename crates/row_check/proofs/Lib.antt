@@ -10,3 +10,5 @@ pub mod WholeRows
 pub mod NearFacings
 pub mod BlockLists
 pub mod TileEnds
+pub mod Singles
+pub mod Batches

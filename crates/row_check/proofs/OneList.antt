@@ -1,5 +1,5 @@
 -- A board has one list of rows; their items are on it, and their rules among those that are checked.
-use Rattle.std.proofs.Common.{◌≡◌, ◌⊎◌, ℕ, suc, ◌<◌, List, [], ◌∷◌, length, get_or, All, Contains, Option, Some, None, IsSome, inl, inr, refl, sym, ap, subst, ◌∙◌, arith}
+use Rattle.std.proofs.Common.{◌≡◌, ◌⊎◌, ℕ, suc, ◌<◌, List, [], ◌∷◌, length, All, Contains, Option, Some, IsSome, inl, inr, refl, sym, ap, subst, ◌∙◌, arith}
 use Rattle.std.specs.List.{AllPairs, slice_get}
 use Rattle.std.proofs.lemmas.List.Elements.{All-weaker, All-contains}
 use Rattle.std.proofs.lemmas.Option.{slice_get_within}
@@ -10,14 +10,13 @@ use Rattle.cond_lang.specs.declared.kind.Kind.{Kind}
 use Rattle.cond_lang.specs.declared.kind.Kind.TheVariants.{Short, Clearance, HoleClearance, HoleToHole, EdgeClearance, CourtyardClearance, Keepout, TrackWidth, ViaDiameter, HoleSize, AnnularWidth, Disallow, PhysicalClearance, PhysicalHoleClearance, Assertion}
 use Rattle.net_class.specs.Classes.{PlainMins}
 use Rattle.rule_pick.specs.declared.facts.Facts.{Facts}
-use Rattle.rule_pick.specs.declared.kinds.Source.{Source}
-use Rattle.rule_pick.specs.declared.kinds.Source.TheVariants.{Default, Local, Rule}
+use Rattle.rule_pick.specs.declared.kinds.Source.TheVariants.{Rule}
 use Rattle.rule_pick.specs.Deciding.{IsPick}
 use Rattle.rule_pick.specs.Picks.{Pick}
 use Rattle.pair_check.specs.PlainRow.{PlainRow}
 use Rattle.pair_check.specs.Pairs.{Deciders, Pair, Breaks, SaysMeeting, SaysNear}
 use Rattle.pair_check.specs.Singles.{BreaksAlone, SaysLimit, SaysForbidden}
-use Rattle.pair_check.specs.Rows.{Checked, deciders, Before, AreRowsWhere, AreRows, IsRow, IsRowOfTwo, IsRowOfOne, HasItems, HasSource}
+use Rattle.pair_check.specs.Rows.{Checked, deciders, Before, AreRowsWhere, AreRows, IsRow, HasItems, HasSource}
 use Rattle.row_check.proofs.RowLists.{here, behind, nothing, cons_case}
 
 -- of two rows not both come before the other

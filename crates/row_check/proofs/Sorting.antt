@@ -1,5 +1,5 @@
 -- Rows in any order, and what a sort makes of them.
-use Rattle.std.proofs.Common.{◌≡◌, ◌≢◌, ◌⊎◌, ℕ, ◌<◌, List, true, length, get_or, inl, inr, refl, sym, subst, ap, ◌∙◌, arith, All, Contains, true≢false}
+use Rattle.std.proofs.Common.{◌≡◌, ◌≢◌, ◌⊎◌, ℕ, ◌<◌, List, true, length, get_or, inl, inr, refl, sym, subst, ap, ◌∙◌, arith, true≢false}
 use Rattle.std.specs.List.{AllPairs, swap}
 use Rattle.std.specs.List.Sorted.{IsPermutation, IsSortedByKey}
 use Rattle.std.specs.Ordering.{is_lt, nat_cmp, ordering_then}

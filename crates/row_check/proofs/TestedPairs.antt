@@ -1,6 +1,6 @@
 -- The pairs of a list: which are tested, and that a tile's entries have all that it answers for.
-use Rattle.std.proofs.Common.{◌≡◌, ◌∙◌, ap, sym, subst, refl, ℕ, ℤ, pos, ◌+ℤ◌, ◌-ℤ◌, ◌≤ℤ◌, ◌+◌, ◌≤◌, Bool, true, false, cond, ◌&&◌, ◌||◌, ◌==◌, int_le, List, [], ◌∷◌, ◌++◌, map, length, slice_index_or, arith}
-use Rattle.std.specs.List.{filter, All, AllPairs}
+use Rattle.std.proofs.Common.{◌≡◌, ◌∙◌, ap, sym, subst, refl, ℕ, ℤ, pos, ◌+ℤ◌, ◌-ℤ◌, ◌≤ℤ◌, ◌≤◌, Bool, true, false, cond, ◌&&◌, ◌||◌, ◌==◌, int_le, List, [], ◌∷◌, ◌++◌, map, length, slice_index_or, arith}
+use Rattle.std.specs.List.{filter, All}
 use Rattle.std.proofs.lemmas.Bool.{false_from_ne_true}
 use Rattle.std.proofs.lemmas.Bool.Decides.{nat_tests}
 use Rattle.std.proofs.lemmas.Int.{ints}

@@ -1,6 +1,6 @@
 -- The rows of the pairs that are tested are those of the tile.
-use Rattle.std.proofs.Common.{◌≡◌, ◌∙◌, ap, sym, subst, refl, ℕ, ℤ, ◌+ℤ◌, ◌<◌, ◌⊎◌, inl, inr, Bool, true, false, ◌&&◌, ◌||◌, ◌==◌, IsTrue, Option, Some, List, [], ◌∷◌, ◌++◌, map, arith}
-use Rattle.std.specs.List.{filter, All, AllPairs, Contains, list_any, Any}
+use Rattle.std.proofs.Common.{◌≡◌, ◌∙◌, ap, sym, subst, refl, ℕ, ◌<◌, ◌⊎◌, inl, inr, Bool, true, false, ◌&&◌, ◌||◌, ◌==◌, Some, List, [], ◌∷◌, map, arith}
+use Rattle.std.specs.List.{filter, All, Contains}
 use Rattle.std.proofs.lemmas.Bool.Decides.{nat_tests}
 use Rattle.std.proofs.lemmas.List.Folds.{list_any_at, Any-from_list_any}
 use Rattle.std.proofs.lemmas.List.Elements.{All-nil, All-head, All-tail, All-append, All-map, All-filter, All-contains, All-contains_itself, filter_passes, Contains-append_left, Contains-append_right}
@@ -15,8 +15,9 @@ use Rattle.box_index.proofs.EntryLists.{pairs_first, pairs_rest}
 use Rattle.box_index.proofs.Buckets.{contains_filter}
 use Rattle.pair_check.specs.PlainRow.{PlainRow}
 use Rattle.pair_check.specs.Rows.{Checked, IsRowOfTwo}
-use Rattle.row_check.specs.Tiles.{IsEntryOf, IsIndexOf, IsAskedIn, AreRowsOfTile, pairs_of, is_changed}
-use Rattle.row_check.specs.Walks.{is_owned, IsOfOne, AreRowsOfPairs}
+use Rattle.board_index.specs.Holding.{IsEntryOf}
+use Rattle.row_check.specs.Tiles.{IsIndexOf, IsAskedIn, AreRowsOfTile, pairs_of, is_changed}
+use Rattle.row_check.specs.Walks.{is_owned, AreRowsOfPairs}
 use Rattle.row_check.proofs.RowLists.{here, behind, nothing, cons_case, alike}
 use Rattle.row_check.proofs.PairLists.{Pair, Passes}
 use Rattle.row_check.proofs.TestedPairs.{touches, test_of}
@@ -113,8 +114,8 @@ module _ (c : Checked) (index : PlainIndex) (sound : IsSound index) (is : IsInde
   pub entries_near : (row : PlainRow) → IsRowOfTwo c row → (a b : Entry) → Contains index.entries a → Contains index.entries b → a.id ≡ row.first → b.id ≡ row.second → are_near (margin index) a.bounds b.bounds ≡ true
   entries_near row two a b ca cb ea eb =
       broken_near c row index.reach is.reach two a.bounds b.bounds
-      (its_bounds c.board a row.first two.pair.a (is.only a ca) ea two.first.item_is)
-      (its_bounds c.board b row.second two.pair.b (is.only b cb) eb two.second.item_is)
+      (its_bounds c.board a row.first two.pair.a (is.items.only a ca) ea two.first.item_is)
+      (its_bounds c.board b row.second two.pair.b (is.items.only b cb) eb two.second.item_is)
 
   module _ (tile : ℕ) (changed : List ℕ) where
     abbrev Q : Pair → Bool

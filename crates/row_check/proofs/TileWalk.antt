@@ -1,7 +1,7 @@
 -- The walk over the entries of a tile, step by step.
-use Rattle.std.proofs.Common.{◌≡◌, ◌∙◌, ap, sym, subst, refl, ℕ, pos, ◌+◌, ◌<◌, ◌≤◌, zero, suc, Bool, true, false, cond, ◌||◌, ◌==◌, List, [], ◌∷◌, ◌++◌, length, get_or, slice_index_or, Option, Some, IsSome, arith}
+use Rattle.std.proofs.Common.{◌≡◌, ◌∙◌, ap, sym, subst, refl, ℕ, pos, ◌+◌, ◌<◌, ◌≤◌, Bool, true, false, cond, ◌==◌, List, [], ◌∷◌, ◌++◌, length, get_or, slice_index_or, Option, Some, IsSome, arith}
 use Rattle.std.specs.Prelude.{Result, Ok, Err, is_ok, MatchResult}
-use Rattle.std.specs.List.{filter, All, AllPairs, list_any}
+use Rattle.std.specs.List.{filter, All, AllPairs}
 use Rattle.std.specs.List.Sorted.{IsBinarySearchResult, IsStrictlyIncreasing}
 use Rattle.std.specs.Ordering.{nat_cmp}
 use Rattle.std.proofs.lemmas.Bool.Decides.{nat_tests}
@@ -18,7 +18,8 @@ use Rattle.box_index.specs.Tiles.{PlainIndex, IsSound, IsRising, is_in, near_of}
 use Rattle.box_index.proofs.EntryLists.{pairs_first, pairs_rest}
 use Rattle.pair_check.specs.PlainRow.{PlainRow}
 use Rattle.pair_check.specs.Rows.{Checked}
-use Rattle.row_check.specs.Tiles.{IsEntryOf, IsIndexOf, AreRowsOfTile, pairs_of, is_changed, most_steps}
+use Rattle.board_index.specs.Holding.{IsEntryOf}
+use Rattle.row_check.specs.Tiles.{IsIndexOf, AreRowsOfTile, pairs_of, is_changed, most_steps}
 use Rattle.row_check.specs.Walks.{is_owned, partners_of, pairs_with, IsOn, AreRowsOfPairs, HasMore}
 use Rattle.row_check.proofs.PairLists.{Pair, Comes, no_pairs, join_pairs, pairs_rise}
 use Rattle.row_check.proofs.TestedPairs.{tested, test_of, tested_is, tested_all, steps_are, touches}
@@ -154,7 +155,7 @@ module _ (c : Checked) (index : PlainIndex) (tile : ℕ) (changed : List ℕ) wh
 
   module _ (near : List Entry) (sound : IsSound index) (is : IsIndexOf c index) (e : near ≡ near_of index tile) where
     entries_on : All (IsOn c.board) index.entries
-    entries_on = λ k d l. on_board c.board (get_or index.entries k d) (is.only (get_or index.entries k d) (Contains-get_or index.entries k d l))
+    entries_on = λ k d l. on_board c.board (get_or index.entries k d) (is.items.only (get_or index.entries k d) (Contains-get_or index.entries k d l))
 
     near_entries : AreEntries c near
     near_entries = record {

@@ -1,38 +1,38 @@
 -- The rows of all tiles and of all items.
-use Rattle.std.proofs.Common.{◌≡◌, ◌∙◌, ap, sym, subst, refl, ℕ, ℤ, ◌-ℤ◌, zero, suc, ◌+◌, ◌*◌, ◌<◌, ◌≤◌, ◌⊎◌, inl, inr, Bool, true, false, cond, ◌&&◌, ◌||◌, nat_eq, Option, Some, None, IsSome, List, [], ◌∷◌, ◌++◌, map, take, length, get_or, arith, eq-eqb}
-use Rattle.std.specs.List.{filter, All, AllPairs, Contains, list_any}
-use Rattle.std.specs.List.Sorted.{IsStrictlyIncreasing, IsPermutation}
+use Rattle.std.proofs.Common.{◌≡◌, ◌∙◌, ap, sym, subst, refl, ℕ, ℤ, ◌-ℤ◌, ◌+◌, ◌*◌, ◌<◌, ◌≤◌, ◌⊎◌, inl, inr, Bool, true, false, cond, ◌&&◌, ◌||◌, nat_eq, Some, IsSome, List, [], ◌∷◌, ◌++◌, map, take, length, get_or, arith, eq-eqb}
+use Rattle.std.specs.List.{All, AllPairs, Contains}
+use Rattle.std.specs.List.Sorted.{IsStrictlyIncreasing}
 use Rattle.std.proofs.lemmas.Bool.{eqb-true}
-use Rattle.std.proofs.lemmas.List.{take_more, take_all}
+use Rattle.std.proofs.lemmas.List.{take_more}
 use Rattle.std.proofs.lemmas.List.Folds.{list_any_at}
-use Rattle.std.proofs.lemmas.List.Elements.{All-nil, All-cons, All-weaker, All-append, All-contains, Contains-get_or, Contains-append_left, Contains-append_right, Contains-push, Contains-push_cases, filter_passes}
+use Rattle.std.proofs.lemmas.List.Elements.{All-nil, All-cons, All-weaker, All-append, All-contains, Contains-append_left, Contains-append_right, Contains-push, Contains-push_cases, filter_passes}
 use Rattle.std.proofs.lemmas.List.Kept.{AllPairs-cons, AllPairs-from_increasing, IsStrictlyIncreasing-filter}
 use Rattle.std.specs.Int.{int_max}
 use Rattle.geo_seg.specs.declared.boxes.Bounds.{Bounds}
 use Rattle.board_items.specs.declared.item.Item.{Item}
 use Rattle.board_items.specs.Boards.{PlainBoard, Rise, item_at}
-use Rattle.board_items.specs.Parts.{parts_of}
 use Rattle.box_index.specs.declared.entry.Entry.{Entry}
 use Rattle.box_index.specs.Tiles.{PlainIndex, IsSound, IsRising, margin, owner_of, lane, is_in, near_of, is_held, is_met_by, numbers_below, dirty_of, tile_count}
 use Rattle.box_index.proofs.TileLemmas.{lane-within}
 use Rattle.box_index.proofs.EntryLists.{pairs_first, pairs_rest}
 use Rattle.box_index.proofs.Buckets.{contains_filter, complete}
 use Rattle.pair_check.specs.PlainRow.{PlainRow}
-use Rattle.pair_check.specs.Rows.{Checked, IsRowOfTwo, IsRowOfOne, IsRow, Before, AreRowsWhere, AreRowsOfItem}
-use Rattle.row_check.specs.Tiles.{IsIndexOf, HasEntry, IsAskedIn, AreRowsOfTile}
+use Rattle.pair_check.specs.Rows.{Checked, IsRowOfTwo, IsRowOfOne, IsRow, AreRows, AreRowsWhere}
+use Rattle.board_index.proofs.Numbers.{all_rise, has_number}
+use Rattle.row_check.specs.Tiles.{IsIndexOf, IsAskedIn, AreRowsOfTile}
 use Rattle.row_check.specs.Walks.{HasMore}
-use Rattle.row_check.specs.Whole.{Apart, AreOnceWhere, IsAskedInOne, IsOfTiles, IsOfItems, ids_of}
-use Rattle.row_check.proofs.RowLists.{here, behind, nothing, cons_case, pairs_append, across}
+use Rattle.row_check.specs.Whole.{Apart, AreOnceWhere, AreEnough, AreSingles, IsAskedInOne, IsOfTiles, IsOfChanged, ids_of}
+use Rattle.row_check.proofs.RowLists.{here, behind, nothing, cons_case, pairs_append, across, alike}
 use Rattle.row_check.proofs.PairLists.{pairs_take}
 use Rattle.row_check.proofs.TileRows.{entries_near}
 use Rattle.row_check.proofs.NearPairs.{broken_has_parts}
-use Rattle.row_check.proofs.Sorting.{apart_from, once_from_rows, once_like}
+use Rattle.row_check.proofs.Sorting.{apart_from, once_from_rows}
 
 -- ---- lists
-once_joined : (P Q R : PlainRow → Type 0) (xs ys : List PlainRow) → ((r s : PlainRow) → P r → Q s → Apart r s) → ((row : PlainRow) → P row → R row) → ((row : PlainRow) → Q row → R row) → ((row : PlainRow) → R row → P row ⊎ Q row)
-    → AreOnceWhere P xs → AreRowsWhere Q ys → AreOnceWhere R (xs ++ ys)
-once_joined P Q R xs ys apart on_p on_q back p q = record {
-  apart = pairs_append Apart xs ys p.apart (once_from_rows Q ys q).apart (All-weaker P (λ r. All (Apart r) ys) (λ r h. All-weaker Q (Apart r) (λ s k. apart r s h k) ys q.only) xs p.only);
+pub once_append : (P Q R : PlainRow → Type 0) (xs ys : List PlainRow) → ((r s : PlainRow) → P r → Q s → Apart r s) → ((row : PlainRow) → P row → R row) → ((row : PlainRow) → Q row → R row) → ((row : PlainRow) → R row → P row ⊎ Q row)
+    → AreOnceWhere P xs → AreOnceWhere Q ys → AreOnceWhere R (xs ++ ys)
+once_append P Q R xs ys apart on_p on_q back p q = record {
+  apart = pairs_append Apart xs ys p.apart q.apart (All-weaker P (λ r. All (Apart r) ys) (λ r h. All-weaker Q (Apart r) (λ s k. apart r s h k) ys q.only) xs p.only);
   only = All-append R xs ys (All-weaker P R on_p xs p.only) (All-weaker Q R on_q ys q.only);
   all = λ row h. by_side row (back row h);
 }
@@ -41,8 +41,12 @@ once_joined P Q R xs ys apart on_p on_q back p q = record {
     by_side row (inl h) = Contains-append_left xs ys row (p.all row h)
     by_side row (inr h) = Contains-append_right xs ys row (q.all row h)
 
+once_joined : (P Q R : PlainRow → Type 0) (xs ys : List PlainRow) → ((r s : PlainRow) → P r → Q s → Apart r s) → ((row : PlainRow) → P row → R row) → ((row : PlainRow) → Q row → R row) → ((row : PlainRow) → R row → P row ⊎ Q row)
+    → AreOnceWhere P xs → AreRowsWhere Q ys → AreOnceWhere R (xs ++ ys)
+once_joined P Q R xs ys apart on_p on_q back p q = once_append P Q R xs ys apart on_p on_q back p (once_from_rows Q ys q)
+
 -- what stands before the one at k is below it
-below_next : (xs : List ℕ) (k : ℕ) → IsStrictlyIncreasing xs → k < length xs → (x : ℕ) → Contains (take k xs) x → x < get_or xs k 0
+pub below_next : (xs : List ℕ) (k : ℕ) → IsStrictlyIncreasing xs → k < length xs → (x : ℕ) → Contains (take k xs) x → x < get_or xs k 0
 below_next xs k up l x c =
     let R : ℕ → ℕ → Type 0 = λ a b. a < b in
     let front = subst (AllPairs R) (take_more xs k 0 l) (pairs_take R (k + 1) xs (AllPairs-from_increasing xs up)) in
@@ -83,36 +87,11 @@ id_of_found (e ∷ es) id item h = by_test (λ k. id_of_found es id item k) (nat
     by_test again true k = subst (Contains (map (λ e. e.0) (e ∷ es))) (sym (eqb-true id e.0 k)) (here e.0 (map (λ e. e.0) es))
     by_test again false k = behind e.0 id (map (λ e. e.0) es) (again (subst (λ b. cond b (Some e.1) (item_at es id) ≡ Some item) k h))
 
--- ---- numbers below a bound
-low_numbers : (n : ℕ) → All (λ i. i < n) (numbers_below n)
-unfolding numbers_below
-low_numbers zero = All-nil (λ i. i < 0)
-low_numbers (suc n) = All-append (λ i. i < suc n) (numbers_below n) (n ∷ []) (All-weaker (λ i. i < n) (λ i. i < suc n) (λ i l. omega arith) (numbers_below n) (low_numbers n)) (All-cons (λ i. i < suc n) n [] (omega arith) (All-nil (λ i. i < suc n)))
-
-rising_numbers : (n : ℕ) → AllPairs (λ a b. a < b) (numbers_below n)
-unfolding numbers_below
-rising_numbers zero = λ i j d l m. absurd (omega arith)
-rising_numbers (suc n) =
-    let R : ℕ → ℕ → Type 0 = λ a b. a < b in
-    pairs_append R (numbers_below n) (n ∷ []) (rising_numbers n) (λ i j d l m. absurd (omega arith)) (All-weaker (λ i. i < n) (λ i. All (R i) (n ∷ [])) (λ i l. All-cons (R i) n [] l (All-nil (R i))) (numbers_below n) (low_numbers n))
-
-has_number : (n k : ℕ) → k < n → Contains (numbers_below n) k
-unfolding numbers_below
-has_number zero k l = absurd (omega arith)
-has_number (suc n) k l = by_last (has_number n k) (last_case n k l)
-  where
-    last_case : (m i : ℕ) → i < suc m → (i < m) ⊎ (m ≡ i)
-    last_case m i h = grind arith
-
-    by_last : (k < n → Contains (numbers_below n) k) → (k < n) ⊎ (n ≡ k) → Contains (numbers_below n ++ n ∷ []) k
-    by_last again (inl h) = Contains-append_left (numbers_below n) (n ∷ []) k (again h)
-    by_last again (inr e) = subst (Contains (numbers_below n ++ n ∷ [])) e (Contains-push (numbers_below n) n)
-
+-- ---- tiles
 pub dirty_rise : (index : PlainIndex) (tiles : List ℕ) → tiles ≡ dirty_of index [] true → IsStrictlyIncreasing tiles
 dirty_rise index tiles e =
-    subst IsStrictlyIncreasing (sym e) (IsStrictlyIncreasing-filter (λ tile. is_held index tile && (true || is_met_by (margin index) [] tile)) (numbers_below tile_count) (increasing (numbers_below tile_count) (rising_numbers tile_count)))
+    subst IsStrictlyIncreasing (sym e) (IsStrictlyIncreasing-filter (λ tile. is_held index tile && (true || is_met_by (margin index) [] tile)) (numbers_below tile_count) (all_rise tile_count))
 
--- ---- tiles
 one_entry : (xs : List Entry) → IsRising xs → (a b : Entry) → Contains xs a → Contains xs b → a.id ≡ b.id → a ≡ b
 one_entry [] r a b ca cb e = absurd (nothing a ca)
 one_entry (x ∷ xs) r a b ca cb e = by_case (λ ka kb. one_entry xs (pairs_rest R x xs r) a b ka kb e) (cons_case x a xs ca) (cons_case x b xs cb)
@@ -175,23 +154,20 @@ module _ (c : Checked) (index : PlainIndex) (sound : IsSound index) (is : IsInde
         tile_back r more.pass in
         subst (λ ts. AreOnceWhere (IsOfTiles c index ts changed) now) (sym (take_more tiles k 0 l)) (subst (AreOnceWhere R) (sym more.is) both)
 
-  -- each row of two items is asked for in one of the tiles that hold an entry
-  asked_in : (tiles ids : List ℕ) → tiles ≡ dirty_of index [] true → ids ≡ ids_of c.board → (row : PlainRow) → IsRowOfTwo c row → IsAskedInOne index tiles ids row.first row.second
-  asked_in tiles ids e same row two =
+  -- a row of two items of which one changed is asked for in one of the tiles, where these are enough
+  pub asked : (changed tiles : List ℕ) → AreEnough index changed tiles → (row : PlainRow) → IsRowOfTwo c row → Contains changed row.first ⊎ Contains changed row.second → IsAskedInOne index tiles changed row.first row.second
+  asked changed tiles enough row two touched =
       let parts = broken_has_parts c row two in
-      let ea = is.each row.first two.pair.a two.first.item_is parts.0 in
-      let eb = is.each row.second two.pair.b two.second.item_is parts.1 in
+      let ea = is.items.holds.each row.first two.pair.a two.first.item_is parts.0 in
+      let eb = is.items.holds.each row.second two.pair.b two.second.item_is parts.1 in
       let a : Entry = record { id = row.first; bounds = ea.bounds } in
       let b : Entry = record { id = row.second; bounds = eb.bounds } in
       let near = entries_near c index sound is row two a b ea.entry eb.entry refl refl in
       let tile = owner_of (margin index) ea.bounds eb.bounds in
-      let lent : Contains (near_of index tile) a = (complete index sound a b ea.entry eb.entry near).0 in
-      let met : is_in index tile a ≡ true = All-contains (λ x. is_in index tile x ≡ true) (near_of index tile) a (filter_passes (is_in index tile) index.entries) lent in
-      let held : is_held index tile ≡ true = list_any_at (is_in index tile) index.entries ea.entry.0 a ea.entry.1 (subst (λ x. is_in index tile x ≡ true) (sym ea.entry.2) met) in
-      let test : (is_held index tile && (true || is_met_by (margin index) [] tile)) ≡ true = ap (λ t. t && true) held in
-      let below : tile < tile_count = owner_below (margin index) ea.bounds eb.bounds in record {
+      let lent = complete index sound a b ea.entry eb.entry near in
+      record {
         tile = tile;
-        among = subst (λ ts. Contains ts tile) (sym e) (contains_filter (λ t. is_held index t && (true || is_met_by (margin index) [] t)) (numbers_below tile_count) tile (has_number tile_count tile below) test);
+        among = by_item a b ea.entry eb.entry tile (owner_below (margin index) ea.bounds eb.bounds) (passes tile a lent.0) (passes tile b lent.1) touched;
         asked = record {
           first = a;
           second = b;
@@ -200,53 +176,45 @@ module _ (c : Checked) (index : PlainIndex) (sound : IsSound index) (is : IsInde
           is_first = refl;
           is_second = refl;
           owner = refl;
-          touched = inl (subst (λ xs. Contains xs row.first) (sym same) (id_of_found c.board.items row.first two.pair.a two.first.item_is));
+          touched = touched;
         };
       }
-
-  pub pairs_once : (tiles ids : List ℕ) (rows : List PlainRow) → tiles ≡ dirty_of index [] true → ids ≡ ids_of c.board → AreOnceWhere (IsOfTiles c index tiles ids) rows → AreOnceWhere (IsRowOfTwo c) rows
-  pairs_once tiles ids rows e same r = once_like (IsOfTiles c index tiles ids) (IsRowOfTwo c) rows (λ row h. h.0) (λ row two. (two, asked_in tiles ids e same row two)) r
-
--- ---- items
-module _ (c : Checked) (ids : List ℕ) (up : IsStrictlyIncreasing ids) where
-  pub no_items : (rows : List PlainRow) → AreOnceWhere (IsRowOfTwo c) rows → AreOnceWhere (IsOfItems c []) rows
-  no_items rows r = once_like (IsRowOfTwo c) (IsOfItems c []) rows (λ row h. inl h) back r
     where
-      back : (row : PlainRow) → IsOfItems c [] row → IsRowOfTwo c row
-      back row (inl h) = h
-      back row (inr h) = absurd (nothing row.first h.1)
+      passes : (tile : ℕ) (e : Entry) → Contains (near_of index tile) e → is_in index tile e ≡ true
+      passes tile e h = All-contains (λ x. is_in index tile x ≡ true) (near_of index tile) e (filter_passes (is_in index tile) index.entries) h
 
-  module _ (k : ℕ) (l : k < length ids) where
-    items_apart : (r s : PlainRow) → IsOfItems c (take k ids) r → IsRowOfOne c s × (s.first ≡ get_or ids k 0) → Apart r s
-    items_apart r s (inl two) q = apart_from r s (λ e f. let less = two.ordered in let same = q.0.same in omega arith)
-    items_apart r s (inr one) q = apart_from r s (λ e f. let less = below_next ids k up l r.first one.1 in let at = q.1 in omega arith)
+      by_item : (a b : Entry) → Contains index.entries a → Contains index.entries b → (tile : ℕ) → tile < tile_count → is_in index tile a ≡ true → is_in index tile b ≡ true → Contains changed a.id ⊎ Contains changed b.id → Contains tiles tile
+      by_item a b ca cb tile lt ia ib (inl h) = enough.all tile a lt ca h ia
+      by_item a b ca cb tile lt ia ib (inr h) = enough.all tile b lt cb h ib
 
-    item_back : (row : PlainRow) → IsOfItems c (take k ids ++ get_or ids k 0 ∷ []) row → IsOfItems c (take k ids) row ⊎ (IsRowOfOne c row × (row.first ≡ get_or ids k 0))
-    item_back row (inl h) = inl (inl h)
-    item_back row (inr h) = by_case (Contains-push_cases (take k ids) (get_or ids k 0) row.first h.1)
-      where
-        by_case : Contains (take k ids) row.first ⊎ (get_or ids k 0 ≡ row.first) → IsOfItems c (take k ids) row ⊎ (IsRowOfOne c row × (row.first ≡ get_or ids k 0))
-        by_case (inl m) = inl (inr (h.0, m))
-        by_case (inr e) = inr (h.0, sym e)
-
-    item_on : (row : PlainRow) → IsOfItems c (take k ids) row → IsOfItems c (take k ids ++ get_or ids k 0 ∷ []) row
-    item_on row (inl h) = inl h
-    item_on row (inr h) = inr (h.0, Contains-append_left (take k ids) (get_or ids k 0 ∷ []) row.first h.1)
-
-    pub one_item_more : (rows now : List PlainRow) → HasMore (AreRowsOfItem c (get_or ids k 0)) rows now → AreOnceWhere (IsOfItems c (take k ids)) rows → AreOnceWhere (IsOfItems c (take (k + 1) ids)) now
-    one_item_more rows now more r =
-        let both = once_joined (IsOfItems c (take k ids)) (λ row. IsRowOfOne c row × (row.first ≡ get_or ids k 0)) (IsOfItems c (take k ids ++ get_or ids k 0 ∷ [])) rows more.more items_apart item_on
-        (λ row h. inr (h.0, subst (Contains (take k ids ++ get_or ids k 0 ∷ [])) (sym h.1) (Contains-push (take k ids) (get_or ids k 0))))
-        item_back r more.pass in
-        subst (λ xs. AreOnceWhere (IsOfItems c xs) now) (sym (take_more ids k 0 l)) (subst (AreOnceWhere (IsOfItems c (take k ids ++ get_or ids k 0 ∷ []))) (sym more.is) both)
-
-  pub all_items : (k : ℕ) (rows : List PlainRow) → length ids ≤ k → ids ≡ ids_of c.board → AreOnceWhere (IsOfItems c (take k ids)) rows → AreOnceWhere (IsRow c) rows
-  all_items k rows l same r = once_like (IsOfItems c ids) (IsRow c) rows on back (subst (λ xs. AreOnceWhere (IsOfItems c xs) rows) (take_all k ids l) r)
+  -- all tiles that hold an entry are enough
+  all_enough : (tiles ids : List ℕ) → tiles ≡ dirty_of index [] true → AreEnough index ids tiles
+  all_enough tiles ids e = record { rise = dirty_rise index tiles e; all = all }
     where
-      on : (row : PlainRow) → IsOfItems c ids row → IsRow c row
-      on row (inl h) = inl h
+      all : (tile : ℕ) (entry : Entry) → tile < tile_count → Contains index.entries entry → Contains ids entry.id → is_in index tile entry ≡ true → Contains tiles tile
+      all tile entry lt has among met =
+          let held : is_held index tile ≡ true = list_any_at (is_in index tile) index.entries has.0 entry has.1 (subst (λ (x : Entry). is_in index tile x ≡ true) (sym has.2) met) in
+          let test : (is_held index tile && (true || is_met_by (margin index) [] tile)) ≡ true = ap (λ t. t && true) held in
+          subst (λ ts. Contains ts tile) (sym e) (contains_filter (λ t. is_held index t && (true || is_met_by (margin index) [] t)) (numbers_below tile_count) tile (has_number tile_count tile lt) test)
+
+  -- the rows of tiles with those of single items
+  pub changed_once : (tiles changed : List ℕ) (pairs now : List PlainRow) → AreOnceWhere (IsOfTiles c index tiles changed) pairs → HasMore (AreSingles c changed) pairs now → AreOnceWhere (IsOfChanged c index tiles changed) now
+  changed_once tiles changed pairs now p more =
+      subst (AreOnceWhere (IsOfChanged c index tiles changed)) (sym more.is)
+      (once_joined (IsOfTiles c index tiles changed) (λ row. IsRowOfOne c row × Contains changed row.first) (IsOfChanged c index tiles changed) pairs more.more
+      (λ r s two one. apart_from r s (λ e f. let less = two.0.ordered in let same = one.0.same in omega arith)) (λ row h. inl h) (λ row h. inr h) (λ row h. h) p more.pass)
+
+  -- where all items changed, they are all rows
+  pub all_rows : (tiles ids : List ℕ) (rows : List PlainRow) → tiles ≡ dirty_of index [] true → ids ≡ ids_of c.board → AreRowsWhere (IsOfChanged c index tiles ids) rows → AreRows c rows
+  all_rows tiles ids rows e same r = alike (IsOfChanged c index tiles ids) (IsRow c) rows on back r
+    where
+      on : (row : PlainRow) → IsOfChanged c index tiles ids row → IsRow c row
+      on row (inl h) = inl h.0
       on row (inr h) = inr h.0
 
-      back : (row : PlainRow) → IsRow c row → IsOfItems c ids row
-      back row (inl h) = inl h
-      back row (inr h) = inr (h, subst (λ xs. Contains xs row.first) (sym same) (id_of_found c.board.items row.first h.item h.first.item_is))
+      there : (id : ℕ) (item : Item) → item_at c.board.items id ≡ Some item → Contains ids id
+      there id item found = subst (λ xs. Contains xs id) (sym same) (id_of_found c.board.items id item found)
+
+      back : (row : PlainRow) → IsRow c row → IsOfChanged c index tiles ids row
+      back row (inl two) = inl (two, asked ids tiles (all_enough tiles ids e) row two (inl (there row.first two.pair.a two.first.item_is)))
+      back row (inr one) = inr (one, there row.first one.item one.first.item_is)

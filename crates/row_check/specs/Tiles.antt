@@ -1,36 +1,20 @@
 -- The rows of a tile: those of the pairs that it answers for. The index holds the items of the board under their bounds, and its
 -- reach is that of the board, its classes and its rules.
-use Rattle.std.specs.Prelude.{◌≡◌, ◌≢◌, ◌⊎◌, ℕ, ℤ, Bool, ◌&&◌, ◌||◌, ◌==◌, List, [], ◌∷◌, ◌++◌, map, length, filter, Some, Contains}
+use Rattle.std.specs.Prelude.{◌≡◌, ◌⊎◌, ℕ, ℤ, Bool, ◌&&◌, ◌||◌, ◌==◌, List, [], ◌∷◌, ◌++◌, map, length, filter, Contains}
 use Rattle.std.specs.List.{list_any}
 use Rattle.geo_seg.specs.declared.boxes.Bounds.{Bounds}
 use Rattle.geo_seg.specs.Boxes.{widened, are_near}
-use Rattle.board_items.specs.declared.item.Item.{Item}
-use Rattle.board_items.specs.Boards.{PlainBoard, item_at}
-use Rattle.board_items.specs.Parts.{parts_of}
-use Rattle.board_items.specs.Extents.{AreBoundsOf}
 use Rattle.rule_pick.specs.Reach.{IsReach}
 use Rattle.box_index.specs.declared.entry.Entry.{Entry}
 use Rattle.box_index.specs.Tiles.{PlainIndex, margin, owner_of}
+use Rattle.board_index.specs.Holding.{IsIndexOfItems}
 use Rattle.pair_check.specs.PlainRow.{PlainRow}
 use Rattle.pair_check.specs.Rows.{Checked, IsRowOfTwo, AreRowsWhere}
-
--- the entry is that of an item of the board, under its bounds
-pub record IsEntryOf (board : PlainBoard) (entry : Entry) : Type 0 where
-  pub item : Item
-  pub stands : item_at board.items entry.id ≡ Some item
-  pub own : AreBoundsOf (parts_of item) (Some entry.bounds)
-
--- the index has an entry of the item
-pub record HasEntry (index : PlainIndex) (id : ℕ) (item : Item) : Type 0 where
-  pub bounds : Bounds
-  pub own : AreBoundsOf (parts_of item) (Some bounds)
-  pub entry : Contains index.entries (record { id = id; bounds = bounds })
 
 -- the index holds exactly the items that have bounds, and reaches as far as anything is asked for
 pub record IsIndexOf (c : Checked) (index : PlainIndex) : Type 0 where
   pub reach : IsReach c.board c.classes c.rules index.reach
-  pub only : (entry : Entry) → Contains index.entries entry → IsEntryOf c.board entry
-  pub each : (id : ℕ) (item : Item) → item_at c.board.items id ≡ Some item → parts_of item ≢ [] → HasEntry index id item
+  pub items : IsIndexOfItems c.board index
 
 -- the tile answers for the pair of these ids, one of which changed
 pub record IsAskedIn (index : PlainIndex) (tile : ℕ) (changed : List ℕ) (i j : ℕ) : Type 0 where

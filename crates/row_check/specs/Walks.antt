@@ -1,5 +1,5 @@
 -- The rows of a tile, as the walk over its entries finds them.
-use Rattle.std.specs.Prelude.{◌≡◌, ◌⊎◌, ℕ, Bool, ◌&&◌, ◌==◌, cond, List, [], ◌∷◌, ◌++◌, map, filter, Contains, IsSome}
+use Rattle.std.specs.Prelude.{◌≡◌, ℕ, Bool, ◌&&◌, ◌==◌, cond, List, [], ◌++◌, map, filter, Contains, IsSome}
 use Rattle.geo_seg.specs.Boxes.{are_near}
 use Rattle.board_items.specs.Boards.{PlainBoard, item_at}
 use Rattle.box_index.specs.declared.entry.Entry.{Entry}

@@ -1,11 +1,13 @@
 -- The rows of a whole board, as they are put together: first in any order.
-use Rattle.std.specs.Prelude.{◌≡◌, ◌⊎◌, ℕ, List, map, All, Contains}
+use Rattle.std.specs.Prelude.{◌≡◌, ◌⊎◌, ℕ, ◌<◌, true, List, map, All, Contains}
 use Rattle.std.specs.List.{AllPairs}
+use Rattle.std.specs.List.Sorted.{IsStrictlyIncreasing}
 use Rattle.board_items.specs.Boards.{PlainBoard}
-use Rattle.box_index.specs.Tiles.{PlainIndex}
+use Rattle.box_index.specs.declared.entry.Entry.{Entry}
+use Rattle.box_index.specs.Tiles.{PlainIndex, is_in, tile_count}
 use Rattle.cond_lang.specs.Kinds.{kind_number}
 use Rattle.pair_check.specs.PlainRow.{PlainRow}
-use Rattle.pair_check.specs.Rows.{Checked, IsRowOfTwo, IsRowOfOne, Before}
+use Rattle.pair_check.specs.Rows.{Checked, IsRowOfTwo, IsRowOfOne, Before, AreRowsWhere}
 use Rattle.row_check.specs.declared.order.Place.{Place}
 use Rattle.row_check.specs.Tiles.{IsAskedIn}
 
@@ -41,6 +43,15 @@ pub record IsAskedInOne (index : PlainIndex) (tiles changed : List ℕ) (i j : �
 abbrev pub IsOfTiles : Checked → PlainIndex → List ℕ → List ℕ → PlainRow → Type 0
 IsOfTiles c index tiles changed row = IsRowOfTwo c row × IsAskedInOne index tiles changed row.first row.second
 
--- a row of two items, or one of a single item among these
-abbrev pub IsOfItems : Checked → List ℕ → PlainRow → Type 0
-IsOfItems c ids row = IsRowOfTwo c row ⊎ (IsRowOfOne c row × Contains ids row.first)
+-- the tiles rise, and each tile with an entry that changed is among them
+pub record AreEnough (index : PlainIndex) (changed tiles : List ℕ) : Type 0 where
+  pub rise : IsStrictlyIncreasing tiles
+  pub all : (tile : ℕ) (entry : Entry) → tile < tile_count → Contains index.entries entry → Contains changed entry.id → is_in index tile entry ≡ true → Contains tiles tile
+
+-- the rows of the items of these ids, each alone, in order, and no others
+abbrev pub AreSingles : Checked → List ℕ → List PlainRow → Type 0
+AreSingles c ids rows = AreRowsWhere (λ row. IsRowOfOne c row × Contains ids row.first) rows
+
+-- a row of two items of a tile, one of which changed, or of a single item that did
+abbrev pub IsOfChanged : Checked → PlainIndex → List ℕ → List ℕ → PlainRow → Type 0
+IsOfChanged c index tiles changed row = IsOfTiles c index tiles changed row ⊎ (IsRowOfOne c row × Contains changed row.first)

@@ -1,6 +1,6 @@
 //! Blocks of the entries of a tile, each under one box, so that what is far is passed over together.
 
-ghost use Rattle.std.specs.Prelude.{◌≡◌, ◌≤ℤ◌, pos, true, All, IfOk, ◌∷◌};
+ghost use Rattle.std.specs.Prelude.{◌≡◌, pos, true, All, IfOk, ◌∷◌};
 ghost use Rattle.geo_seg.specs.Boxes.{FitsWithin, IsPartOf};
 ghost use Rattle.row_check.specs.Blocks.{AreBlocks, IsFar};
 
@@ -11,86 +11,13 @@ use std::alloc::{AllocError, Global};
 /// How many entries have one box.
 pub(crate) const BLOCK: usize = 64;
 
-// The first box, made to reach as far left as the second.
-fn to_left(a: Bounds, b: Bounds) -> Bounds
-    ensures held { IsPartOf a result }
-    ensures reaches { result.left ≤ℤ b.left }
-{
-    if a.left <= b.left {
-        return a;
-    }
-    Bounds {
-        left: b.left,
-        top: a.top,
-        right: a.right,
-        bottom: a.bottom,
-    }
-}
-
-// The first box, made to reach as far up as the second.
-fn to_top(a: Bounds, b: Bounds) -> Bounds
-    ensures held { IsPartOf a result }
-    ensures reaches { result.top ≤ℤ b.top }
-{
-    if a.top <= b.top {
-        return a;
-    }
-    Bounds {
-        left: a.left,
-        top: b.top,
-        right: a.right,
-        bottom: a.bottom,
-    }
-}
-
-// The first box, made to reach as far right as the second.
-fn to_right(a: Bounds, b: Bounds) -> Bounds
-    ensures held { IsPartOf a result }
-    ensures reaches { b.right ≤ℤ result.right }
-{
-    if b.right <= a.right {
-        return a;
-    }
-    Bounds {
-        left: a.left,
-        top: a.top,
-        right: b.right,
-        bottom: a.bottom,
-    }
-}
-
-// The first box, made to reach as far down as the second.
-fn to_bottom(a: Bounds, b: Bounds) -> Bounds
-    ensures held { IsPartOf a result }
-    ensures reaches { b.bottom ≤ℤ result.bottom }
-{
-    if b.bottom <= a.bottom {
-        return a;
-    }
-    Bounds {
-        left: a.left,
-        top: a.top,
-        right: a.right,
-        bottom: b.bottom,
-    }
-}
-
-// A box that holds both.
-fn joined(a: Bounds, b: Bounds) -> Bounds
-    ensures first { IsPartOf a result }
-    ensures second { IsPartOf b result }
-{
-    let columns = to_right(to_left(a, b), b);
-    to_bottom(to_top(columns, b), b)
-}
-
 // A box that holds the first and the others.
 fn box_with(first: &Entry, others: &[Entry]) -> Bounds
     ensures { All (λ e. IsPartOf e.bounds result) (first.now ∷ others.now) }
 {
     let mut bounds = first.bounds;
     for entry in others {
-        bounds = joined(bounds, entry.bounds);
+        bounds = bounds.union(entry.bounds);
     }
     bounds
 }

@@ -1,8 +1,13 @@
 //! Laws of rows. The functions do nothing: each clause holds for all that is checked and for all rows.
 
-ghost use Rattle.std.specs.Prelude.{◌≡◌, List, All};
+ghost use Rattle.std.specs.Prelude.{◌≡◌, ◌⊎◌, ℕ, List, All, Contains};
+ghost use Rattle.std.specs.List.{AllZip, flat_map};
+ghost use Rattle.std.specs.List.Sorted.{IsStrictlyIncreasing, IsPermutation};
+ghost use Rattle.box_index.specs.Tiles.{PlainIndex, IsSound};
 ghost use Rattle.pair_check.specs.PlainRow.{PlainRow};
-ghost use Rattle.pair_check.specs.Rows.{Checked, AreRows, HasItems, HasSource};
+ghost use Rattle.pair_check.specs.Rows.{Checked, IsRow, IsRowOfTwo, AreRows, HasItems, HasSource};
+ghost use Rattle.row_check.specs.Tiles.{IsIndexOf, AreRowsOfTile};
+ghost use Rattle.row_check.specs.Whole.{AreOnceWhere, AreInOrder, AreEnough, IsAskedInOne, IsOfTiles};
 
 /// A board has one list of rows under the classes of a project and rules.
 pub fn one_list()
@@ -17,4 +22,23 @@ pub fn rows_have_items()
 /// Where a rule asks for what a row says, it is one of the rules.
 pub fn rows_have_sources()
     ensures { (c : Checked) (rows : List PlainRow) → AreRows c rows → All (HasSource c.rules) rows }
+{}
+
+/// Where the tiles have all those that hold an entry that changed, one of them answers for each pair that breaks something and has
+/// an item that changed.
+pub fn enough_answer()
+    ensures { (c : Checked) (index : PlainIndex) → IsSound index → IsIndexOf c index → (changed tiles : List ℕ) → AreEnough index changed tiles
+        → (row : PlainRow) → IsRowOfTwo c row → Contains changed row.first ⊎ Contains changed row.second → IsAskedInOne index tiles changed row.first row.second }
+{}
+
+/// The rows of tiles, put end to end, have each row once.
+pub fn tiles_once()
+    ensures { (c : Checked) (index : PlainIndex) → IsSound index → IsIndexOf c index → (tiles changed : List ℕ) → IsStrictlyIncreasing tiles
+        → (batches : List (List PlainRow)) → AllZip (λ tile batch. AreRowsOfTile c index tile changed batch) tiles batches
+        → AreOnceWhere (IsOfTiles c index tiles changed) (flat_map (λ (batch : List PlainRow). batch) batches) }
+{}
+
+/// The rows of a board that stand there once each, in any order, are its rows once they are put in order.
+pub fn once_in_order()
+    ensures { (c : Checked) (rows sorted : List PlainRow) → AreOnceWhere (IsRow c) rows → IsPermutation rows sorted → AreInOrder sorted → AreRows c sorted }
 {}

@@ -7,10 +7,10 @@
 mod blocks;
 pub mod laws;
 pub mod near;
-mod order;
+pub mod order;
 mod tile;
 mod whole;
 
 pub use pair_check::{CheckView, PairRows, Row, RowLayer, Steps, test_item, test_pair};
 pub use tile::test_tile;
-pub use whole::rows_of;
+pub use whole::{push_singles, rows_of, rows_of_changed};

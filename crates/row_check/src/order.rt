@@ -7,9 +7,9 @@ ghost use Rattle.row_check.specs.Whole.{AreInOrder, place_of};
 use pair_check::Row;
 use std::alloc::AllocError;
 
-// Where a row stands in the order: by the first id, then by the second, then by the number of the kind.
+/// Where a row stands in the order: by the first id, then by the second, then by the number of the kind.
 #[derive(Clone, Copy, PartialEq, Eq, PartialOrd, Ord)]
-pub(crate) struct Place {
+pub struct Place {
     first: u32,
     second: u32,
     kind: u32,
@@ -26,7 +26,7 @@ fn place_of(row: &Row) -> Place
 }
 
 /// Puts rows in order. Only want of memory fails it.
-pub(crate) fn put_in_order(rows: &mut Vec<Row>) -> Result<(), AllocError>
+pub fn put_in_order(rows: &mut Vec<Row>) -> Result<(), AllocError>
     ensures { OnOk result (IsPermutation rows.old.items rows.new.items × AreInOrder rows.new.items) }
 {
     rows.sort_by_key(|row| place_of(row))?;

@@ -20,6 +20,22 @@ use pair_check::{Asked, CheckView, Row, Single, Steps, single_at, test_beside};
 use std::alloc::{AllocError, Global};
 use std::sync::ledger::Ledger;
 
+// What is tested, and what is asked for at all.
+#[derive(Clone, Copy)]
+struct Tested<'a> {
+    alloc: Global,
+    view: &'a CheckView<'a>,
+    asked: Asked,
+}
+
+// A tile of an index, and the boxes of the blocks of the entries that are walked there.
+#[derive(Clone, Copy)]
+struct At<'a> {
+    index: &'a TileIndex,
+    tile: u32,
+    boxes: &'a [Bounds],
+}
+
 // Whether the id is one of those that changed.
 fn is_changed(changed: &[u32], id: u32) -> bool
     requires { IsStrictlyIncreasing changed.now }
@@ -77,46 +93,46 @@ fn partners<'a>(
 
 // Appends the rows of a pair.
 fn push_pair<L: Ledger>(
-    alloc: Global,
-    view: &CheckView,
-    asked: Asked,
+    tested: &Tested<'_>,
     first: u32,
     one: Single<'_>,
     second: u32,
     rows: &mut Vec<Row>,
     steps: &mut Steps<L>,
 ) -> Result<(), AllocError>
-    requires view { IsWhole view.now }
-    requires asked { IsNoteOf (deciders (checked_by view.now)) asked }
+    requires view { IsWhole tested.now.view.now }
+    requires asked { IsNoteOf (deciders (checked_by tested.now.view.now)) tested.now.asked }
     requires ordered { first < second }
-    requires first { Stands (checked_by view.now) first one.item.now one.facts.now }
-    requires second { IsSome (item_at (checked_by view.now).board.items second) }
-    ensures rows { OnOk result (HasMore (AreRowsOfPair (checked_by view.now) first second) rows.old.items rows.new.items) }
+    requires first { Stands (checked_by tested.now.view.now) first one.item.now one.facts.now }
+    requires second { IsSome (item_at (checked_by tested.now.view.now).board.items second) }
+    ensures rows { OnOk result (HasMore (AreRowsOfPair (checked_by tested.now.view.now) first second) rows.old.items rows.new.items) }
     ensures step { steps.new ≡ steps.old + 1 }
 {
-    let found = test_beside(alloc, view, asked, first, one, second, steps);
+    let found = test_beside(
+        tested.alloc,
+        tested.view,
+        tested.asked,
+        first,
+        one,
+        second,
+        steps,
+    );
     rows.extend_from_slice(found.as_slice())?;
     Ok(())
 }
 
 // The others from the first for which the tile answers. Blocks that are far are passed over whole.
-fn owned_from<'a>(
-    index: &TileIndex,
-    tile: u32,
-    first: &Entry,
-    others: &'a [Entry],
-    boxes: &[Bounds],
-) -> &'a [Entry]
+fn owned_from<'a>(at: &At<'_>, first: &Entry, others: &'a [Entry]) -> &'a [Entry]
     requires fits { All (λ e. FitsWithin (pos 2000000000) e.bounds) (first.now ∷ others.now) }
-    requires blocks { AreBlocks boxes.now others.now }
-    ensures end { IsEndOf index.now tile first.now others.now result.now }
-    ensures owned { StartsOwned index.now tile first.now result.now }
+    requires blocks { AreBlocks at.now.boxes.now others.now }
+    ensures end { IsEndOf at.now.index.now at.now.tile first.now others.now result.now }
+    ensures owned { StartsOwned at.now.index.now at.now.tile first.now result.now }
 {
     let mut left = others;
     'walk: while let Some((second, rest)) = left.split_first() {
-        if is_far(index, first, boxes, left.len()) {
+        if is_far(at.index, first, at.boxes, left.len()) {
             left = &left[BLOCK..];
-        } else if is_owned(index, tile, first, second) {
+        } else if is_owned(at.index, at.tile, first, second) {
             return left;
         } else {
             left = rest;
@@ -127,106 +143,61 @@ fn owned_from<'a>(
 
 // Appends the rows of an entry, whose item is at hand, with others, for the first of which the tile answers.
 fn push_beside<L: Ledger>(
-    alloc: Global,
-    view: &CheckView,
-    asked: Asked,
-    index: &TileIndex,
-    tile: u32,
+    tested: &Tested<'_>,
+    at: &At<'_>,
     first: &Entry,
     one: Single<'_>,
     others: &[Entry],
-    boxes: &[Bounds],
     rows: &mut Vec<Row>,
     steps: &mut Steps<L>,
 ) -> Result<(), AllocError>
-    requires view { IsWhole view.now }
-    requires asked { IsNoteOf (deciders (checked_by view.now)) asked }
-    requires first { Stands (checked_by view.now) first.now.id one.item.now one.facts.now }
+    requires view { IsWhole tested.now.view.now }
+    requires asked { IsNoteOf (deciders (checked_by tested.now.view.now)) tested.now.asked }
+    requires first { Stands (checked_by tested.now.view.now) first.now.id one.item.now one.facts.now }
     requires rising { IsRising (first.now ∷ others.now) }
     requires fits { All (λ e. FitsWithin (pos 2000000000) e.bounds) (first.now ∷ others.now) }
-    requires there { All (IsOn (checked_by view.now).board) (first.now ∷ others.now) }
-    requires blocks { AreBlocks boxes.now others.now }
-    requires owned { StartsOwned index.now tile first.now others.now }
-    ensures rows { OnOk result (HasMore (AreRowsOfPairs (checked_by view.now) (pairs_with index.now tile first.now others.now)) rows.old.items rows.new.items) }
-    ensures steps { OnOk result (steps.new ≡ steps.old + length (pairs_with index.now tile first.now others.now)) }
-    ensures most { steps.new ≤ steps.old + length (pairs_with index.now tile first.now others.now) }
+    requires there { All (IsOn (checked_by tested.now.view.now).board) (first.now ∷ others.now) }
+    requires blocks { AreBlocks at.now.boxes.now others.now }
+    requires owned { StartsOwned at.now.index.now at.now.tile first.now others.now }
+    ensures rows { OnOk result (HasMore (AreRowsOfPairs (checked_by tested.now.view.now) (pairs_with at.now.index.now at.now.tile first.now others.now)) rows.old.items rows.new.items) }
+    ensures steps { OnOk result (steps.new ≡ steps.old + length (pairs_with at.now.index.now at.now.tile first.now others.now)) }
+    ensures most { steps.new ≤ steps.old + length (pairs_with at.now.index.now at.now.tile first.now others.now) }
 {
     let mut left = others;
     'walk: while let Some((second, rest)) = left.split_first() {
-        push_pair(alloc, view, asked, first.id, one, second.id, rows, steps)?;
-        left = owned_from(index, tile, first, rest, boxes);
+        push_pair(tested, first.id, one, second.id, rows, steps)?;
+        left = owned_from(at, first, rest);
     }
     Ok(())
 }
 
 // Appends the rows of an entry with others. Its item is looked up once, and only where there is something to test.
 fn push_rows<L: Ledger>(
-    alloc: Global,
-    view: &CheckView,
-    asked: Asked,
-    index: &TileIndex,
-    tile: u32,
+    tested: &Tested<'_>,
+    at: &At<'_>,
     first: &Entry,
     others: &[Entry],
-    boxes: &[Bounds],
     rows: &mut Vec<Row>,
     steps: &mut Steps<L>,
 ) -> Result<(), AllocError>
-    requires view { IsWhole view.now }
-    requires asked { IsNoteOf (deciders (checked_by view.now)) asked }
+    requires view { IsWhole tested.now.view.now }
+    requires asked { IsNoteOf (deciders (checked_by tested.now.view.now)) tested.now.asked }
     requires rising { IsRising (first.now ∷ others.now) }
     requires fits { All (λ e. FitsWithin (pos 2000000000) e.bounds) (first.now ∷ others.now) }
-    requires there { All (IsOn (checked_by view.now).board) (first.now ∷ others.now) }
-    requires blocks { AreBlocks boxes.now others.now }
-    ensures rows { OnOk result (HasMore (AreRowsOfPairs (checked_by view.now) (pairs_with index.now tile first.now others.now)) rows.old.items rows.new.items) }
-    ensures steps { OnOk result (steps.new ≡ steps.old + length (pairs_with index.now tile first.now others.now)) }
-    ensures most { steps.new ≤ steps.old + length (pairs_with index.now tile first.now others.now) }
+    requires there { All (IsOn (checked_by tested.now.view.now).board) (first.now ∷ others.now) }
+    requires blocks { AreBlocks at.now.boxes.now others.now }
+    ensures rows { OnOk result (HasMore (AreRowsOfPairs (checked_by tested.now.view.now) (pairs_with at.now.index.now at.now.tile first.now others.now)) rows.old.items rows.new.items) }
+    ensures steps { OnOk result (steps.new ≡ steps.old + length (pairs_with at.now.index.now at.now.tile first.now others.now)) }
+    ensures most { steps.new ≤ steps.old + length (pairs_with at.now.index.now at.now.tile first.now others.now) }
 {
-    let owned = owned_from(index, tile, first, others, boxes);
+    let owned = owned_from(at, first, others);
     if owned.is_empty() {
         return Ok(());
     }
-    let Some(one) = single_at(view, first.id) else {
+    let Some(one) = single_at(tested.view, first.id) else {
         return Ok(());
     };
-    push_beside(
-        alloc, view, asked, index, tile, first, one, owned, boxes, rows, steps,
-    )
-}
-
-/// As `test_tile`, with what is asked for.
-pub(crate) fn tile_rows<L: Ledger>(
-    alloc: Global,
-    view: &CheckView,
-    asked: Asked,
-    index: &TileIndex,
-    tile: u32,
-    changed: &[u32],
-    steps: &mut Steps<L>,
-) -> Result<Vec<Row>, AllocError>
-    requires view { IsWhole view.now }
-    requires asked { IsNoteOf (deciders (checked_by view.now)) asked }
-    requires index { IsIndexOf (checked_by view.now) index.now }
-    requires changed { IsStrictlyIncreasing changed.now }
-    ensures rows { IfOk result (λ rows. AreRowsOfTile (checked_by view.now) index.now tile changed.now rows.items) }
-    ensures steps { steps.new ≤ steps.old + most_steps index.now tile changed.now }
-{
-    let near = index.near(tile);
-    let all_touched = touched_of(alloc, near, changed)?;
-    let all_boxes = boxes_of(alloc, near)?;
-    let boxes: &[Bounds] = &all_boxes;
-    let mut rows = Vec::new(alloc);
-    let mut later = near;
-    let mut touched: &[Entry] = &all_touched;
-    'entries: while let Some((first, others)) = later.split_first() {
-        let (with, its_boxes, rest) = partners(first, others, boxes, touched);
-        push_rows(
-            alloc, view, asked, index, tile, first, with, its_boxes, &mut rows, steps,
-        )?;
-        later = others;
-        touched = rest;
-    }
-    Ok(rows)
+    push_beside(tested, at, first, one, owned, rows, steps)
 }
 
 /// The rows of all pairs that have an id in `changed` and for which the tile answers, by the first id, then by the second,
@@ -248,5 +219,21 @@ pub fn test_tile<L: Ledger>(
     ensures rows { IfOk result (λ rows. AreRowsOfTile (checked_by view.now) index.now tile changed.now rows.items) }
     ensures steps { steps.new ≤ steps.old + most_steps index.now tile changed.now }
 {
-    tile_rows(alloc, view, Asked::by(view), index, tile, changed, steps)
+    let asked = Asked::by(view);
+    let tested = Tested { alloc, view, asked };
+    let near = index.near(tile);
+    let all_touched = touched_of(alloc, near, changed)?;
+    let all_boxes = boxes_of(alloc, near)?;
+    let boxes: &[Bounds] = &all_boxes;
+    let mut rows = Vec::new(alloc);
+    let mut later = near;
+    let mut touched: &[Entry] = &all_touched;
+    'entries: while let Some((first, others)) = later.split_first() {
+        let (with, boxes, rest) = partners(first, others, boxes, touched);
+        let at = At { index, tile, boxes };
+        push_rows(&tested, &at, first, with, &mut rows, steps)?;
+        later = others;
+        touched = rest;
+    }
+    Ok(rows)
 }

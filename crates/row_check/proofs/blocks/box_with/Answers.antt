@@ -10,7 +10,7 @@ none = record { id = 0; bounds = record { left = pos 0; top = pos 0; right = pos
 
 pub loop-entry-preserved : goal.loop-entry-preserved
 loop-entry-preserved c =
-    more_in_box c.args.first.now c.args.others.now c.loop-entry.entry-index none c.loop-entry.bounds c.joined-bounds.result c.loop-entry-test.true c.joined-bounds.ensures.first c.joined-bounds.ensures.second c.loop-entry.invariant
+    more_in_box c.args.first.now c.args.others.now c.loop-entry.entry-index none c.loop-entry.bounds c.union-bounds.result c.loop-entry-test.true c.union-bounds.ensures.least.first c.union-bounds.ensures.least.second c.loop-entry.invariant
 
 pub returns : goal.returns
 returns c =

@@ -7,16 +7,16 @@ use Rattle.row_check.proofs.tile.owned_from.Goals as goal
 
 pub walk-preserved-then-is_far : goal.walk-preserved-then-is_far
 walk-preserved-then-is_far c =
-    block_less c.args.index.now c.args.tile c.args.first.now c.args.boxes.now c.args.others.now c.walk.left.now _ (behind_block _ c.walk.left.now refl)
-    (blocks_end c.args.boxes.now c.args.others.now c.walk.invariant.front c.walk.left.now c.walk.invariant.split c.requires.blocks) (c.is_far.ensures c.if-is_far.true) c.walk.invariant
+    block_less c.args.at.now.index.now c.args.at.now.tile c.args.first.now c.args.at.now.boxes.now c.args.others.now c.walk.left.now _ (behind_block _ c.walk.left.now refl)
+    (blocks_end c.args.at.now.boxes.now c.args.others.now c.walk.invariant.front c.walk.left.now c.walk.invariant.split c.requires.blocks) (c.is_far.ensures c.if-is_far.true) c.walk.invariant
 
 pub is_owned-requires-clause-second : goal.is_owned-requires-clause-second
 is_owned-requires-clause-second c =
     All-head Fits c.in-Some.second.now c.in-Some.rest.now
     (All-tail Fits c.args.first.now (c.in-Some.second.now ∷ c.in-Some.rest.now)
     (subst (λ (ys : List Entry). All Fits (c.args.first.now ∷ ys)) c.in-Some.ensures.cases.0
-    (end_all c.args.index.now c.args.tile c.args.first.now c.args.others.now c.walk.left.now c.walk.invariant Fits c.requires.fits)))
+    (end_all c.args.at.now.index.now c.args.at.now.tile c.args.first.now c.args.others.now c.walk.left.now c.walk.invariant Fits c.requires.fits)))
 
 pub walk-preserved : goal.walk-preserved
 walk-preserved c =
-    one_less c.args.index.now c.args.tile c.args.first.now c.args.others.now c.walk.left.now c.in-Some.rest.now c.in-Some.second.now c.in-Some.ensures.cases.0 (sym c.is_owned.ensures ∙ c.if-is_owned.false) c.walk.invariant
+    one_less c.args.at.now.index.now c.args.at.now.tile c.args.first.now c.args.others.now c.walk.left.now c.in-Some.rest.now c.in-Some.second.now c.in-Some.ensures.cases.0 (sym c.is_owned.ensures ∙ c.if-is_owned.false) c.walk.invariant

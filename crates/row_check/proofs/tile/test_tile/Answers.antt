@@ -5,7 +5,7 @@ use Rattle.row_check.specs.Tiles.{most_steps}
 use Rattle.row_check.proofs.BlockLists.{blocks_end}
 use Rattle.row_check.proofs.TestedPairs.{touches}
 use Rattle.row_check.proofs.TileWalk.{none_tested, front_entries, first_touched, its_entries, tested_more, steps_within, most_tested, all_counted, all_tested}
-use Rattle.row_check.proofs.tile.tile_rows.Goals as goal
+use Rattle.row_check.proofs.tile.test_tile.Goals as goal
 
 pub entries-init : goal.entries-init
 entries-init g c = record {

@@ -2,11 +2,11 @@ use Rattle.std.proofs.Common.{length}
 use Rattle.pair_check.specs.Views.{checked_by}
 use Rattle.row_check.specs.Blocks.{AreBlocks}
 use Rattle.row_check.proofs.TileWalk.{IsTestedTo}
-use Rattle.row_check.proofs.tile.tile_rows.Given as goal
+use Rattle.row_check.proofs.tile.test_tile.Given as goal
 
 abbrev pub invariant-entries : goal.invariant-entries
 invariant-entries g l = record {
-  tested : IsTestedTo (checked_by l.view) l.index l.tile l.changed l.initial.later l.later l.touched l.rows.items l.fn.steps l.steps;
+  tested : IsTestedTo (checked_by l.fn.view) l.index l.tile l.changed l.initial.later l.later l.touched l.rows.items l.fn.steps l.steps;
   blocks : AreBlocks l.boxes l.later;
 }
 
