@@ -1,5 +1,5 @@
 -- The anchors of the groups of a net of a board.
-use Rattle.std.proofs.Common.{◌≡◌, ℕ, zero, suc, ◌<◌, ◌≤◌, nat_eq, List, [], length, get_or, All, Contains, IsSome, Option, Some, inl, true, refl, sym, subst, arith, eq-eqb}
+use Rattle.std.proofs.Common.{◌≡◌, ℕ, zero, suc, ◌<◌, ◌≤◌, nat_eq, List, [], length, get_or, All, Contains, IsSome, Option, Some, inl, true, refl, sym, subst, ◌∙◌, arith, eq-eqb}
 use Rattle.std.proofs.lemmas.List.Elements.{All-contains, All-weaker, All-get_or, Contains-get_or}
 use Rattle.int_algebra.proofs.Tested.{front}
 use Rattle.board_items.specs.declared.item.Item.{Item}
@@ -9,17 +9,20 @@ use Rattle.ratsnest.specs.NestOf.{GroupsOccur}
 use Rattle.net_groups.specs.Classes.{least}
 use Rattle.net_groups.specs.Touching.{IsConductor}
 use Rattle.net_groups.specs.Groups.{items_of, HasCopper, AreGroups, IsOnBoard}
-use Rattle.net_groups.specs.Anchors.{IsAnchor, AreAnchorsOf, AreAnchors}
+use Rattle.net_groups.specs.Anchors.{HasAnchor, IsAnchor, AreAnchorsOf, AreAnchors}
 use Rattle.net_groups.specs.Numbering.{AreNumbered, AreAnchorsAmong}
 use Rattle.net_groups.proofs.AnchorLists.{some_group, has_group, same_anchors}
 use Rattle.net_groups.proofs.NetIds.{ids_few, ids_has, found_below, found_admitted}
 use Rattle.net_groups.proofs.Numbers.{is_group}
 use Rattle.net_groups.proofs.Anchoring.{x_in_reach, y_in_reach}
-use Rattle.net_groups.proofs.Nets.{conductor}
+use Rattle.net_groups.proofs.Nets.{its_item, its_net, conductor}
 
 -- ---- groups have one list
 pub anchors_once : (items : List (ℕ × Item)) (groups : List (List ℕ)) (anchors others : List Anchor) → AreAnchorsOf items groups anchors → AreAnchorsOf items groups others → anchors ≡ others
 anchors_once items groups anchors others a b = same_anchors anchors others a.rise b.rise (λ x c. b.every x (a.only x c)) (λ x c. a.every x (b.only x c))
+
+one_item : (a b : Item) → Some a ≡ Some b → a ≡ b
+one_item a b e = cc
 
 -- the position of an item as its first anchor
 abbrev start : (g id : ℕ) (item : Item) → is_on_board item ≡ true → Anchor
@@ -27,11 +30,13 @@ start g id item near = record { id = id; number = 0; group = g; x = item.x; y = 
 
 module _ (board : PlainBoard) (net : ℕ) (sound : IsSound board) (groups : List (List ℕ)) (are : AreGroups board net groups) where
   -- ---- members
+  copper_of : (g id : ℕ) → Contains (get_or groups g []) id → HasCopper (items_of net board.items) id
+  copper_of g id c =
+      All-contains (HasCopper (items_of net board.items)) (get_or groups g []) id
+      (All-get_or (λ list. All (HasCopper (items_of net board.items)) list) groups g [] (is_group groups g id c) are.only) c
+
   member_of : (g id : ℕ) → Contains (get_or groups g []) id → IsConductor board net id
-  member_of g id c =
-      conductor board net sound id
-      (All-contains (HasCopper (items_of net board.items)) (get_or groups g []) id
-      (All-get_or (λ list. All (HasCopper (items_of net board.items)) list) groups g [] (is_group groups g id c) are.only) c)
+  member_of g id c = conductor board net sound id (copper_of g id c)
 
   found_some : (id : ℕ) (item : Item) → item_at board.items id ≡ Some item → IsOnBoard board id
   found_some id item found = subst IsSome (sym found) refl
@@ -70,21 +75,24 @@ module _ (board : PlainBoard) (net : ℕ) (sound : IsSound board) (groups : List
     among : AreAnchorsAmong board.items numbers (ids_of_net net board.items) anchors
     among = subst (λ (is : List ℕ). AreAnchorsAmong board.items numbers is anchors) all found
 
-    pub anchors_are : AreAnchors board groups anchors
+    pub anchors_are : AreAnchors board net groups anchors
     anchors_are = record { rise = among.rise; only = only; every = every }
       where
-        only : (a : Anchor) → Contains anchors a → IsAnchor board.items groups a
+        only : (a : Anchor) → Contains anchors a → IsAnchor (items_of net board.items) groups a
         only a c =
             let is = among.only a c in
-            record { item = is.item; found = is.found; member = numbered.only a.id a.group is.numbered; place = is.place }
+            let member = numbered.only a.id a.group is.numbered in
+            let own = copper_of a.group a.id member in
+            let one : is.item ≡ own.item = one_item is.item own.item (sym is.found ∙ its_item board net sound a.id own) in
+            record { own = own; member = member; place = subst (λ (item : Item). HasAnchor item a.number a.x a.y) one is.place }
 
-        every : (a : Anchor) → IsAnchor board.items groups a → Contains anchors a
+        every : (a : Anchor) → IsAnchor (items_of net board.items) groups a → Contains anchors a
         every a is =
-            let m = member_of a.group a.id is.member in
+            let found = its_item board net sound a.id is.own in
             among.every a (record {
-              item = is.item;
-              found = is.found;
-              listed = ids_has (λ item. nat_eq item.net net) board.items a.id m.item m.found (eq-eqb m.item.net net m.own_net);
+              item = is.own.item;
+              found = found;
+              listed = ids_has (λ item. nat_eq item.net net) board.items a.id is.own.item found (eq-eqb is.own.item.net net (its_net board net sound a.id is.own));
               numbered = numbered.every a.id a.group is.member;
               place = is.place;
             })
@@ -101,11 +109,7 @@ module _ (board : PlainBoard) (net : ℕ) (sound : IsSound board) (groups : List
         let last = is_group groups high.0.group high.0.id (anchors_are.only high.0 high.1).member in
         let below : g < length groups = omega (arith, high.2) in
         let id = least (get_or groups g []) in
-        let is = member_of g id (least_of g below) in
-        let near = front (is_on_board is.item) _ (front _ (has_layers_of board is.item) (found_admitted board board.items sound.admitted id is.item is.found)) in
-        has_group anchors (start g id is.item near) (anchors_are.every (start g id is.item near) (record {
-          item = is.item;
-          found = is.found;
-          member = least_of g below;
-          place = inl (refl, refl, refl);
-        }))
+        let own = copper_of g id (least_of g below) in
+        let found = its_item board net sound id own in
+        let near = front (is_on_board own.item) _ (front _ (has_layers_of board own.item) (found_admitted board board.items sound.admitted id own.item found)) in
+        has_group anchors (start g id own.item near) (anchors_are.every (start g id own.item near) (record { own = own; member = least_of g below; place = inl (refl, refl, refl) }))

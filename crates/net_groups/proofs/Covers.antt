@@ -23,7 +23,7 @@ use Rattle.box_index.specs.Tiles.{PlainIndex, IsSound, margin, near_of, is_in, m
 use Rattle.box_index.proofs.Buckets.{complete}
 use Rattle.net_groups.specs.Touching.{TouchOn}
 use Rattle.net_groups.specs.Classes.{Rises}
-use Rattle.net_groups.specs.Holding.{HoldsItems}
+use Rattle.board_index.specs.Holding.{HoldsItems}
 use Rattle.geo_seg.specs.Boxes.{do_boxes_meet}
 use Rattle.net_groups.specs.Asking.{tile_for, asked_in, IsOwn}
 use Rattle.net_groups.proofs.Asked.{asked_contains}
@@ -118,20 +118,20 @@ module _ (board : PlainBoard) (index : PlainIndex) (holds : HoldsItems board ind
   own_held : (id : ℕ) (own : Entry) (o : IsOwn board id own) → parts_of o.item ≢ [] → Contains index.entries own
   own_held id own o some =
       let has = holds.each id o.item o.found some in
-      let same : has.box ≡ own.bounds = one_box (parts_of o.item) has.box own.bounds has.own o.own in
+      let same : has.bounds ≡ own.bounds = one_box (parts_of o.item) has.bounds own.bounds has.own o.own in
       subst (λ (b : Bounds). Contains index.entries (record { id = own.id; bounds = b })) same
-      (subst (λ (n : ℕ). Contains index.entries (record { id = n; bounds = has.box })) (sym o.same) has.entry)
+      (subst (λ (n : ℕ). Contains index.entries (record { id = n; bounds = has.bounds })) (sym o.same) has.entry)
 
   pub asked_somewhere : (id j : ℕ) (own : Entry) → IsOwn board id own → TouchOn board id j → (tile : ℕ) × (meets_tile (widened own.bounds (margin index)) tile ≡ true) × Contains (asked_in index tile own) j
   asked_somewhere id j own o t =
       let mine : t.a ≡ o.item = some_same t.a o.item (sym t.first ∙ o.found) in
       let some : parts_of o.item ≢ [] = subst (λ (a : Item). parts_of a ≢ []) mine (has_parts t.a t.b t.touch.meet) in
       let theirs = holds.each j t.b t.second (has_parts t.b t.a (copper_meets_back t.a t.b t.touch.meet)) in
-      let other : Entry = record { id = j; bounds = theirs.box } in
-      let meets = rooms_meet o.item t.b own.bounds theirs.box o.own theirs.own (subst (λ (a : Item). CopperMeets a t.b) mine t.touch.meet) in
+      let other : Entry = record { id = j; bounds = theirs.bounds } in
+      let meets = rooms_meet o.item t.b own.bounds theirs.bounds o.own theirs.own (subst (λ (a : Item). CopperMeets a t.b) mine t.touch.meet) in
       let tile = tile_for (margin index) own other in
       let both = answered index sound own other (own_held id own o some) theirs.entry meets in
-      let asked = and_from (do_boxes_meet own.bounds theirs.box) (tile_for (margin index) own other == tile) (meet_true own.bounds theirs.box meets) (eq-eqb tile tile refl) in
+      let asked = and_from (do_boxes_meet own.bounds theirs.bounds) (tile_for (margin index) own other == tile) (meet_true own.bounds theirs.bounds meets) (eq-eqb tile tile refl) in
       (tile, lent_meets index sound tile own both.0, asked_contains (margin index) tile own (near_of index tile) other both.1.0 both.1.1 both.1.2 asked)
 
   pub covers : (ids : List ℕ) → Rises ids → (place : ℕ) → place < length ids → (own : Entry) → IsOwn board (get_or ids place 0) own → (others : List ℕ)

@@ -17,3 +17,4 @@ pub mod NetIds
 pub mod Numbers
 pub mod Anchoring
 pub mod AnchorsOf
+pub mod Parts

@@ -86,6 +86,13 @@ module _ (board : PlainBoard) (net : ℕ) (sound : IsSound board) where
   member : (id : ℕ) → IsConductor board net id → HasCopper (items_of net board.items) id
   member id is = record { item = is.item; found = stays net board.items id is.item is.found (net_to net is.item is.own_net is.some_net); copper = is.copper }
 
+  -- an item of the net is one of the board
+  pub its_item : (id : ℕ) (is : HasCopper (items_of net board.items) id) → item_at board.items id ≡ Some is.item
+  its_item id is = (among net 0 board.next_id board.items sound.ids id is.item is.found).found
+
+  pub its_net : (id : ℕ) (is : HasCopper (items_of net board.items) id) → is.item.net ≡ net
+  its_net id is = (net_from net is.item (among net 0 board.next_id board.items sound.ids id is.item is.found).passes).0
+
   pub conductor : (id : ℕ) → HasCopper (items_of net board.items) id → IsConductor board net id
   conductor id is =
       let a = among net 0 board.next_id board.items sound.ids id is.item is.found in

@@ -11,7 +11,7 @@ use Rattle.box_index.specs.Tiles.{PlainIndex, IsSound, margin, meets_tile}
 use Rattle.net_groups.specs.Touching.{TouchOn}
 use Rattle.net_groups.specs.Classes.{Rises}
 use Rattle.net_groups.specs.Labels.{IsVisited}
-use Rattle.net_groups.specs.Holding.{HoldsItems}
+use Rattle.board_index.specs.Holding.{HoldsItems}
 use Rattle.net_groups.specs.Asking.{IsOwn, asked_in, IsWalked, IsVisitedWhole}
 use Rattle.net_groups.proofs.Visits.{visited_none, visited_join}
 use Rattle.net_groups.proofs.Covers.{covers}

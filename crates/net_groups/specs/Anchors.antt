@@ -8,7 +8,8 @@ use Rattle.board_items.specs.declared.parts.Part.{Part}
 use Rattle.board_items.specs.declared.item.What.{What}
 use Rattle.board_items.specs.declared.item.What.TheVariants.{Track}
 use Rattle.board_items.specs.declared.item.Item.{Item}
-use Rattle.board_items.specs.Boards.{PlainBoard, item_at}
+use Rattle.board_items.specs.Boards.{PlainBoard}
+use Rattle.net_groups.specs.Groups.{items_of, HasCopper}
 use Rattle.ratsnest.specs.declared.anchor.Anchor.{Anchor}
 use Rattle.ratsnest.specs.NestOf.{Rise}
 
@@ -38,12 +39,11 @@ HasAnchor item number x y =
     ((number ≡ 0) × (x ≡ item.x) × (y ≡ item.y))
     ⊎ ((number ≡ 1) × IsSpot (track_end item.what item.copper) x y)
 
--- an anchor of a member of a group
+-- an anchor of a member of a group, which is an item with copper
 pub record IsAnchor (items : List (ℕ × Item)) (groups : List (List ℕ)) (anchor : Anchor) : Type 0 where
-  pub item : Item
-  pub found : item_at items anchor.id ≡ Some item
+  pub own : HasCopper items anchor.id
   pub member : Contains (slice_index_or groups anchor.group []) anchor.id
-  pub place : HasAnchor item anchor.number anchor.x anchor.y
+  pub place : HasAnchor own.item anchor.number anchor.x anchor.y
 
 -- all anchors of the members of the groups, by rising id and number
 pub record AreAnchorsOf (items : List (ℕ × Item)) (groups : List (List ℕ)) (anchors : List Anchor) : Type 0 where
@@ -51,6 +51,6 @@ pub record AreAnchorsOf (items : List (ℕ × Item)) (groups : List (List ℕ)) 
   pub only : (anchor : Anchor) → Contains anchors anchor → IsAnchor items groups anchor
   pub every : (anchor : Anchor) → IsAnchor items groups anchor → Contains anchors anchor
 
--- those of groups of items of a board
-abbrev pub AreAnchors : PlainBoard → List (List ℕ) → List Anchor → Type 0
-AreAnchors board groups anchors = AreAnchorsOf board.items groups anchors
+-- those of the groups of a net of a board: all is said of the items of the net alone, as for groups
+abbrev pub AreAnchors : PlainBoard → ℕ → List (List ℕ) → List Anchor → Type 0
+AreAnchors board net groups anchors = AreAnchorsOf (items_of net board.items) groups anchors

@@ -1,9 +1,9 @@
 pub mod Chains
 pub mod Classes
 pub mod Groups
-pub mod Holding
 pub mod Touching
 pub mod Labels
 pub mod Asking
 pub mod Anchors
 pub mod Numbering
+pub mod NetParts

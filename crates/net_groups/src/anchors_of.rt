@@ -95,7 +95,7 @@ pub fn anchors(
     groups: &[Group],
 ) -> Result<Vec<Anchor>, AllocError>
     requires { AreGroups board.now net groups.now }
-    ensures anchors { IfOk result (λ anchors. AreAnchors board.now groups.now anchors.items) }
+    ensures anchors { IfOk result (λ anchors. AreAnchors board.now net groups.now anchors.items) }
     ensures rise { IfOk result (λ anchors. Rise anchors.items) }
     ensures occur { IfOk result (λ anchors. GroupsOccur anchors.items) }
     ensures few { IfOk result (λ anchors. length anchors.items < 2 ^ 32) }

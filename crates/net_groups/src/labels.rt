@@ -5,7 +5,7 @@ ghost use Rattle.net_groups.specs.Touching.{TouchOn};
 ghost use Rattle.net_groups.specs.Classes.{Rises};
 ghost use Rattle.geo_seg.specs.Boxes.{FitsWithin};
 ghost use Rattle.box_index.specs.Tiles.{margin};
-ghost use Rattle.net_groups.specs.Holding.{HoldsItems};
+ghost use Rattle.board_index.specs.Holding.{HoldsItems};
 ghost use Rattle.net_groups.specs.Asking.{is_asked, asked_in, IsOwn, IsAskedNew, IsVisitedWhole};
 ghost use Rattle.net_groups.specs.Labels.{label_at, IsPassedOver, IsNew, IsVisited, AreLabels};
 

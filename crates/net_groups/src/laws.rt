@@ -1,10 +1,12 @@
-//! Laws of groups and anchors. The functions do nothing: each clause holds for all items.
+//! Laws of groups, anchors and parts of nets. The functions do nothing: each clause holds for all items or boards.
 
-ghost use Rattle.std.specs.Prelude.{◌≡◌, ℕ, List};
+ghost use Rattle.std.specs.Prelude.{◌≡◌, ℕ, List, All};
 ghost use Rattle.board_items.specs.declared.item.Item.{Item};
+ghost use Rattle.board_items.specs.Boards.{PlainBoard, IsSound};
 ghost use Rattle.ratsnest.specs.declared.anchor.Anchor.{Anchor};
-ghost use Rattle.net_groups.specs.Groups.{AreGroupsOf};
+ghost use Rattle.net_groups.specs.Groups.{AreGroupsOf, items_of};
 ghost use Rattle.net_groups.specs.Anchors.{AreAnchorsOf};
+ghost use Rattle.net_groups.specs.NetParts.{NetPart, IsPartOf, AreParts, IsWritable};
 
 /// The items of a net have one list of groups.
 pub fn one_list()
@@ -14,4 +16,14 @@ pub fn one_list()
 /// Groups have one list of anchors.
 pub fn one_list_of_anchors()
     ensures { (items : List (ℕ × Item)) (groups : List (List ℕ)) (anchors others : List Anchor) → AreAnchorsOf items groups anchors → AreAnchorsOf items groups others → anchors ≡ others }
+{}
+
+/// What is found of a net stays where its items stay.
+pub fn part_stays()
+    ensures { (old new : PlainBoard) (net : ℕ) → items_of net new.items ≡ items_of net old.items → (part : NetPart) → IsPartOf old net part → IsPartOf new net part }
+{}
+
+/// The parts of a board have all that the lines of its nets ask for.
+pub fn parts_are_writable()
+    ensures { (board : PlainBoard) → IsSound board → (parts : List NetPart) → AreParts board parts → All (IsWritable board) parts }
 {}

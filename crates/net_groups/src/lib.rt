@@ -15,5 +15,20 @@ mod touch;
 
 pub use anchors_of::anchors;
 pub use group::Group;
-pub use laws::{one_list, one_list_of_anchors};
+pub use laws::{one_list, one_list_of_anchors, part_stays, parts_are_writable};
 pub use of_net::groups;
+
+// Each type may go to another thread and be shared by threads.
+fn crosses<T: Send + Sync>() {}
+
+fn groups_cross() {
+    crosses::<Group>();
+}
+
+fn anchors_cross() {
+    crosses::<ratsnest::Anchor>();
+}
+
+fn nests_cross() {
+    crosses::<ratsnest::Nest>();
+}

@@ -3,7 +3,7 @@
 ghost use Rattle.std.specs.Prelude.{◌≡◌, ◌<◌, IfOk, All, length};
 ghost use Rattle.board_items.specs.Boards.{IsSound, item_at};
 ghost use Rattle.net_groups.specs.Groups.{AreGroups, IsOnBoard};
-ghost use Rattle.net_groups.specs.Holding.{HoldsItems};
+ghost use Rattle.board_index.specs.Holding.{HoldsItems};
 ghost use Rattle.net_groups.specs.Labels.{AreConductors, is_copper};
 
 use crate::gather::gather;
