@@ -1,0 +1,79 @@
+-- What the calls that carry commands out ask of them: texts and places of a script of at most 33,554,432 bytes, shifts of at most
+-- 10^12 nanometres, and added lists of at most 63 levels, so that each can stand in the list of a board.
+use Rattle.std.specs.Prelude.{◌≡◌, ℕ, ℤ, ◌-◌, ◌≤◌, true, List, [], ◌∷◌, length, sum_by, unsigned_abs}
+use Rattle.sexpr_read.specs.Tree.{Tree, span, parts, is_list, levels}
+use Rattle.sexpr_read.specs.Spelling.{SpellsAll}
+use Rattle.edit_script.specs.Commands.{PlainCommand, PlainStep, add, delete, move, rules, again, edit, undo, redo}
+use Rattle.edit_script.specs.CommandsOf.{standing}
+
+-- at most 10^12 from 0
+abbrev pub IsNear : ℤ → Type 0
+IsNear n = unsigned_abs n ≤ 1000000000000
+
+-- the text spells forms of at most 63 levels; the list of all forms is one more
+abbrev pub IsShallow : List ℕ → Type 0
+IsShallow text = (tree : Tree) → SpellsAll text tree → levels tree ≤ 64
+
+abbrev pub Fits : PlainCommand → Type 0
+Fits (add text at) = (length text ≤ 33554432) × IsShallow text × (at ≤ 33554432)
+Fits (delete name at) = at ≤ 33554432
+Fits (move name dx dy at) = IsNear dx × IsNear dy × (at ≤ 33554432)
+Fits (rules text at) = (length text ≤ 33554432) × (at ≤ 33554432)
+Fits (again at) = at ≤ 33554432
+
+abbrev pub StepFits : PlainStep → Type 0
+StepFits (edit command) = Fits command
+StepFits (undo at) = at ≤ 33554432
+StepFits (redo at) = at ≤ 33554432
+
+-- how many bytes of added lists a command holds
+abbrev pub added_by : PlainCommand → ℕ
+added_by (add text at) = length text
+added_by (delete name at) = 0
+added_by (move name dx dy at) = 0
+added_by (rules text at) = 0
+added_by (again at) = 0
+
+abbrev pub added_by_step : PlainStep → ℕ
+added_by_step (edit command) = added_by command
+added_by_step (undo at) = 0
+added_by_step (redo at) = 0
+
+-- ---- trees (private)
+
+-- how many bytes the tree stands on
+abbrev pub size_of : Tree → ℕ
+size_of tree = (span tree).end - (span tree).at
+
+-- the tree stands between these places
+abbrev pub StandsIn : ℕ → ℕ → Tree → Type 0
+StandsIn from to tree = (from ≤ (span tree).at) × ((span tree).at ≤ (span tree).end) × ((span tree).end ≤ to)
+
+abbrev pub AllStandIn : ℕ → ℕ → List Tree → Type 0
+AllStandIn from to [] = Unit {0}
+AllStandIn from to (t ∷ ts) = StandsIn from to t × AllStandIn from to ts
+
+-- the form stands in a text of this size, and its parts in it
+abbrev pub FormStandsIn : ℕ → Tree → Type 0
+FormStandsIn size form = StandsIn 0 size form × AllStandIn (span form).at (span form).end (parts form)
+
+abbrev pub FormsStandIn : ℕ → List Tree → Type 0
+FormsStandIn size [] = Unit {0}
+FormsStandIn size (t ∷ ts) = FormStandsIn size t × FormsStandIn size ts
+
+-- the forms together stand on no more bytes than that
+abbrev pub HaveRoom : ℕ → List Tree → Type 0
+HaveRoom size forms = sum_by size_of forms ≤ size
+
+-- a list is shallow where it stands alone
+abbrev pub IsShallowIfList : List ℕ → Tree → Type 0
+IsShallowIfList text tree = is_list tree ≡ true → IsShallow (standing text tree)
+
+abbrev pub AllShallow : List ℕ → List Tree → Type 0
+AllShallow text [] = Unit {0}
+AllShallow text (t ∷ ts) = IsShallowIfList text t × AllShallow text ts
+
+-- so are the parts of each form
+abbrev pub FormsShallow : List ℕ → List Tree → Type 0
+FormsShallow text [] = Unit {0}
+FormsShallow text (t ∷ ts) = AllShallow text (parts t) × FormsShallow text ts

@@ -1,0 +1,72 @@
+//! Scripts: the commands that change a board under check, read from their text.
+//!
+//! A script is a row of forms, one for each command, with comment lines. Numbers are millimetres in the text and whole nanometres
+//! here, cut toward zero. What a script says is defined in `specs/CommandsOf`.
+#![tactic(auto)]
+
+ghost use Rattle.std.specs.Prelude.{◌≡◌, ◌≤◌, ◌⊎◌, ℕ, List, length, map, sum_by, All, IfOk, MatchResult, Result, Ok, Err};
+ghost use Rattle.edit_script.specs.declared.error.ScriptError.{ScriptError};
+ghost use Rattle.edit_script.specs.Commands.{PlainCommand, PlainStep, plain_command, plain_step};
+ghost use Rattle.edit_script.specs.Fits.{Fits, StepFits, added_by, added_by_step};
+ghost use Rattle.edit_script.specs.ScriptText.{Says, SaysSteps};
+
+mod command;
+mod error;
+mod forms;
+pub mod laws;
+mod reading;
+
+use crate::laws::one_reading;
+use crate::reading::{commands_in, steps_in};
+pub use command::{Command, Nm, Step};
+pub use error::ScriptError;
+use sexpr_read::laws::spans_in_order;
+use sexpr_read::{TextError, parse_all};
+use std::alloc::Global;
+
+/// The commands of the text of a script, of at most 33,554,432 bytes, in their order, or the first reason why there are none, with its
+/// place. The reasons are those of [`ScriptError`], exactly where `specs/ScriptText` has them; want of memory alone is free. What the
+/// calls that carry a command out ask of it is in `specs/Fits`; all added lists together have no more bytes than the script.
+#[tactic(auto, unfolding(crate::specs::CommandsOf::commands_of))]
+pub fn read_script<'t>(alloc: Global, text: &'t [u8]) -> Result<Vec<Command<'t>>, ScriptError>
+    requires { length text.now ≤ 33_554_432 }
+    ensures says { MatchResult result (λ commands. Says text.entry.now (Ok (map plain_command commands.items))) (λ e. (e ≡ ScriptError.OutOfMemory) ⊎ Says text.entry.now (Err e)) }
+    ensures only { (answer : Result (List PlainCommand) ScriptError) → Says text.entry.now answer → MatchResult result (λ commands. answer ≡ Ok (map plain_command commands.items)) (λ e. (e ≡ ScriptError.OutOfMemory) ⊎ (answer ≡ Err e)) }
+    ensures fit { IfOk result (λ commands. All Fits (map plain_command commands.items)) }
+    ensures together { IfOk result (λ commands. sum_by added_by (map plain_command commands.items) ≤ length text.entry.now) }
+{
+    one_reading();
+    spans_in_order();
+    match parse_all(alloc, text) {
+        Ok(doc) => commands_in(alloc, text, doc.root().children()),
+        Err(TextError::OutOfMemory) => Err(ScriptError::OutOfMemory),
+        Err(error) => Err(ScriptError::Text(error)),
+    }
+}
+
+/// The same of a script in which `(undo)` and `(redo)` are forms too. How the two readers agree is a law, `steps_and_commands`.
+#[tactic(auto, unfolding(crate::specs::CommandsOf::steps_of))]
+pub fn read_steps<'t>(alloc: Global, text: &'t [u8]) -> Result<Vec<Step<'t>>, ScriptError>
+    requires { length text.now ≤ 33_554_432 }
+    ensures says { MatchResult result (λ steps. SaysSteps text.entry.now (Ok (map plain_step steps.items))) (λ e. (e ≡ ScriptError.OutOfMemory) ⊎ SaysSteps text.entry.now (Err e)) }
+    ensures only { (answer : Result (List PlainStep) ScriptError) → SaysSteps text.entry.now answer → MatchResult result (λ steps. answer ≡ Ok (map plain_step steps.items)) (λ e. (e ≡ ScriptError.OutOfMemory) ⊎ (answer ≡ Err e)) }
+    ensures fit { IfOk result (λ steps. All StepFits (map plain_step steps.items)) }
+    ensures together { IfOk result (λ steps. sum_by added_by_step (map plain_step steps.items) ≤ length text.entry.now) }
+{
+    one_reading();
+    spans_in_order();
+    match parse_all(alloc, text) {
+        Ok(doc) => steps_in(alloc, text, doc.root().children()),
+        Err(TextError::OutOfMemory) => Err(ScriptError::OutOfMemory),
+        Err(error) => Err(ScriptError::Text(error)),
+    }
+}
+
+// Each type may go to another thread and be shared by threads.
+fn crosses<T: Send + Sync>() {}
+
+fn all_cross() {
+    crosses::<ScriptError>();
+    crosses::<Command<'static>>();
+    crosses::<Step<'static>>();
+}
