@@ -1,0 +1,51 @@
+//! Works.
+
+ghost use Rattle.std.specs.Prelude.{◌≡◌, ℕ, ◌*◌, length, slice_index};
+
+use std::alloc::{AllocError, Global};
+use tile_pool::TileWork;
+
+/// The squares of numbers that are lent.
+#[derive(Drop)]
+pub struct Squares<'a> {
+    pub numbers: &'a [u32],
+}
+
+impl<'a> TileWork for Squares<'a> {
+    type Out = u64;
+
+    ghost ready = { λ _. Unit {0} };
+
+    ghost count = { λ work. length work.numbers.now };
+
+    ghost gives = { λ work n value. value ≡ slice_index work.numbers.now n * slice_index work.numbers.now n };
+
+    fn test(&self, _alloc: Global, number: u32) -> Result<u64, AllocError> {
+        let number = u64::from(self.numbers[number as usize]);
+        Ok(number * number)
+    }
+}
+
+/// Each number itself, but for one that always wants for memory.
+#[derive(Drop)]
+pub struct Failing {
+    pub count: u32,
+    pub at: u32,
+}
+
+impl TileWork for Failing {
+    type Out = u32;
+
+    ghost ready = { λ _. Unit {0} };
+
+    ghost count = { λ work. work.count };
+
+    ghost gives = { λ _ n value. value ≡ n };
+
+    fn test(&self, _alloc: Global, number: u32) -> Result<u32, AllocError> {
+        if number == self.at {
+            return Err(AllocError);
+        }
+        Ok(number)
+    }
+}
