@@ -1,0 +1,3 @@
+pub mod Rest
+mod Deeds
+mod Added

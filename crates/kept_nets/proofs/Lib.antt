@@ -1,0 +1,7 @@
+mod Stays
+mod Searched
+mod Gathered
+mod Plans
+mod Touched
+mod Written
+mod OneParts

@@ -1,0 +1,58 @@
+//! What is found of a net.
+
+ghost use Rattle.std.specs.Prelude.{◌≡◌, IfOk};
+ghost use Rattle.board_index.specs.Holding.{HoldsItems};
+ghost use Rattle.net_groups.specs.NetParts.{is_open, IsPartOf, NetPart as PlainPart};
+
+use board_items::Board;
+use box_index::TileIndex;
+use net_groups::{Group, anchors, groups};
+use ratsnest::{Anchor, Nest, nest};
+use std::alloc::{AllocError, Global};
+use std::marker::Model;
+
+/// What is found of a net: its groups, where links may end, and the links that would join its groups. Contracts see the plain
+/// record.
+#[derive(Drop)]
+pub struct NetPart {
+    pub net: u32,
+    pub groups: Vec<Group>,
+    pub anchors: Vec<Anchor>,
+    pub nest: Nest,
+}
+
+impl Model for NetPart {
+    ghost Value = { PlainPart };
+
+    ghost view = { λ part. record { net = part.net; groups = part.groups.items; anchors = part.anchors.items; links = part.nest.links } };
+}
+
+impl NetPart {
+    /// Whether its copper is in two pieces or more. It takes no memory.
+    pub fn is_open(&self) -> bool
+        ensures { result ≡ is_open self.now }
+    {
+        self.groups.len() >= 2
+    }
+}
+
+/// What is found of a net. The index holds all items of the board that have bounds. Only want of memory refuses it.
+pub(crate) fn part_of(
+    alloc: Global,
+    board: &Board,
+    net: u32,
+    index: &TileIndex,
+) -> Result<NetPart, AllocError>
+    requires { HoldsItems board.now index.now }
+    ensures { IfOk result (IsPartOf board.now net) }
+{
+    let groups = groups(alloc, board, net, index)?;
+    let anchors = anchors(alloc, board, net, &groups)?;
+    let nest = nest(alloc, &anchors)?;
+    Ok(NetPart {
+        net,
+        groups,
+        anchors,
+        nest,
+    })
+}

@@ -1,0 +1,58 @@
+//! Nets whose parts are found side by side.
+
+ghost use Rattle.std.specs.Prelude.{◌≡◌, IfSome};
+ghost use Rattle.board_index.specs.Holding.{HoldsItems};
+ghost use Rattle.net_groups.specs.NetParts.{IsPartOf};
+ghost use Rattle.kept_nets.specs.Works.{AreFound};
+
+use crate::part::{NetPart, part_of};
+use board_items::Board;
+use box_index::TileIndex;
+use rayon::prelude::*;
+use std::alloc::Global;
+use std::thread::Threads;
+
+/// A net, its place among all, and its part once that is found.
+#[derive(Drop)]
+pub(crate) struct Work {
+    pub(crate) place: usize,
+    pub(crate) net: u32,
+    pub(crate) part: Option<NetPart>,
+}
+
+// Finds the part of a net. Where memory is wanting there is none.
+fn find_part(alloc: Global, board: &Board, index: &TileIndex, work: &mut Work)
+    requires { HoldsItems board.now index.now }
+    ensures place { work.new.place ≡ work.old.place }
+    ensures net { work.new.net ≡ work.old.net }
+    ensures part { IfSome work.new.part (IsPartOf board.now work.old.net) }
+{
+    work.part = part_of(alloc, board, work.net, index).ok();
+}
+
+/// Finds the parts of these nets, by as many threads as there are processors; of a single net without one.
+pub(crate) fn find_parts(
+    rt: &(impl Threads + Sync),
+    alloc: Global,
+    board: &Board,
+    index: &TileIndex,
+    works: &mut [Work],
+)
+    requires { HoldsItems board.now index.now }
+    ensures { AreFound board.now works.old works.new }
+{
+    if works.len() == 1 {
+        find_part(alloc, board, index, &mut works[0]);
+        return;
+    }
+    par_for_each_mut(
+        rt,
+        works,
+        |_: usize, work: &mut Work|
+            requires { HoldsItems board.now index.now }
+            ensures { (work.new.place ≡ work.old.place) × (work.new.net ≡ work.old.net) × IfSome work.new.part (IsPartOf board.entry.now work.old.net) }
+        {
+            find_part(alloc, board, index, work);
+        },
+    );
+}
