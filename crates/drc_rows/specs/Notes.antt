@@ -1,16 +1,15 @@
 -- The lines of notes: what a board and its rules have that is read but not checked. Texts and dimensions on copper are told by
 -- their layer and their name, what a footprint has by the footprint's reference, and a constraint that no rule may have by its
 -- own name and that of its rule.
-use Rattle.std.specs.Prelude.{ℕ, List, [], ◌∷◌, ◌++◌, ◌+◌, length, codes, Option, None, Some, nat_eq, filter, slice_get, if◌then◌else◌}
+use Rattle.std.specs.Prelude.{ℕ, List, [], ◌++◌, ◌+◌, length, codes, Option, None, Some, slice_get}
 use Rattle.std.specs.List.{flat_map}
 use Rattle.board_items.specs.declared.item.About.{About}
 use Rattle.board_items.specs.declared.item.About.TheVariants.{Text, Dimension, Courtyard, FootZone}
 use Rattle.board_items.specs.declared.item.What.{What}
 use Rattle.board_items.specs.declared.item.What.TheVariants.{Body, Note}
 use Rattle.board_items.specs.declared.item.Item.{Item}
-use Rattle.board_items.specs.Moves.{is_note}
-use Rattle.board_items.specs.Units.{is_body}
-use Rattle.board_items.specs.Boards.{PlainBoard}
+use Rattle.board_items.specs.Boards.{PlainBoard, item_at}
+use Rattle.board_items.specs.Notes.{notes_of, body_of}
 use Rattle.cond_lang.specs.Rules.{PlainRule}
 use Rattle.rule_text.specs.RulesOf.{PlainNote, PlainRules}
 use Rattle.drc_rows.specs.Line.{named}
@@ -35,31 +34,27 @@ abbrev pub reference_in : What → List ℕ
 reference_in (Body reference front back on_back) = reference
 reference_in _ = []
 
--- a note's footprint is the last one before it, where both are of one unit: a footprint's body stands before all that came with
--- it. Without one the reference is empty
-abbrev pub reference_of : Option Item → ℕ → List ℕ
-reference_of None unit = []
-reference_of (Some body) unit = if nat_eq body.unit unit then reference_in body.what else []
+-- the reference of a footprint, if there is one
+abbrev pub reference_of : Option Item → List ℕ
+reference_of None = []
+reference_of (Some body) = reference_in body.what
 
-abbrev pub note_line : Option Item → Item → List ℕ
-note_line body item = note_text item.name item.what (reference_of body item.unit)
+-- the line of the item of an id, where its footprint has this reference. Those of notes are always there
+abbrev pub note_line_of : Option Item → List ℕ → List ℕ
+note_line_of None reference = []
+note_line_of (Some item) reference = note_text item.name item.what reference
 
--- the last footprint, once an item has passed
-abbrev pub body_after : Option Item → Item → Option Item
-body_after body item = if is_body item.what then Some item else body
+-- the line of a note. Its footprint is the one whose body stands before it in its unit
+abbrev pub note_line : PlainBoard → ℕ → List ℕ
+note_line board id = note_line_of (item_at board.items id) (reference_of (body_of board id))
 
--- the lines of all notes among the items, by id, where this is the last footprint before them
-abbrev pub note_lines_after : Option Item → List (ℕ × Item) → List ℕ
-note_lines_after body [] = []
-note_lines_after body (entry ∷ entries) = note_line body entry.1 ++ note_lines_after (body_after body entry.1) entries
-
--- the lines of all notes of a board
+-- the lines of all notes of a board, by id
 unfoldable pub item_lines : PlainBoard → List ℕ
-item_lines board = note_lines_after None board.items
+item_lines board = flat_map (note_line board) (notes_of board.items)
 
 -- how many notes a board has
 unfoldable pub item_count : PlainBoard → ℕ
-item_count board = length (filter (λ entry. is_note entry.1.what) board.items)
+item_count board = length (notes_of board.items)
 
 -- ---- constraints
 

@@ -1,24 +1,13 @@
--- The whole report of a board: its rows, its notes, its open nets, and how many tiles were gone through.
-use Rattle.std.specs.Prelude.{ℕ, ◌≤◌, Bool, nat_le, List, [], ◌++◌, length, filter, codes, decimal, if◌then◌else◌}
+-- The report of a board: its rows, its notes, its open nets, and how many tiles were gone through. A short one has their counts alone.
+use Rattle.std.specs.Prelude.{ℕ, List, [], ◌++◌, length, filter, codes, decimal, if◌then◌else◌}
 use Rattle.std.specs.List.{flat_map}
 use Rattle.board_items.specs.Boards.{PlainBoard}
 use Rattle.rule_text.specs.RulesOf.{PlainRules}
 use Rattle.pair_check.specs.PlainRow.{PlainRow}
-use Rattle.ratsnest.specs.declared.anchor.Anchor.{Anchor}
-use Rattle.ratsnest.specs.declared.link.Link.{Link}
+use Rattle.net_groups.specs.NetParts.{NetPart, is_open}
+use Rattle.drc_rows.specs.Notes.{note_count}
 use Rattle.drc_rows.specs.Report.{number_line, rows_text, notes_text}
 use Rattle.drc_rows.specs.NetBlock.{net_block}
-
--- what is found of a net: its groups, where links may end, and the links
-pub record NetPart : Type 0 where
-  pub net : ℕ
-  pub groups : List (List ℕ)
-  pub anchors : List Anchor
-  pub links : List Link
-
--- a net is open where its copper is in two pieces or more
-abbrev pub is_open : NetPart → Bool
-is_open part = nat_le 2 (length part.groups)
 
 -- the lines of a net, which has none where it is not open
 abbrev pub part_text : PlainBoard → NetPart → List ℕ
@@ -32,7 +21,24 @@ nets_text board parts = flat_map (part_text board) parts ++ number_line (codes "
 unfoldable pub tiles_line : ℕ → ℕ → List ℕ
 tiles_line done held = codes "rechecked " ++ decimal done ++ codes " of " ++ decimal held ++ codes " tiles\n"
 
--- the report of a board under rules, as their texts have both: all tiles that hold an item were gone through
-unfoldable pub report : PlainBoard → PlainRules → List PlainRow → List NetPart → ℕ → List ℕ
-report board rules rows parts held =
-    number_line (codes "report ") 0 [] ++ rows_text board rules.rules rows ++ notes_text board rules ++ nets_text board parts ++ tiles_line held held
+-- what a report tells of a board: its rows, what is found of each of its nets, and how many tiles hold an item
+pub record Found : Type 0 where
+  pub rows : List PlainRow
+  pub parts : List NetPart
+  pub held : ℕ
+
+-- the line that opens the report of this number, 0 for the board as its file has it
+abbrev pub first_line : ℕ → List ℕ
+first_line number = number_line (codes "report ") number []
+
+-- the whole report of a board under rules, as their texts have both, once so many tiles were gone through
+unfoldable pub whole_report : ℕ → PlainBoard → PlainRules → Found → ℕ → List ℕ
+whole_report number board rules found done =
+    first_line number ++ rows_text board rules.rules found.rows ++ notes_text board rules ++ nets_text board found.parts ++ tiles_line done found.held
+
+-- the short report: only the line that opens it, how many rows, notes and open nets there are, and the tiles
+unfoldable pub short_report : ℕ → PlainBoard → PlainRules → Found → ℕ → List ℕ
+short_report number board rules found done =
+    first_line number ++ number_line (codes "rows ") (length found.rows) [] ++ number_line (codes "not checked ") (note_count board rules) []
+    ++ number_line (codes "open nets ") (length (filter is_open found.parts)) []
+    ++ tiles_line done found.held

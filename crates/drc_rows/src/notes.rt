@@ -1,13 +1,11 @@
 //! The lines of notes: what is read but not checked.
 
-ghost use Rattle.std.specs.Prelude.{◌≡◌, ◌≤◌, ◌++◌, []};
+ghost use Rattle.std.specs.Prelude.{◌≡◌, ◌++◌, []};
 ghost use Rattle.std.specs.Option.{option_copied};
 ghost use Rattle.drc_io.specs.Sinks.{Writes};
-ghost use Rattle.board_items.specs.Units.{is_body};
-ghost use Rattle.board_items.specs.Moves.{is_note};
 ghost use Rattle.rule_text.specs.Views.{plain_note, plain_rules};
 ghost use Rattle.drc_rows.specs.Line.{Puts, named};
-ghost use Rattle.drc_rows.specs.Notes.{about_text, told_text, note_line, reference_in, reference_of, body_after, item_lines, item_count};
+ghost use Rattle.drc_rows.specs.Notes.{about_text, told_text, note_text, note_line, reference_in, reference_of, item_lines};
 ghost use Rattle.drc_rows.specs.Notes.{rule_name, constraint_line, constraint_lines, note_lines, note_count};
 
 use crate::line::Line;
@@ -15,18 +13,6 @@ use crate::pieces::push_quoted;
 use board_items::{About, Board, Item, What};
 use drc_io::{Failed, Sink};
 use rule_text::{RuleNote, Rules};
-
-fn is_body(item: &Item) -> bool
-    ensures { result ≡ is_body item.now.what }
-{
-    matches!(item.what, What::Body { .. })
-}
-
-fn is_note(item: &Item) -> bool
-    ensures { result ≡ is_note item.now.what }
-{
-    matches!(item.what, What::Note { .. })
-}
 
 /// The reference that a footprint has.
 fn reference_in(item: &Item) -> &[u8]
@@ -38,21 +24,14 @@ fn reference_in(item: &Item) -> &[u8]
     }
 }
 
-/// The reference of the footprint before, where it is of the unit.
-fn reference_of(body: Option<&Item>, unit: u32) -> &[u8]
-    ensures { result.now ≡ reference_of (option_copied body.entry) unit }
+/// The reference of the footprint, if there is one.
+fn reference_of(body: Option<&Item>) -> &[u8]
+    ensures { result.now ≡ reference_of (option_copied body.entry) }
 {
     match body {
-        Some(body) if body.unit == unit => reference_in(body),
-        _ => b"",
+        Some(body) => reference_in(body),
+        None => b"",
     }
-}
-
-/// The last footprint, once the item has passed.
-fn body_after<'a>(body: Option<&'a Item>, item: &'a Item) -> Option<&'a Item>
-    ensures { option_copied result ≡ body_after (option_copied body.entry) item.now }
-{
-    if is_body(item) { Some(item) } else { body }
 }
 
 /// Puts a text, and then a word and a name, into the line.
@@ -121,9 +100,9 @@ fn write_told<W: Sink>(out: &mut W, told: Told<'_>) -> Result<(), Failed>
     line.end(out)
 }
 
-/// Writes the line of an item, which it has where it is a note. Before it this was the last footprint.
-fn write_note<W: Sink>(out: &mut W, body: Option<&Item>, item: &Item) -> Result<(), Failed>
-    ensures { Writes (W.written out.old) (W.written out.new) (W.faults out.old) (W.faults out.new) (note_line (option_copied body.entry) item.now) result }
+/// Writes the line of an item, which it has where it is a note, with the reference of its footprint.
+fn write_note_of<W: Sink>(out: &mut W, item: &Item, reference: &[u8]) -> Result<(), Failed>
+    ensures { Writes (W.written out.old) (W.written out.new) (W.faults out.old) (W.faults out.new) (note_text item.now.name item.now.what reference.now) result }
 {
     match &item.what {
         What::Note { about, layer } => write_told(
@@ -132,10 +111,21 @@ fn write_note<W: Sink>(out: &mut W, body: Option<&Item>, item: &Item) -> Result<
                 about: *about,
                 layer: layer.get().bytes(),
                 name: item.name.bytes(),
-                reference: reference_of(body, item.unit),
+                reference,
             },
         ),
         _ => Ok(()),
+    }
+}
+
+/// Writes the line of the note of an id.
+fn write_note<W: Sink>(out: &mut W, board: &Board, id: u32) -> Result<(), Failed>
+    ensures { Writes (W.written out.old) (W.written out.new) (W.faults out.old) (W.faults out.new) (note_line board.now id) result }
+{
+    let reference = reference_of(board.body_of(id));
+    match board.get(id) {
+        Some(item) => write_note_of(out, item, reference),
+        None => Ok(()),
     }
 }
 
@@ -144,27 +134,11 @@ fn write_note<W: Sink>(out: &mut W, body: Option<&Item>, item: &Item) -> Result<
 fn write_items<W: Sink>(board: &Board, out: &mut W) -> Result<(), Failed>
     ensures { Writes (W.written out.old) (W.written out.new) (W.faults out.old) (W.faults out.new) (item_lines board.now) result }
 {
-    let mut body = None;
-    for (_, item) in board.iter() {
-        write_note(out, body, item)?;
-        body = body_after(body, item);
+    let notes = board.notes();
+    for note in notes {
+        write_note(out, board, *note)?;
     }
     Ok(())
-}
-
-/// How many notes a board has.
-#[tactic(auto, unfolding(crate::specs::Notes::item_count))]
-fn count_items(board: &Board) -> u64
-    ensures count { result ≡ item_count board.now }
-    ensures few { result ≤ 200_000 }
-{
-    let mut count = 0;
-    for (_, item) in board.iter() {
-        if is_note(item) {
-            count += 1;
-        }
-    }
-    count
 }
 
 /// The name of a rule, by its number.
@@ -222,8 +196,9 @@ pub fn write_notes<W: Sink>(board: &Board, rules: &Rules, out: &mut W) -> Result
 }
 
 /// How many notes there are: as many as `write_notes` writes lines.
+#[tactic(auto, unfolding(crate::specs::Notes::item_count))]
 pub fn count_notes(board: &Board, rules: &Rules) -> u64
     ensures { result ≡ note_count board.now (plain_rules rules.now) }
 {
-    count_items(board) + rules.notes.as_slice().len() as u64
+    board.notes().len() as u64 + rules.notes.as_slice().len() as u64
 }

@@ -1,37 +1,31 @@
-use Rattle.std.proofs.Common.{◌++◌, None, Option, sym, ap, ◌∙◌}
+use Rattle.std.proofs.Common.{sym, arith, ap, ◌∙◌, ◌≤◌, length}
+use Rattle.std.specs.List.{flat_map}
+use Rattle.std.proofs.lemmas.List.{take_all}
 use Rattle.std.proofs.lemmas.Result.{err_from_is_err_and}
-use Rattle.std.specs.Option.{option_copied}
-use Rattle.drc_io.proofs.Writing.{Writes-then}
-use Rattle.board_items.specs.declared.item.Item.{Item}
-use Rattle.board_items.specs.Walks.{items_left}
-use Rattle.drc_rows.specs.Notes.{note_line, item_lines, note_lines_after, body_after}
-use Rattle.drc_rows.proofs.Lines.{Writes-cut}
-use Rattle.drc_rows.proofs.NoteLists.{line_more}
+use Rattle.drc_io.proofs.Writing.{Writes-then, Writes-text}
+use Rattle.drc_rows.specs.Notes.{note_line, item_lines}
+use Rattle.drc_rows.proofs.Lines.{flat_more, flat_rest, Writes-cut}
 use Rattle.drc_rows.proofs.notes.write_items.Goals as goal
 
 pub returns-in_err-write_note : goal.returns-in_err-write_note
 unfolding item_lines
 returns-in_err-write_note g c =
     let p = err_from_is_err_and c.from_residual.result c.from_residual.ensures.1 in
-    let so_far = c.loop-item.invariant in
-    let body = option_copied c.loop-item.body in
-    let item = c.in-Some.item.now in
-    let left = items_left c.next.new.self in
-    let whole = note_lines_after None c.args.board.now.items in
-    let more = line_more body so_far.0 whole _ (c.in-Some.field-0-0, item) left c.in-Some.ensures.steps so_far.2 in
-    Writes-cut _ _ _ _ (so_far.0 ++ note_line body item) (note_lines_after (body_after body item) left) whole _ _ _ p.1 (sym more)
-    (Writes-then _ _ _ _ _ _ _ _ _ _ so_far.1 c.in_err-write_note.ensures)
+    let line = note_line c.args.board.now in
+    let all = ap (flat_map line) (sym c.notes-notes.ensures) in
+    Writes-cut _ _ _ _ _ _ _ _ _ _ p.1 (all ∙ flat_rest line c.notes-notes.result.now c.loop-note.note-index 0 (omega arith))
+    (Writes-then _ _ _ _ _ _ _ _ _ _ c.loop-note.invariant c.in_err-write_note.ensures)
 
-pub loop-item-preserved : goal.loop-item-preserved
-loop-item-preserved g c =
-    let so_far = c.loop-item.invariant in
-    let body = option_copied c.loop-item.body in
-    let item = c.in-Some.item.now in
-    let left = items_left c.next.new.self in
-    let text = so_far.0 ++ note_line body item in
-    let whole = note_lines_after None c.args.board.now.items in
-    let more = line_more body so_far.0 whole _ (c.in-Some.field-0-0, item) left c.in-Some.ensures.steps so_far.2 in (
-      text,
-      Writes-then _ _ _ _ _ _ _ _ _ _ so_far.1 c.in_ok-write_note.ensures,
-      ap (λ (b : Option Item). text ++ note_lines_after b left) c.body_after-body.ensures ∙ more,
-    )
+pub loop-note-preserved : goal.loop-note-preserved
+loop-note-preserved g c =
+    Writes-text _ _ _ _ _ _ _ (sym (flat_more (note_line c.args.board.now) c.notes-notes.result.now c.loop-note.note-index 0 (omega arith)))
+    (Writes-then _ _ _ _ _ _ _ _ _ _ c.loop-note.invariant c.in_ok-write_note.ensures)
+
+pub returns : goal.returns
+unfolding item_lines
+returns g c =
+    let line = note_line c.args.board.now in
+    let notes = c.notes-notes.result.now in
+    let past : length notes ≤ c.loop-note.note-index = omega (arith, c.loop-note-test.false) in
+    let whole = ap (flat_map line) (take_all c.loop-note.note-index notes past ∙ c.notes-notes.ensures) in
+    Writes-text _ _ _ _ _ _ _ whole c.loop-note.invariant
