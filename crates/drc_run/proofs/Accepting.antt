@@ -13,8 +13,8 @@ use Rattle.drc_run.specs.declared.texts.Stop.{Stop}
 use Rattle.drc_run.specs.declared.texts.Stop.TheVariants.{Refused, Unread, OutOfMemory}
 use Rattle.drc_run.specs.Words.{Reading}
 use Rattle.drc_run.specs.Texts.{Named, optional, texts_of, Value, a_board, a_project, a_rules, Said, accepted, refused, ReaderSays, longer, read, too_long}
-use Rattle.drc_run.specs.Output.{Output, FileSays, AreAccepted, IsReached, IsOutputFor, HasReadFault, stopped, reported, IsReportOf, classes_among, rules_among}
-use Rattle.drc_run.specs.Refusing.{why_of, StopsReading, StopsText, StopsTexts, Gives, StopsOption, AreChecked, IsLineOf}
+use Rattle.drc_run.specs.Output.{Output, FileSays, AreAccepted, IsReached, Opened, Gives, AreOpened, IsOutputFor, HasReadFault, stopped}
+use Rattle.drc_run.specs.Refusing.{why_of, StopsReading, StopsText, StopsTexts, StopsOption, IsLineOf}
 
 module _ (told : Option (List (List ℕ × List ℕ))) where
   -- ---- one text
@@ -74,46 +74,18 @@ module _ (told : Option (List (List ℕ × List ℕ))) where
   both_accepted (text ∷ first) second [] ws p q = absurd p
   both_accepted (text ∷ first) second (v ∷ vs) ws p q = (p.0, both_accepted first second vs ws p.1 q)
 
-  same_classes : (c d : PlainClasses) → a_project c ≡ a_project d → c ≡ d
-  same_classes c d e = cc
-
-  same_rules : (r s : PlainRules) → a_rules r ≡ a_rules s → r ≡ s
-  same_rules r s e = cc
-
-  -- the classes and the rules among the values are those that were given
-  classes_are : (board : PlainBoard) (project rules : Option (List ℕ)) (classes : PlainClasses) (r : PlainRules) → Gives told Project project (a_project plain_classes) (a_project classes)
-      → classes ≡ classes_among (a_board board ∷ (given project (a_project classes) ++ given rules (a_rules r)))
-  classes_are board None None classes r gives = same_classes classes plain_classes gives
-  classes_are board None (Some file) classes r gives = same_classes classes plain_classes gives
-  classes_are board (Some file) rules classes r gives = refl
-
-  rules_are : (board : PlainBoard) (project rules : Option (List ℕ)) (classes : PlainClasses) (r : PlainRules) → Gives told Rules rules (a_rules no_rules) (a_rules r)
-      → r ≡ rules_among (a_board board ∷ (given project (a_project classes) ++ given rules (a_rules r)))
-  rules_are board None None classes r gives = same_rules r no_rules gives
-  rules_are board None (Some file) classes r gives = refl
-  rules_are board (Some project) None classes r gives = same_rules r no_rules gives
-  rules_are board (Some project) (Some file) classes r gives = refl
-
-  pub are_checked : (file : List ℕ) (project rules : Option (List ℕ)) (board : PlainBoard) (classes : PlainClasses) (r : PlainRules)
-      → FileSays told (record { which = Board; file = file }) (accepted (a_board board)) → Gives told Project project (a_project plain_classes) (a_project classes)
-      → Gives told Rules rules (a_rules no_rules) (a_rules r) → AreChecked told (texts_of (record { board = file; project = project; rules = rules })) board classes r
-  are_checked file project rules board classes r says gives_classes gives_rules =
-      let values = a_board board ∷ (given project (a_project classes) ++ given rules (a_rules r)) in
-      record {
-        values = values;
-        are_accepted = (
-          says,
-          both_accepted (optional Project project) (optional Rules rules) (given project (a_project classes)) (given rules (a_rules r))
-              (given_accepted Project project (a_project plain_classes) (a_project classes) gives_classes) (given_accepted Rules rules (a_rules no_rules) (a_rules r) gives_rules),
-        );
-        reported = λ out is. record {
-          board = board;
-          has_board = refl;
-          is_report =
-              subst (λ (s : PlainRules). IsReportOf board (classes_among values) s out) (rules_are board project rules classes r gives_rules)
-              (subst (λ (c : PlainClasses). IsReportOf board c r out) (classes_are board project rules classes r gives_classes) is);
-        };
-      }
+  -- all texts are accepted where they open something
+  pub all_accepted : (reading : Reading) (opened : Opened) → AreOpened told reading opened → (values : List Value) × AreAccepted told (texts_of reading) values
+  all_accepted reading opened are =
+      let classes = a_project opened.classes in
+      let rules = a_rules opened.rules in (
+        a_board opened.board ∷ (given reading.project classes ++ given reading.rules rules),
+        (
+          are.board,
+          both_accepted (optional Project reading.project) (optional Rules reading.rules) (given reading.project classes) (given reading.rules rules)
+              (given_accepted Project reading.project (a_project plain_classes) classes are.classes) (given_accepted Rules reading.rules (a_rules no_rules) rules are.rules),
+        ),
+      )
 
   -- the count of a file that rose later has risen
   rose_later : (m n k : ℕ) → m ≤ n → Rose n k → Rose m k
@@ -176,7 +148,3 @@ module _ (told : Option (List (List ℕ × List ℕ))) where
 
     pub unread_has_fault : (reading : Reading) (stop : Stop) (which : Which) → StopsTexts told (texts_of reading) before now stop → stop ≡ Unread which → HasReadFault (Some reading) told before now which
     unread_has_fault reading stop which s e = subst (λ (x : Stop). StopsTexts told (texts_of reading) before now x) e s
-
-  pub report_is_output : (reading : Reading) (board : PlainBoard) (classes : PlainClasses) (rules : PlainRules) (out : Output) → AreChecked told (texts_of reading) board classes rules
-      → IsReportOf board classes rules out → IsOutputFor (Some reading) told out
-  report_is_output reading board classes rules out are is = reported are.values are.are_accepted (are.reported out is)

@@ -3,9 +3,8 @@ pub mod Written
 pub mod Accepting
 pub mod OneProject
 pub mod FewRules
-pub mod Holding
+pub mod Indexed
 pub mod Parts
-pub mod Held
 pub mod OneFindings
 pub mod OneOutput
 pub mod Promised

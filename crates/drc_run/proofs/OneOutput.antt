@@ -3,23 +3,24 @@ use Rattle.std.proofs.Common.{◌≡◌, ℕ, List, [], ◌∷◌, ◌++◌, len
 use Rattle.board_items.specs.declared.errors.BoardError.{BoardError}
 use Rattle.board_items.specs.Boards.{PlainBoard}
 use Rattle.pcb_read.specs.BoardText.{Says}
-use Rattle.net_class.specs.Classes.{PlainClasses}
+use Rattle.net_class.specs.Classes.{PlainClasses, plain_classes}
 use Rattle.net_class.specs.ProjectText.{Says as ProjectSays}
 use Rattle.net_class.specs.Reasons.{reason_of as project_reason_of, place_of as project_place_of}
 use Rattle.rule_text.specs.declared.error.RuleError.{RuleError}
 use Rattle.rule_text.specs.Reasons.{reason_of as rules_reason_of, place_of as rules_place_of, inner_place_of as rules_inner_place_of}
-use Rattle.rule_text.specs.RulesOf.{PlainRules}
+use Rattle.rule_text.specs.RulesOf.{PlainRules, no_rules}
 use Rattle.rule_text.specs.RuleText.{Says as RulesSays}
 use Rattle.pair_check.specs.Rows.{Checked}
-use Rattle.drc_rows.specs.ReportOf.{report}
-use Rattle.drc_run.specs.Findings.{Found, AreFindings}
+use Rattle.drc_rows.specs.ReportOf.{Found, whole_report}
+use Rattle.drc_run.specs.Findings.{AreFindings}
 use Rattle.drc_io.specs.Files.{file_of}
 use Rattle.board_items.specs.Reasons.{board_reason_of, board_place_of}
 use Rattle.drc_run.specs.declared.texts.Which.{Which}
 use Rattle.drc_run.specs.declared.texts.Which.TheVariants.{Board, Project, Rules}
 use Rattle.drc_run.specs.Words.{Reading}
 use Rattle.drc_run.specs.Texts.{Named, texts_of, Value, a_board, a_project, a_rules, Said, accepted, refused, at_place, IsWritten, ReaderSays, TextSays, longer, read}
-use Rattle.drc_run.specs.Output.{Output, checked, IsReportOf, FileSays, AreAccepted, IsReached, classes_among, rules_among, IsReported, IsOutputOf, IsOutputFor, stopped, reported, refusal, status_of}
+use Rattle.drc_run.specs.Output.{Output, Opened, checked, IsReportOf, FileSays, AreAccepted, IsReached, Gives, AreOpened, IsOutputOf, IsOutputFor, stopped, reported, refusal, status_of}
+use Rattle.drc_run.proofs.Accepting.{all_accepted}
 use Rattle.drc_run.proofs.OneProject.{one_project}
 
 -- ---- what a text says
@@ -44,20 +45,12 @@ same_whys a b e = cc
 
 -- the report of a board
 module _ (one_found : (c : Checked) (a b : Found) → AreFindings c a → AreFindings c b → a ≡ b) where
-  one_report : (board : PlainBoard) (classes : PlainClasses) (rules : PlainRules) (a b : Output) → IsReportOf board classes rules a → IsReportOf board classes rules b → a ≡ b
-  one_report board classes rules a b p q =
-      let found = one_found (checked board classes rules) p.found q.found p.are_findings q.are_findings in
-      let text : a.text ≡ b.text = p.text ∙ (ap (λ (f : Found). report board rules f.rows f.parts (length f.tiles)) found ∙ sym q.text) in
+  one_report : (opened : Opened) (a b : Output) → IsReportOf opened a → IsReportOf opened b → a ≡ b
+  one_report opened a b p q =
+      let found = one_found (checked opened) p.found q.found p.are_findings q.are_findings in
+      let text : a.text ≡ b.text = p.text ∙ (ap (λ (f : Found). whole_report 0 opened.board opened.rules f f.held) found ∙ sym q.text) in
       let status : a.status ≡ b.status = p.status ∙ (ap (λ (f : Found). status_of f.rows) found ∙ sym q.status) in
       ap (λ t. record { text = t; status = a.status }) text ∙ ap (λ s. record { text = b.text; status = s }) status
-
-  one_reported : (values : List Value) (a b : Output) → IsReported values a → IsReported values b → a ≡ b
-  one_reported values a b p q =
-      let both : Some p.board ≡ Some q.board = sym p.has_board ∙ q.has_board in
-      let board : p.board ≡ q.board = cc in
-      let classes = classes_among values in
-      let rules = rules_among values in
-      one_report q.board classes rules a b (subst (λ (x : PlainBoard). IsReportOf x classes rules a) board p.is_report) q.is_report
 
 -- what a reader finds, where its bytes say one thing
 module _ {A E : Type 0} (Says : Result A E → Type 0) (one : (a b : Result A E) → Says a → Says b → a ≡ b)
@@ -142,17 +135,6 @@ module _ (one_reading : (text : List ℕ) (a b : Result PlainBoard BoardError) �
 
     -- ---- lists of texts
 
-    values_once : (texts : List Named) (vs ws : List Value) → AreAccepted (Some files) texts vs → AreAccepted (Some files) texts ws → vs ≡ ws
-    values_once [] [] [] p q = refl
-    values_once [] [] (w ∷ ws) p q = absurd q
-    values_once [] (v ∷ vs) ws p q = absurd p
-    values_once (text ∷ texts) [] ws p q = absurd p
-    values_once (text ∷ texts) (v ∷ vs) [] p q = absurd q
-    values_once (text ∷ texts) (v ∷ vs) (w ∷ ws) p q =
-        let head : v ≡ w = same_values v w (says_once text (accepted v) (accepted w) p.0 q.0) in
-        let tail : vs ≡ ws = values_once texts vs ws p.1 q.1 in
-        ap (λ (x : Value). x ∷ vs) head ∙ ap (λ (l : List Value). w ∷ l) tail
-
     -- where all are accepted, so is each
     accepted_each : (before : List Named) (text : Named) (after : List Named) (values : List Value) → AreAccepted (Some files) (before ++ text ∷ after) values
         → (value : Value) × FileSays (Some files) text (accepted value)
@@ -183,21 +165,41 @@ module _ (one_reading : (text : List ℕ) (a b : Result PlainBoard BoardError) �
 
     -- ---- the output
 
-    not_stopped : (texts : List Named) (text : Named) (why : List ℕ) (values : List Value) → IsReached (Some files) texts text → FileSays (Some files) text (refused why) → AreAccepted (Some files) texts values → ⊥
-    not_stopped texts text why values r f p =
-        let one = accepted_each r.before text r.after values (subst (λ (l : List Named). AreAccepted (Some files) l values) r.among p) in
+    not_stopped : (reading : Reading) (text : Named) (why : List ℕ) (opened : Opened) → IsReached (Some files) (texts_of reading) text → FileSays (Some files) text (refused why)
+        → AreOpened (Some files) reading opened → ⊥
+    not_stopped reading text why opened r f p =
+        let all = all_accepted (Some files) reading opened p in
+        let one = accepted_each r.before text r.after all.0 (subst (λ (l : List Named). AreAccepted (Some files) l all.0) r.among all.1) in
         refused_once text why one.0 f one.1
 
-    pub one_output_of : (texts : List Named) (a b : Output) → IsOutputOf (Some files) texts a → IsOutputOf (Some files) texts b → a ≡ b
-    one_output_of texts a b (stopped t why r f e) (stopped u how s g d) =
+    value_said : (text : Named) (v w : Value) → FileSays (Some files) text (accepted v) → FileSays (Some files) text (accepted w) → v ≡ w
+    value_said text v w p q = same_values v w (says_once text (accepted v) (accepted w) p q)
+
+    value_given : (which : Which) (option : Option (List ℕ)) (plain v w : Value) → Gives (Some files) which option plain v → Gives (Some files) which option plain w → v ≡ w
+    value_given which None plain v w p q = p ∙ sym q
+    value_given which (Some file) plain v w p q = value_said (record { which = which; file = file }) v w p q
+
+    -- the texts open one thing
+    one_opened : (reading : Reading) (o p : Opened) → AreOpened (Some files) reading o → AreOpened (Some files) reading p → o ≡ p
+    one_opened reading o p h k =
+        let boards : a_board o.board ≡ a_board p.board = value_said (record { which = Board; file = reading.board }) (a_board o.board) (a_board p.board) h.board k.board in
+        let projects : a_project o.classes ≡ a_project p.classes = value_given Project reading.project (a_project plain_classes) (a_project o.classes) (a_project p.classes) h.classes k.classes in
+        let lists : a_rules o.rules ≡ a_rules p.rules = value_given Rules reading.rules (a_rules no_rules) (a_rules o.rules) (a_rules p.rules) h.rules k.rules in
+        let board : o.board ≡ p.board = cc in
+        let classes : o.classes ≡ p.classes = cc in
+        let rules : o.rules ≡ p.rules = cc in
+        ap (λ (x : PlainBoard). record o { board = x }) board
+        ∙ (ap (λ (x : PlainClasses). record o { board = p.board; classes = x }) classes ∙ ap (λ (x : PlainRules). record p { rules = x }) rules)
+
+    pub one_output_of : (reading : Reading) (a b : Output) → IsOutputOf (Some files) reading a → IsOutputOf (Some files) reading b → a ≡ b
+    one_output_of reading a b (stopped t why r f e) (stopped u how s g d) =
         let same : t ≡ u = first_once r.before s.before t u r.after s.after r.values s.values why how (sym r.among ∙ s.among) r.before_accepted s.before_accepted f g in
         let line : why ≡ how = same_whys why how (says_once u (refused why) (refused how) (subst (λ (z : Named). FileSays (Some files) z (refused why)) same f) g) in
         e ∙ (ap (λ (z : Named). refusal z.which why) same ∙ (ap (refusal u.which) line ∙ sym d))
-    one_output_of texts a b (stopped t why r f e) (reported vs p q) = absurd (not_stopped texts t why vs r f p)
-    one_output_of texts a b (reported vs p q) (stopped t why r f e) = absurd (not_stopped texts t why vs r f p)
-    one_output_of texts a b (reported vs p q) (reported ws r s) =
-        one_reported one_found ws a b (subst (λ (l : List Value). IsReported l a) (values_once texts vs ws p r) q) s
+    one_output_of reading a b (stopped t why r f e) (reported o p q) = absurd (not_stopped reading t why o r f p)
+    one_output_of reading a b (reported o p q) (stopped t why r f e) = absurd (not_stopped reading t why o r f p)
+    one_output_of reading a b (reported o p q) (reported i r s) = one_report one_found i a b (subst (λ (x : Opened). IsReportOf x a) (one_opened reading o i p r) q) s
 
   pub one_output : (reading : Option Reading) (files : List (List ℕ × List ℕ)) (a b : Output) → IsOutputFor reading (Some files) a → IsOutputFor reading (Some files) b → a ≡ b
   one_output None files a b p q = p ∙ sym q
-  one_output (Some reading) files a b p q = one_output_of files (texts_of reading) a b p q
+  one_output (Some reading) files a b p q = one_output_of files reading a b p q

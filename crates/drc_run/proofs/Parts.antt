@@ -5,9 +5,8 @@ use Rattle.std.specs.Map.{lookup}
 use Rattle.std.proofs.lemmas.Bool.{ne_eqb}
 use Rattle.std.proofs.lemmas.List.Elements.{All-nil, All-cons, All-head, All-tail, All-append, All-weaker, All-contains_itself}
 use Rattle.board_items.specs.Boards.{PlainBoard, name_of}
-use Rattle.drc_rows.specs.ReportOf.{NetPart}
+use Rattle.net_groups.specs.NetParts.{NetPart, IsPartOf, IsWritable, real_nets}
 use Rattle.row_check.proofs.RowLists.{nothing, cons_case}
-use Rattle.drc_run.specs.Findings.{IsPartOf, IsWritable, real_nets}
 
 -- the numbers of these nets, and of those that are no net 0
 abbrev pub numbers : List (ℕ × List ℕ) → List ℕ

@@ -1,5 +1,5 @@
 -- The whole output of the program, as a relation between its words, the files of its shelf and what it writes.
-use Rattle.std.specs.Prelude.{◌≡◌, ℕ, List, [], ◌∷◌, ◌++◌, length, Option, None, Some, codes}
+use Rattle.std.specs.Prelude.{◌≡◌, ℕ, List, [], ◌∷◌, ◌++◌, Option, None, Some, codes}
 use Rattle.drc_io.specs.Causes.{Rose}
 use Rattle.drc_io.specs.Files.{IsWhole}
 use Rattle.board_items.specs.Boards.{PlainBoard}
@@ -7,9 +7,10 @@ use Rattle.net_class.specs.Classes.{PlainClasses, plain_classes}
 use Rattle.rule_text.specs.RulesOf.{PlainRules, no_rules}
 use Rattle.pair_check.specs.PlainRow.{PlainRow}
 use Rattle.pair_check.specs.Rows.{Checked}
-use Rattle.drc_rows.specs.ReportOf.{report}
-use Rattle.drc_run.specs.Findings.{Found, AreFindings}
+use Rattle.drc_rows.specs.ReportOf.{Found, whole_report}
+use Rattle.drc_run.specs.Findings.{AreFindings}
 use Rattle.drc_run.specs.declared.texts.Which.{Which}
+use Rattle.drc_run.specs.declared.texts.Which.TheVariants.{Board, Project, Rules}
 use Rattle.drc_run.specs.Words.{Reading}
 use Rattle.drc_run.specs.Texts.{Named, texts_of, word_of, Value, a_board, a_project, a_rules, Said, accepted, refused, TextSays}
 
@@ -34,17 +35,6 @@ abbrev pub status_of : List PlainRow → ℕ
 status_of [] = 0
 status_of (row ∷ rows) = 1
 
--- what is checked
-abbrev pub checked : PlainBoard → PlainClasses → PlainRules → Checked
-checked board classes rules = record { board = board; classes = classes; rules = rules.rules }
-
--- the report of a board under these classes and rules: it tells all that is found, and the status is 1 exactly where there is a row
-pub record IsReportOf (board : PlainBoard) (classes : PlainClasses) (rules : PlainRules) (out : Output) : Type 0 where
-  pub found : Found
-  pub are_findings : AreFindings (checked board classes rules) found
-  pub text : out.text ≡ report board rules found.rows found.parts (length found.tiles)
-  pub status : out.status ≡ status_of found.rows
-
 -- ---- the texts
 
 -- the bytes of a text are what the shelf tells of its file, or else any, and they say this
@@ -68,39 +58,45 @@ pub record IsReached (told : Option (List (List ℕ × List ℕ))) (texts : List
   pub values : List Value
   pub before_accepted : AreAccepted told before values
 
--- the board among the values
-abbrev pub board_among : List Value → Option PlainBoard
-board_among [] = None
-board_among (a_board board ∷ values) = Some board
-board_among (_ ∷ values) = board_among values
+-- ---- what the texts open
 
--- the classes of the project, or without one the plain classes
-abbrev pub classes_among : List Value → PlainClasses
-classes_among [] = plain_classes
-classes_among (a_project classes ∷ values) = classes
-classes_among (_ ∷ values) = classes_among values
-
--- the rules of the rule file, or without one no rules
-abbrev pub rules_among : List Value → PlainRules
-rules_among [] = no_rules
-rules_among (a_rules rules ∷ values) = rules
-rules_among (_ ∷ values) = rules_among values
-
--- the report of what the texts stand for: of the board under the classes and the rules
-pub record IsReported (values : List Value) (out : Output) : Type 0 where
+-- what is checked, and reported: a board, under the classes of its nets and under rules
+pub record Opened : Type 0 where
   pub board : PlainBoard
-  pub has_board : board_among values ≡ Some board
-  pub is_report : IsReportOf board (classes_among values) (rules_among values) out
+  pub classes : PlainClasses
+  pub rules : PlainRules
 
--- the output for these texts: the line of the first that is refused, or the report of all
-pub data IsOutputOf (told : Option (List (List ℕ × List ℕ))) (texts : List Named) (out : Output) : Type 0 where
-  stopped : (text : Named) (why : List ℕ) → IsReached told texts text → FileSays told text (refused why) → out ≡ refusal text.which why → IsOutputOf told texts out
-  reported : (values : List Value) → AreAccepted told texts values → IsReported values out → IsOutputOf told texts out
+abbrev pub checked : Opened → Checked
+checked opened = record { board = opened.board; classes = opened.classes; rules = opened.rules.rules }
+
+-- its report: it tells all that is found, all tiles that hold an item were gone through, and the status is 1 exactly where there is a row
+pub record IsReportOf (opened : Opened) (out : Output) : Type 0 where
+  pub found : Found
+  pub are_findings : AreFindings (checked opened) found
+  pub text : out.text ≡ whole_report 0 opened.board opened.rules found found.held
+  pub status : out.status ≡ status_of found.rows
+
+-- an option's text is accepted with this value; where the option is not given, the value is the plain one
+abbrev pub Gives : Option (List (List ℕ × List ℕ)) → Which → Option (List ℕ) → (plain value : Value) → Type 0
+Gives told which None plain value = value ≡ plain
+Gives told which (Some file) plain value = FileSays told (record { which = which; file = file }) (accepted value)
+
+-- all texts are accepted, and open this: the board that its text says, the classes that the project's says, or without one the plain
+-- classes, and the rules that the rule file says, or without one no rules
+pub record AreOpened (told : Option (List (List ℕ × List ℕ))) (reading : Reading) (opened : Opened) : Type 0 where
+  pub board : FileSays told (record { which = Board; file = reading.board }) (accepted (a_board opened.board))
+  pub classes : Gives told Project reading.project (a_project plain_classes) (a_project opened.classes)
+  pub rules : Gives told Rules reading.rules (a_rules no_rules) (a_rules opened.rules)
+
+-- the output for a reading: the line of the first text that is refused, or the report of what all of them open
+pub data IsOutputOf (told : Option (List (List ℕ × List ℕ))) (reading : Reading) (out : Output) : Type 0 where
+  stopped : (text : Named) (why : List ℕ) → IsReached told (texts_of reading) text → FileSays told text (refused why) → out ≡ refusal text.which why → IsOutputOf told reading out
+  reported : (opened : Opened) → AreOpened told reading opened → IsReportOf opened out → IsOutputOf told reading out
 
 -- the whole output for a reading of the words
 abbrev pub IsOutputFor : Option Reading → Option (List (List ℕ × List ℕ)) → Output → Type 0
 IsOutputFor None told out = out ≡ usage
-IsOutputFor (Some reading) told out = IsOutputOf told (texts_of reading) out
+IsOutputFor (Some reading) told out = IsOutputOf told reading out
 
 -- ---- faults
 

@@ -2,15 +2,12 @@
 use Rattle.std.specs.Prelude.{◌≡◌, ℕ, List, [], ◌++◌, codes, decimal, Option, None, Some}
 use Rattle.std.proofs.Common.{Bor}
 use Rattle.drc_io.specs.Causes.{Rose}
-use Rattle.board_items.specs.Boards.{PlainBoard}
-use Rattle.net_class.specs.Classes.{PlainClasses}
-use Rattle.rule_text.specs.RulesOf.{PlainRules}
 use Rattle.drc_run.specs.declared.texts.Which.{Which}
 use Rattle.drc_run.specs.declared.texts.Refusal.{Refusal}
 use Rattle.drc_run.specs.declared.texts.Stop.{Stop}
 use Rattle.drc_run.specs.declared.texts.Stop.TheVariants.{Refused, Unread, OutOfMemory}
-use Rattle.drc_run.specs.Texts.{Named, Value, accepted, refused, at_place, ReaderSays}
-use Rattle.drc_run.specs.Output.{Output, refusal, FileSays, AreAccepted, IsReached, ReadFails, IsReportOf, IsReported}
+use Rattle.drc_run.specs.Texts.{Named, refused, at_place, ReaderSays}
+use Rattle.drc_run.specs.Output.{Output, refusal, FileSays, IsReached, ReadFails}
 
 -- the name and the number of a reason, as they are written
 abbrev pub reason : List ℕ → List ℕ → List ℕ
@@ -46,11 +43,6 @@ abbrev pub stop_of : Which → Bor (List ℕ) → Bor (List ℕ) → Option ℕ 
 stop_of which name code None inner = OutOfMemory
 stop_of which name code (Some at) inner = Refused (record { which = which; name = name; code = code; at = at; inner = inner })
 
--- the value is that of the option's text, or where the option is not given the one that stands for it
-abbrev pub Gives : Option (List (List ℕ × List ℕ)) → Which → Option (List ℕ) → Value → Value → Type 0
-Gives told which None plain value = value ≡ plain
-Gives told which (Some file) plain value = FileSays told (record { which = which; file = file }) (accepted value)
-
 -- the option's text is not accepted
 abbrev pub StopsOption : Option (List (List ℕ × List ℕ)) → (List ℕ → ℕ) → (List ℕ → ℕ) → Which → Option (List ℕ) → Stop → Type 0
 StopsOption told before now which None stop = stop ≡ OutOfMemory
@@ -62,12 +54,6 @@ StopsTexts told texts before now (Refused r) =
     (file : List ℕ) × IsReached told texts (record { which = r.which; file = file }) × FileSays told (record { which = r.which; file = file }) (refused (why_of r))
 StopsTexts told texts before now (Unread which) = ReadFails told texts before now which
 StopsTexts told texts before now OutOfMemory = Unit {0}
-
--- all texts are accepted, and the report of what they stand for is that of this board under these classes and rules
-pub record AreChecked (told : Option (List (List ℕ × List ℕ))) (texts : List Named) (board : PlainBoard) (classes : PlainClasses) (rules : PlainRules) : Type 0 where
-  pub values : List Value
-  pub are_accepted : AreAccepted told texts values
-  pub reported : (out : Output) → IsReportOf board classes rules out → IsReported values out
 
 -- the line of what stops a run, where it is a refusal
 abbrev pub IsLineOf : Stop → Output → Type 0

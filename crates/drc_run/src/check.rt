@@ -5,7 +5,7 @@ ghost use Rattle.drc_io.specs.Causes.{Rose};
 ghost use Rattle.rule_text.specs.Views.{plain_rules};
 ghost use Rattle.pair_check.specs.Views.{checked_by, IsWhole};
 ghost use Rattle.drc_run.specs.declared.status.Status.{Status};
-ghost use Rattle.drc_run.specs.Names.{reading_in};
+ghost use Rattle.drc_run.specs.Names.{reading_in, opened_in, found_in};
 ghost use Rattle.drc_run.specs.Findings.{AreFound};
 ghost use Rattle.drc_run.specs.Output.{IsOutputFor, HasReadFault, IsReportOf, usage, status_of};
 ghost use Rattle.drc_run.specs.Refusing.{IsLineOf};
@@ -70,7 +70,7 @@ fn report_status(rows: &[Row]) -> Status
 /// All that is found on the board of the view.
 fn findings(alloc: Global, view: &CheckView<'_>) -> Result<Findings, AllocError>
     requires { IsWhole view.now }
-    ensures { IfOk result (λ found. AreFound (checked_by view.now) found.rows.items found.parts.items found.held) }
+    ensures { IfOk result (λ found. AreFound (checked_by view.now) (found_in found)) }
 {
     let reach = reach(view.board, view.classes, view.rules);
     let index = index_of(alloc, view.board, reach)?;
@@ -81,12 +81,12 @@ fn findings(alloc: Global, view: &CheckView<'_>) -> Result<Findings, AllocError>
 fn write_checked<W: Sink>(alloc: Global, view: &CheckView<'_>, rules: &Rules, out: &mut W) -> Status
     requires whole { IsWhole view.now }
     requires rules { view.now.rules.now ≡ rules.now.rules }
-    ensures ends { Ends (IsReportOf view.now.board.now view.now.classes.now (plain_rules rules.now)) (λ _. ⊥) (W.written out.old) (W.written out.new) result }
+    ensures ends { Ends (IsReportOf (record { board = view.now.board.now; classes = view.now.classes.now; rules = plain_rules rules.now })) (λ _. ⊥) (W.written out.old) (W.written out.new) result }
     ensures fault { result ≡ Status.WriteFault → Rose (W.faults out.old) (W.faults out.new) }
 {
     match findings(alloc, view) {
         Ok(found) => after(
-            write_report(view, rules, &found, out),
+            write_report(0, view, rules, &found, found.held, out),
             report_status(&found.rows),
         ),
         Err(_) => Status::OutOfMemory,
@@ -96,7 +96,7 @@ fn write_checked<W: Sink>(alloc: Global, view: &CheckView<'_>, rules: &Rules, ou
 /// Checks the board of the texts, and writes its report.
 fn report<W: Sink>(alloc: Global, texts: &Texts, out: &mut W) -> Status
     requires few { length texts.now.rules.rules ≤ 33_554_432 }
-    ensures ends { Ends (IsReportOf texts.now.board texts.now.classes (plain_rules texts.now.rules)) (λ _. ⊥) (W.written out.old) (W.written out.new) result }
+    ensures ends { Ends (IsReportOf (opened_in texts.now)) (λ _. ⊥) (W.written out.old) (W.written out.new) result }
     ensures fault { result ≡ Status.WriteFault → Rose (W.faults out.old) (W.faults out.new) }
 {
     let facts = match all_facts(alloc, &texts.board, &texts.classes) {

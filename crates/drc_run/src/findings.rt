@@ -3,8 +3,9 @@
 ghost use Rattle.std.specs.Prelude.{◌≡◌, IfOk};
 ghost use Rattle.pair_check.specs.Views.{checked_by, IsWhole};
 ghost use Rattle.row_check.specs.Tiles.{IsIndexOf};
-ghost use Rattle.net_groups.specs.Holding.{HoldsItems};
+ghost use Rattle.board_index.specs.Holding.{HoldsItems};
 ghost use Rattle.drc_run.specs.Findings.{AreFound};
+ghost use Rattle.drc_run.specs.Names.{found_in};
 
 use crate::nets::{NetPart, nets_of};
 use box_index::TileIndex;
@@ -27,7 +28,7 @@ pub(crate) fn find(
 ) -> Result<Findings, AllocError>
     requires view { IsWhole view.now }
     requires index { IsIndexOf (checked_by view.now) index.now }
-    ensures { IfOk result (λ found. AreFound (checked_by view.now) found.rows.items found.parts.items found.held) }
+    ensures { IfOk result (λ found. AreFound (checked_by view.now) (found_in found)) }
 {
     let rows = rows_of(alloc, view, index)?;
     let parts = nets_of(alloc, view.board, index)?;

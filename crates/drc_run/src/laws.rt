@@ -2,8 +2,9 @@
 
 ghost use Rattle.std.specs.Prelude.{◌≡◌, ℕ, List, Option, Some};
 ghost use Rattle.pair_check.specs.Rows.{Checked};
+ghost use Rattle.drc_rows.specs.ReportOf.{Found};
 ghost use Rattle.drc_run.specs.Words.{Reading};
-ghost use Rattle.drc_run.specs.Findings.{Found, AreFindings};
+ghost use Rattle.drc_run.specs.Findings.{AreFindings};
 ghost use Rattle.drc_run.specs.Output.{Output, IsOutputFor};
 
 use pcb_read::laws::one_reading;

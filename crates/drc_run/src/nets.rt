@@ -1,11 +1,9 @@
 //! What is found of the nets of a board.
 
 ghost use Rattle.std.specs.Prelude.{◌≡◌, ◌≢◌, IfOk, IsSome, All};
-ghost use Rattle.std.specs.List.{AllZip};
 ghost use Rattle.board_items.specs.Boards.{name_of};
-ghost use Rattle.net_groups.specs.Holding.{HoldsItems};
-ghost use Rattle.drc_rows.specs.ReportOf.{is_open};
-ghost use Rattle.drc_run.specs.Findings.{IsPartOf, IsWritable, real_nets};
+ghost use Rattle.board_index.specs.Holding.{HoldsItems};
+ghost use Rattle.net_groups.specs.NetParts.{is_open, IsPartOf, AreParts, IsWritable};
 
 use board_items::Board;
 use box_index::TileIndex;
@@ -25,7 +23,7 @@ pub(crate) struct NetPart {
 }
 
 impl Model for NetPart {
-    ghost use Rattle.drc_rows.specs.ReportOf.{NetPart as PlainPart};
+    ghost use Rattle.net_groups.specs.NetParts.{NetPart as PlainPart};
 
     ghost Value = { PlainPart };
 
@@ -67,7 +65,7 @@ pub(crate) fn nets_of(
     index: &TileIndex,
 ) -> Result<Vec<NetPart>, AllocError>
     requires { HoldsItems board.now index.now }
-    ensures parts { IfOk result (λ parts. AllZip (IsPartOf board.now) (real_nets board.now) parts.items) }
+    ensures parts { IfOk result (λ parts. AreParts board.now parts.items) }
     ensures writable { IfOk result (λ parts. All (IsWritable board.now) parts.items) }
 {
     let mut parts = Vec::new(alloc);

@@ -5,10 +5,10 @@ ghost use Rattle.drc_io.specs.Files.{IsWhole};
 ghost use Rattle.net_class.specs.Classes.{plain_classes};
 ghost use Rattle.rule_text.specs.RulesOf.{no_rules};
 ghost use Rattle.rule_text.specs.Views.{plain_rules};
-ghost use Rattle.drc_run.specs.Names.{reading_in};
+ghost use Rattle.drc_run.specs.Names.{reading_in, opened_in};
 ghost use Rattle.drc_run.specs.Texts.{word_of, texts_of, a_board, a_project, a_rules, accepted, ReaderSays};
-ghost use Rattle.drc_run.specs.Output.{FileSays};
-ghost use Rattle.drc_run.specs.Refusing.{StopsReading, StopsText, StopsTexts, StopsOption, Gives, AreChecked, stop_of};
+ghost use Rattle.drc_run.specs.Output.{FileSays, Gives, AreOpened};
+ghost use Rattle.drc_run.specs.Refusing.{StopsReading, StopsText, StopsTexts, StopsOption, stop_of};
 
 use crate::words::Names;
 use board_items::Board;
@@ -240,7 +240,7 @@ pub(crate) fn texts_of<F: Shelf>(
     names: Names<'_>,
     shelf: &mut F,
 ) -> Result<Texts, Stop>
-    ensures ok { IfOk result (λ texts. AreChecked (F.files shelf.old) (texts_of (reading_in names.entry)) texts.board texts.classes (plain_rules texts.rules)) }
+    ensures ok { IfOk result (λ texts. AreOpened (F.files shelf.old) (reading_in names.entry) (opened_in texts)) }
     ensures few { IfOk result (λ texts. length texts.rules.rules ≤ 33_554_432) }
     ensures stop { IfErr result (StopsTexts (F.files shelf.old) (texts_of (reading_in names.entry)) (F.faults shelf.old) (F.faults shelf.new)) }
     ensures same { F.files shelf.new ≡ F.files shelf.old }

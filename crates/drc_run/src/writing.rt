@@ -1,15 +1,17 @@
 //! The whole report of a board.
 
-ghost use Rattle.std.specs.Prelude.{◌≡◌, ◌++◌, ℕ, List, [], All, map, length, filter, codes};
+ghost use Rattle.std.specs.Prelude.{◌≡◌, ◌++◌, ℕ, List, All, map, length, filter};
 ghost use Rattle.std.specs.List.{flat_map};
 ghost use Rattle.drc_io.specs.Sinks.{Writes};
 ghost use Rattle.cond_lang.specs.Rules.{plain_rule};
 ghost use Rattle.rule_text.specs.Views.{plain_rules};
 ghost use Rattle.pair_check.specs.Rows.{HasItems, HasSource};
 ghost use Rattle.pair_check.specs.Views.{checked_by};
-ghost use Rattle.drc_rows.specs.Report.{number_line, rows_text, notes_text};
-ghost use Rattle.drc_rows.specs.ReportOf.{is_open, part_text, nets_text, tiles_line, report};
-ghost use Rattle.drc_run.specs.Findings.{AreFound, IsWritable};
+ghost use Rattle.net_groups.specs.NetParts.{is_open, IsWritable};
+ghost use Rattle.drc_rows.specs.Report.{rows_text, notes_text};
+ghost use Rattle.drc_rows.specs.ReportOf.{part_text, nets_text, tiles_line, first_line, whole_report};
+ghost use Rattle.drc_run.specs.Findings.{AreFound};
+ghost use Rattle.drc_run.specs.Names.{found_in};
 
 use crate::findings::Findings;
 use crate::nets::NetPart;
@@ -94,17 +96,27 @@ fn write_parts<W: Sink>(board: &Board, parts: &[NetPart], out: &mut W) -> Result
     write_line(b"open nets ", count_open(parts), b"", out)
 }
 
-/// Writes that all tiles that hold an item were gone through.
-fn write_tiles<W: Sink>(held: u32, out: &mut W) -> Result<(), Failed>
-    ensures { Writes (W.written out.old) (W.written out.new) (W.faults out.old) (W.faults out.new) (tiles_line held held) result }
+/// Writes how many tiles were gone through, and how many hold an item.
+fn write_tiles<W: Sink>(done: u32, held: u32, out: &mut W) -> Result<(), Failed>
+    ensures { Writes (W.written out.old) (W.written out.new) (W.faults out.old) (W.faults out.new) (tiles_line done held) result }
 {
-    let mut digits = Buffer::new();
-    let number = digits.format(held).as_bytes();
-    write_pieces(&[b"rechecked ", number, b" of ", number, b" tiles\n"], out)
+    let mut done_digits = Buffer::new();
+    let mut held_digits = Buffer::new();
+    write_pieces(
+        &[
+            b"rechecked ",
+            done_digits.format(done).as_bytes(),
+            b" of ",
+            held_digits.format(held).as_bytes(),
+            b" tiles\n",
+        ],
+        out,
+    )
 }
 
 /// Writes what was found of rows and notes, behind the line that begins the report.
 fn write_items<W: Sink>(
+    number: u64,
     view: &CheckView<'_>,
     rules: &Rules,
     rows: &[Row],
@@ -113,28 +125,31 @@ fn write_items<W: Sink>(
     requires items { All (HasItems view.now.board.now) rows.now }
     requires sources { All (HasSource (map plain_rule view.now.rules.now)) rows.now }
     ensures { Writes (W.written out.old) (W.written out.new) (W.faults out.old) (W.faults out.new)
-        (number_line (codes "report ") 0 [] ++ rows_text view.now.board.now (map plain_rule view.now.rules.now) rows.now ++ notes_text view.now.board.now (plain_rules rules.now)) result }
+        (first_line number ++ rows_text view.now.board.now (map plain_rule view.now.rules.now) rows.now ++ notes_text view.now.board.now (plain_rules rules.now)) result }
 {
-    write_line(b"report ", 0, b"", out)?;
+    write_line(b"report ", number, b"", out)?;
     write_counted_rows(view, rows, out)?;
     write_counted_notes(view.board, rules, out)
 }
 
-/// Writes the report of a board: its rows, its notes, its open nets, and how many tiles were gone through. `Failed` comes only
-/// where the sink's count of faults rose, and then a front part of the report was written. It takes no memory.
+/// Writes the whole report of this number: the board's rows, its notes, its open nets, and how many tiles were gone through.
+/// `Failed` comes only where the sink's count of faults rose, and then a front part of the report was written. It takes no
+/// memory.
 pub(crate) fn write_report<W: Sink>(
+    number: u64,
     view: &CheckView<'_>,
     rules: &Rules,
     found: &Findings,
+    done: u32,
     out: &mut W,
 ) -> Result<(), Failed>
     requires rules { view.now.rules.now ≡ rules.now.rules }
-    requires found { AreFound (checked_by view.now) found.now.rows.items found.now.parts.items found.now.held }
-    ensures { Writes (W.written out.old) (W.written out.new) (W.faults out.old) (W.faults out.new) (report view.now.board.now (plain_rules rules.now) found.now.rows.items found.now.parts.items found.now.held) result }
+    requires found { AreFound (checked_by view.now) (found_in found.now) }
+    ensures { Writes (W.written out.old) (W.written out.new) (W.faults out.old) (W.faults out.new) (whole_report number view.now.board.now (plain_rules rules.now) (found_in found.now) done) result }
 {
     rows_have_items();
     rows_have_sources();
-    write_items(view, rules, &found.rows, out)?;
+    write_items(number, view, rules, &found.rows, out)?;
     write_parts(view.board, &found.parts, out)?;
-    write_tiles(found.held, out)
+    write_tiles(done, found.held, out)
 }

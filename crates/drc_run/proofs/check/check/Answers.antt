@@ -1,16 +1,15 @@
 use Rattle.std.proofs.Common.{Some}
-use Rattle.rule_text.specs.Views.{plain_rules}
-use Rattle.drc_run.specs.Output.{IsOutputFor}
+use Rattle.drc_run.specs.Output.{IsOutputFor, reported}
 use Rattle.drc_run.proofs.Written.{ends_as}
-use Rattle.drc_run.specs.Names.{reading_in}
-use Rattle.drc_run.proofs.Accepting.{report_is_output, line_is_output, unread_has_fault}
+use Rattle.drc_run.specs.Names.{reading_in, opened_in}
+use Rattle.drc_run.proofs.Accepting.{line_is_output, unread_has_fault}
 use Rattle.drc_run.proofs.check.check.Goals as goal
 
 pub returns-in-Ok-clause-ends : goal.returns-in-Ok-clause-ends
 returns-in-Ok-clause-ends g c =
     let told = g.F.Shelf.files c.args.shelf.now in
     let reading = reading_in c.args.names in
-    ends_as _ (IsOutputFor (Some reading) told) (λ _. ⊥) _ _ _ c.report.result (λ out is. report_is_output told reading c.in-Ok.texts.board c.in-Ok.texts.classes (plain_rules c.in-Ok.texts.rules) out c.in-Ok.ensures.ok is)
+    ends_as _ (IsOutputFor (Some reading) told) (λ _. ⊥) _ _ _ c.report.result (λ out is. reported (opened_in c.in-Ok.texts) c.in-Ok.ensures.ok is)
     (λ w none. absurd none) c.report.ensures.ends
 
 pub returns-in-Err-clause-ends : goal.returns-in-Err-clause-ends

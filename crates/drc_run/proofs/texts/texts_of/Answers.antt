@@ -4,8 +4,9 @@ use Rattle.rule_text.specs.RulesOf.{no_rules}
 use Rattle.rule_text.specs.Views.{plain_rules}
 use Rattle.drc_run.specs.declared.texts.Which.TheVariants.{Project, Rules}
 use Rattle.drc_run.specs.Texts.{a_project, a_rules}
-use Rattle.drc_run.specs.Refusing.{Gives, StopsOption}
-use Rattle.drc_run.proofs.Accepting.{board_stops, are_checked, project_stops, rules_stop}
+use Rattle.drc_run.specs.Output.{Gives}
+use Rattle.drc_run.specs.Refusing.{StopsOption}
+use Rattle.drc_run.proofs.Accepting.{board_stops, project_stops, rules_stop}
 use Rattle.drc_run.proofs.texts.texts_of.Goals as goal
 
 pub returns-in-Err-clause-stop : goal.returns-in-Err-clause-stop
@@ -14,14 +15,15 @@ returns-in-Err-clause-stop g c =
 
 pub returns-in-Ok-rules_of-clause-ok : goal.returns-in-Ok-rules_of-clause-ok
 returns-in-Ok-rules_of-clause-ok g c =
-    let told = g.F.Shelf.files c.args.shelf.now in
     let project = option_map (λ name. name.now) c.args.names.project in
     let rules = option_map (λ name. name.now) c.args.names.rules in
     let classes = c.in-Ok-classes_of.classes in
     let r = plain_rules c.in-Ok-rules_of.rules in
-    are_checked told c.args.names.board.now project rules c.in-Ok.board classes r c.in-Ok.ensures.ok
-    (subst (λ t. Gives t Project project (a_project plain_classes) (a_project classes)) c.in-Ok.ensures.same c.in-Ok-classes_of.ensures.ok)
-    (subst (λ t. Gives t Rules rules (a_rules no_rules) (a_rules r)) (c.in-Ok-classes_of.ensures.same ∙ c.in-Ok.ensures.same) c.in-Ok-rules_of.ensures.ok)
+    record {
+      board = c.in-Ok.ensures.ok;
+      classes = subst (λ t. Gives t Project project (a_project plain_classes) (a_project classes)) c.in-Ok.ensures.same c.in-Ok-classes_of.ensures.ok;
+      rules = subst (λ t. Gives t Rules rules (a_rules no_rules) (a_rules r)) (c.in-Ok-classes_of.ensures.same ∙ c.in-Ok.ensures.same) c.in-Ok-rules_of.ensures.ok;
+    }
 
 pub returns-in-Err-classes_of-clause-stop : goal.returns-in-Err-classes_of-clause-stop
 returns-in-Err-classes_of-clause-stop g c =

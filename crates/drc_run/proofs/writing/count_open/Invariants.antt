@@ -1,5 +1,5 @@
 use Rattle.std.proofs.Common.{◌≡◌, ◌≤◌, length, filter, take}
-use Rattle.drc_rows.specs.ReportOf.{is_open}
+use Rattle.net_groups.specs.NetParts.{is_open}
 use Rattle.drc_run.proofs.writing.count_open.Given as goal
 
 abbrev pub invariant-loop-part : goal.invariant-loop-part

@@ -2,7 +2,7 @@ use Rattle.std.proofs.Common.{subst, sym, arith}
 use Rattle.std.proofs.lemmas.Result.{err_from_is_err_and}
 use Rattle.drc_io.proofs.Writing.{Writes-then, Writes-text}
 use Rattle.drc_rows.specs.ReportOf.{part_text}
-use Rattle.drc_run.specs.Findings.{IsWritable}
+use Rattle.net_groups.specs.NetParts.{IsWritable}
 use Rattle.drc_rows.proofs.Lines.{flat_more_at, flat_rest_at, Writes-cut}
 use Rattle.drc_run.proofs.writing.write_open.Goals as goal
 
