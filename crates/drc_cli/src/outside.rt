@@ -4,7 +4,7 @@ ghost use Rattle.std.specs.Io.KnownBytes.{Appends, WriteAppends};
 ghost use Rattle.drc_io.specs.Causes.{HasCause, Rose};
 ghost use Rattle.drc_io.specs.Files.{ReadsFrom};
 ghost use Rattle.drc_cli.specs.Faults.{counted, takes_all};
-ghost use Rattle.drc_cli.specs.Filling.{Fills, FillsFrom};
+ghost use Rattle.drc_cli.specs.Filling.{Fills, FillsFrom, GoesOn, ReadsOn};
 
 use drc_io::{Failed, Name, Shelf, Sink};
 use std::io::{ErrorKind, Read, Seek, SeekFrom, Write};
@@ -43,6 +43,7 @@ fn fill<F: Read>(file: &mut F, buf: &mut [u8]) -> io::Result<usize>
 fn fill_from<F: Read + Seek>(opened: &mut Opened<F>, at: u64, buf: &mut [u8]) -> io::Result<usize>
     ensures filled { IfOk result (λ n. FillsFrom F.Read.remaining F.Seek.stream_position opened.old.file opened.new.file opened.old.at at n buf.new) }
     ensures left { IfOk result (λ n. opened.new.at ≡ min (at + n) (2 ^ 64 - 1)) }
+    ensures name { opened.new.name ≡ opened.old.name }
 {
     if opened.at != at {
         opened.file.seek(SeekFrom::Start(at))?;
@@ -65,7 +66,7 @@ fn going_on<F: Drop>(kept: Option<Opened<F>>, name: &str, at: u64) -> Option<Ope
     Some(opened)
 }
 
-/// The files of the system. Its one count of faults serves every name, and contracts see it as that count.
+/// The files of the system. Its one count of faults serves every name. Contracts see the file that is kept open, and the count.
 #[derive(Drop)]
 pub struct FileShelf<'a, R: Files> {
     rt: &'a R,
@@ -74,16 +75,16 @@ pub struct FileShelf<'a, R: Files> {
 }
 
 impl<'a, R: Files> Model for FileShelf<'a, R> {
-    ghost use Rattle.std.specs.Prelude.{ℕ};
+    ghost use Rattle.drc_cli.specs.Kept.{Kept};
 
-    ghost Value = { ℕ };
+    ghost Value = { Kept R.File };
 
-    ghost view = { λ s. s.faults };
+    ghost view = { λ s. record { file = s.kept; faults = s.faults } };
 }
 
 impl<'a, R: Files + AllocGlobal> FileShelf<'a, R> {
     pub fn new(rt: &'a R) -> FileShelf<'a, R>
-        ensures { result ≡ 0 }
+        ensures { result ≡ record { file = None; faults = 0 } }
     {
         FileShelf {
             rt,
@@ -92,19 +93,28 @@ impl<'a, R: Files + AllocGlobal> FileShelf<'a, R> {
         }
     }
 
-    // Goes on with the file that is open, or opens it. The first bytes are read of a file that is opened for them.
-    fn read_open(&mut self, name: &str, at: u64, buf: &mut [u8]) -> io::Result<usize>
-        ensures bound { IfOk result (λ n. n ≤ length buf.old) }
-        ensures same { self.new ≡ self.old }
+    // The file that is open, where it is the one to go on with, or else the file of this name, opened anew. It is kept no more.
+    fn take_file(&mut self, name: &str, at: u64) -> io::Result<Opened<R::File>>
+        ensures from { IfOk result (GoesOn self.old.file name.now at) }
+        ensures named { IfOk result (λ opened. IfSome opened.name (λ known. known ≡ name.now)) }
+        ensures taken { self.new ≡ record self.old { file = None } }
     {
-        let mut opened = match going_on(self.kept.take(), name, at) {
-            Some(opened) => opened,
-            None => Opened {
-                name: Name::from_slice(self.rt.alloc(), name.as_bytes()).ok(),
-                file: fs::open(self.rt, name)?,
-                at: 0,
-            },
-        };
+        if let Some(opened) = going_on(self.kept.take(), name, at) {
+            return Ok(opened);
+        }
+        Ok(Opened {
+            name: Name::from_slice(self.rt.alloc(), name.as_bytes()).ok(),
+            file: fs::open(self.rt, name)?,
+            at: 0,
+        })
+    }
+
+    // Reads from a place of a file on. The first bytes are read of a file that is opened for them.
+    fn read_open(&mut self, name: &str, at: u64, buf: &mut [u8]) -> io::Result<usize>
+        ensures read { MatchResult result (λ n. ReadsOn R.File.Read.remaining R.File.Seek.stream_position self.old.file self.new.file name.now at n buf.new) (λ _. self.new.file ≡ None) }
+        ensures same { self.new.faults ≡ self.old.faults }
+    {
+        let mut opened = self.take_file(name, at)?;
         let n = fill_from(&mut opened, at, buf)?;
         self.kept = Some(opened);
         Ok(n)
@@ -114,15 +124,16 @@ impl<'a, R: Files + AllocGlobal> FileShelf<'a, R> {
 impl<'a, R: Files + AllocGlobal> Shelf for FileShelf<'a, R> {
     ghost files = { λ _. None };
 
-    ghost faults = { λ s _. s };
+    ghost faults = { λ s _. s.faults };
 
-    /// A file stays open for the reads that follow. The count rises exactly where a read fails.
+    /// A file stays open for the reads that follow, but for a fault. The count rises exactly where a read fails.
     fn read(&mut self, name: &str, at: u64, buf: &mut [u8]) -> Result<usize, Failed>
         ensures bound { IfOk result (λ n. n ≤ length buf.old) }
         ensures bytes { IfOk result (λ n. ReadsFrom None name.now at n buf.new) }
-        ensures counts { (other : List ℕ) → self.old ≤ self.new }
-        ensures cause { OnErr result (Rose self.old self.new) }
-        ensures raised { self.new ≡ counted self.old (is_err result) }
+        ensures counts { (other : List ℕ) → self.old.faults ≤ self.new.faults }
+        ensures cause { OnErr result (Rose self.old.faults self.new.faults) }
+        ensures raised { self.new.faults ≡ counted self.old.faults (is_err result) }
+        ensures read { MatchResult result (λ n. ReadsOn R.File.Read.remaining R.File.Seek.stream_position self.old.file self.new.file name.now at n buf.new) (λ _. self.new.file ≡ None) }
     {
         match self.read_open(name, at, buf) {
             Ok(n) => Ok(n),
