@@ -1,15 +1,9 @@
 //! What a case gives to the program, and how it is to end.
 
+use case_lines::Outcome;
 use drc_io::{MemShelf, MemSink, Name};
 use drc_run::run;
 use std::alloc::{AllocError, Global};
-
-/// The status that the program ends with and what it writes.
-#[derive(Drop)]
-pub struct Outcome {
-    pub status: u8,
-    pub text: Vec<u8>,
-}
 
 /// The words, the files, the numbers of the reads and writes that fail, and how many bytes a write takes at most.
 #[derive(Drop)]

@@ -5,13 +5,12 @@
 #![tactic(auto)]
 
 mod case;
-mod difference;
 mod fault;
 mod reader;
 mod texts;
 
 use case::Case;
-use difference::difference;
+use case_lines::difference;
 use fault::Fault;
 use reader::{Line, first_case, lines_of, read_case};
 use std::env::Env;

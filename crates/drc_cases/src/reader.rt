@@ -1,8 +1,9 @@
 //! Reads a case from its lines.
 
-use crate::case::{Case, Given, Outcome};
+use crate::case::{Case, Given};
 use crate::fault::{Fault, Reason};
 use crate::texts::{Shorthands, add_times, first_word, is_in_name, number};
+use case_lines::Outcome;
 use drc_io::Name;
 use std::alloc::{AllocError, Global};
 

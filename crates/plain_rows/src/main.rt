@@ -17,7 +17,7 @@ use drc_run::run;
 use item_facts::all_facts;
 use net_class::Classes;
 use pcb_read::read_board;
-use row_check::CheckView;
+use row_check::{CheckView, Row};
 use rule_text::{Rules, read_rules};
 use std::alloc::Global;
 use std::process::ExitCode;
@@ -42,7 +42,17 @@ fn board_text(alloc: Global, items: &[u8]) -> Option<Vec<u8>> {
     Some(text)
 }
 
-/// The rows of the view as a report has them, over all items and all pairs.
+/// Whether each row differs from the one before it.
+fn all_differ(rows: &[Row]) -> bool {
+    for place in 1..rows.len() {
+        if rows[place] == rows[place - 1] {
+            return false;
+        }
+    }
+    true
+}
+
+/// The rows of the view as a report has them, over all items and all pairs. No row comes twice.
 fn written(alloc: Global, view: &CheckView<'_>) -> Option<Vec<u8>>
     requires { IsWhole view.now }
 {
@@ -50,6 +60,9 @@ fn written(alloc: Global, view: &CheckView<'_>) -> Option<Vec<u8>>
         Ok(rows) => rows,
         Err(_) => return None,
     };
+    if !all_differ(&rows) {
+        return None;
+    }
     let mut out = MemSink::new(alloc, usize::MAX, ROOM, Vec::new(alloc)).ok()?;
     write_line(b"report ", 0, b"", &mut out).ok()?;
     write_rows(view, &rows, &mut out).ok()?;
