@@ -9,6 +9,7 @@ parts N      N footprints with courtyards, and tracks under them, for rules of `
 routes N     N nets of 200 vias each without a track
 piece N      one net of N vias in a row, each touching the next
 loose N      one net of N vias, none touching another
+areas N      N rule areas of 920 mm by 920 mm that forbid footprints alone, and one track
 rules N      a rule file of N rules with conditions; of none it asks for a clearance of a thousandth of a millimetre
 """
 import sys
@@ -100,6 +101,15 @@ def row(count, step):
         yield via(mm(-450000000 + step * (k % 450)), mm(-450000000 + step * (k // 450)), 1, "v%d" % k)
 
 
+def areas(count):
+    yield nets(1)
+    allowed = " ".join("(%s allowed)" % what for what in ("tracks", "vias", "pads", "copperpour")) + " (footprints not_allowed)"
+    corners = " ".join("(xy %d %d)" % corner for corner in ((-460, -460), (460, -460), (460, 460), (-460, 460)))
+    for k in range(count):
+        yield '(zone (net 0) (net_name "") (layer "F.Cu") (tstamp a%d) (name "A%d") (keepout %s) (polygon (pts %s)))\n' % (k, k, allowed, corners)
+    yield track(0, 0, 1, 0, 1, "t")
+
+
 def rules(count):
     print("(version 1)")
     if count == 0:
@@ -113,7 +123,7 @@ def main():
     if kind == "rules":
         rules(number)
         return
-    makers = {"made": made, "crowd": crowd, "fill": fill, "combs": combs, "parts": parts, "routes": routes,
+    makers = {"made": made, "crowd": crowd, "fill": fill, "combs": combs, "parts": parts, "routes": routes, "areas": areas,
               "piece": lambda n: row(n, 700000), "loose": lambda n: row(n, 2000000)}
     sys.stdout.write(HEAD)
     for line in makers[kind](number):

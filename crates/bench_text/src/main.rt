@@ -60,7 +60,13 @@ fn facts_on_board(alloc: Global, text: &[u8]) -> Option<u64> {
     let board = read_board(alloc, text).ok()?;
     let classes = Classes::plain(alloc).ok()?;
     let facts = all_facts(alloc, &board, &classes).ok()?;
-    Some(facts.len() as u64)
+    let mut count = 0u64;
+    for (id, _) in board.iter() {
+        if facts.get(id).is_some() {
+            count = count.wrapping_add(1);
+        }
+    }
+    Some(count)
 }
 
 /// How many items the list of the JSON text has.
