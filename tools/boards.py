@@ -92,16 +92,12 @@ def arc(start, middle, end):
 
 
 class Item:
-    """what a row can name: its word, its name, of a pad the reference, and its position in nanometres"""
+    """what a report can name: its word, its name, of a pad the reference, its position in nanometres, and of a track its end"""
     __slots__ = ('word', 'name', 'reference', 'at', 'position', 'end', 'shapes', 'unit', 'layers')
 
     def __init__(self, word, name, at, position, reference=None, layers=()):
         self.word, self.name, self.reference, self.at, self.position = word, name, reference, at, position
         self.layers, self.shapes, self.unit, self.end = layers, [], None, None
-
-    def anchors(self):
-        """where a report may say that it is: a row by its position, a link also by the end of a track"""
-        return [self.position] if self.end is None else [self.position, self.end]
 
     def box(self):
         boxes = [shape.box for shape in self.shapes]

@@ -174,10 +174,12 @@ class Placed:
                     self.index.setdefault((item.word, item.name, item.reference if item.word == 'pad' else None), []).append(item)
         same = self.index.get((named.word, named.name, named.reference), [])
         x, y = named.position
-        for item in same:
-            dx, dy = self.shifts[id(item.unit)]
-            if any(abs(px + dx - x) < 1 and abs(py + dy - y) < 1 for px, py in item.anchors()):
-                return item
+        for point in ('position', 'end'):
+            for item in same:
+                dx, dy = self.shifts[id(item.unit)]
+                there = getattr(item, point)
+                if there and abs(there[0] + dx - x) < 1 and abs(there[1] + dy - y) < 1:
+                    return item
         return same[0] if same else None
 
 

@@ -2,6 +2,7 @@
 
 It reads more than `drc` does and refuses nothing: what is wrong in a text is for `drc` to say.
 """
+import bisect
 import re
 from decimal import Decimal
 
@@ -105,12 +106,10 @@ class Lines:
 
     def __init__(self, text):
         self.text = text
-        self.seen = [(0, 1)]
+        self.ends = [match.start() for match in re.finditer(b'\n', text)]
 
     def place(self, at):
-        """the line and the column of a byte; places are best asked in rising order"""
-        from_byte, line = self.seen[-1] if self.seen[-1][0] <= at else (0, 1)
-        line += self.text.count(b'\n', from_byte, at)
-        self.seen.append((at, line))
-        begin = self.text.rfind(b'\n', 0, at) + 1
-        return line, len(self.text[begin:at].decode('utf-8', 'replace')) + 1
+        """the line and the column of a byte"""
+        line = bisect.bisect_left(self.ends, at)
+        begin = self.ends[line - 1] + 1 if line else 0
+        return line + 1, len(self.text[begin:at].decode('utf-8', 'replace')) + 1
