@@ -11,6 +11,7 @@ Nothing is decided here: rows, values, open nets and notes are the report's. The
 what is measured is not measured on it.
 """
 import argparse
+import html
 import json
 import os
 import sys
@@ -51,10 +52,12 @@ class Picture:
     """the board as groups of SVG, a layer each; what looks alike on a layer is one path, so that a large board stays quick"""
 
     def __init__(self, units, touched):
-        self.drawn, self.box = {}, None
+        self.drawn, self.box, self.references = {}, None, []
         for unit in units:
             name = str(touched.get(id(unit), ''))
             for item in unit.items:
+                if item.word == 'footprint' and item.name:
+                    self.references.append((name, item))
                 for shape in item.shapes:
                     key = (shape.layer, SORTS.index(shape.sort), shape.fill, shape.width, name)
                     self.drawn.setdefault(key, []).append(shape.path)
@@ -83,18 +86,24 @@ class Picture:
         paint = 'fill="%s"' % color if fill else 'fill="none" stroke="%s" stroke-width="%s"' % (color, number(width))
         return '<path%s %s%s d="%s"/>' % (unit, paint, faint, ''.join(self.drawn[key]))
 
+    def reference(self, name, item):
+        x, y = (number(n / 1e6) for n in item.position)
+        unit = ' class="unit%s"' % name if name else ''
+        return '<text%s x="%s" y="%s">%s</text>' % (unit, x, y, html.escape(item.name))
+
     def svg(self):
         groups = []
         for k, layer in enumerate(self.layers()):
             keys = sorted(key for key in self.drawn if key[0] == layer)
             groups.append('<g id="layer%d" style="color:%s">%s</g>' % (k, COLORS.get(layer, '#888'), ''.join(self.path(key) for key in keys)))
+        groups.append('<g id="references">%s</g>' % ''.join(self.reference(*each) for each in self.references))
         groups += ['<g id="%s"></g>' % name for name in ('notes', 'picked', 'links', 'marks')]
         return '<svg id="board" xmlns="http://www.w3.org/2000/svg">%s</svg>' % '\n'.join(groups)
 
     def switches(self):
         """the layers as the page switches them, from the highest: id, name, color, and whether it is on at first"""
         layers = [('layer%d' % k, layer, COLORS.get(layer, '#888'), True) for k, layer in enumerate(self.layers())][::-1]
-        return layers + [('links', 'open links', '#00f8ff', True), ('marks', 'rows', '#ff5f6d', True), ('notes', 'not checked', '#9aa3b0', True)]
+        return [('references', 'references', '#f2eda1', True)] + layers + [('links', 'open links', '#00f8ff', True), ('marks', 'rows', '#ff5f6d', True), ('notes', 'not checked', '#9aa3b0', True)]
 
 
 class Page:
