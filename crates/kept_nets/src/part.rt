@@ -7,7 +7,7 @@ ghost use Rattle.net_groups.specs.NetParts.{is_open, IsPartOf, NetPart as PlainP
 use board_items::Board;
 use box_index::TileIndex;
 use net_groups::{Group, anchors, groups};
-use ratsnest::{Anchor, Nest, nest};
+use ratsnest::{Anchor, Links, Nest, nest};
 use std::alloc::{AllocError, Global};
 use std::marker::Model;
 
@@ -27,7 +27,47 @@ impl Model for NetPart {
     ghost view = { λ part. record { net = part.net; groups = part.groups.items; anchors = part.anchors.items; links = part.nest.links } };
 }
 
+fn copy_group(alloc: Global, group: &Group) -> Result<Group, AllocError>
+    ensures { IfOk result (λ copy. copy ≡ group.now) }
+{
+    Ok(Group::of(Vec::from_slice(alloc, group.members())?))
+}
+
+// Equal groups.
+fn copy_groups(alloc: Global, groups: &[Group]) -> Result<Vec<Group>, AllocError>
+    ensures { IfOk result (λ copy. copy.items ≡ groups.now) }
+{
+    let mut copy = Vec::with_capacity(alloc, groups.len())?;
+    for group in groups {
+        copy.push(copy_group(alloc, group)?)?;
+    }
+    Ok(copy)
+}
+
+// An equal nest.
+fn copy_nest(alloc: Global, nest: &Nest) -> Result<Nest, AllocError>
+    ensures { IfOk result (λ copy. copy.links ≡ nest.now.links) }
+{
+    let links = Vec::from_slice(alloc, nest.links.as_slice())?;
+    Ok(Nest {
+        links: Links::of(links),
+    })
+}
+
 impl NetPart {
+    /// An equal part. Only want of memory refuses it.
+    pub fn copy(&self) -> Result<NetPart, AllocError>
+        ensures { IfOk result (λ copy. copy ≡ self.now) }
+    {
+        let alloc = *self.groups.allocator();
+        Ok(NetPart {
+            net: self.net,
+            groups: copy_groups(alloc, &self.groups)?,
+            anchors: Vec::from_slice(alloc, &self.anchors)?,
+            nest: copy_nest(alloc, &self.nest)?,
+        })
+    }
+
     /// Whether its copper is in two pieces or more. It takes no memory.
     pub fn is_open(&self) -> bool
         ensures { result ≡ is_open self.now }
