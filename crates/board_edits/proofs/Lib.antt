@@ -1,0 +1,10 @@
+pub mod OwnEntries
+pub mod MovingEntries
+pub mod EntryIds
+pub mod Returned
+pub mod AddedItems
+pub mod PutItems
+pub mod TakenUnits
+pub mod ShiftedParts
+pub mod MovedUnits
+pub mod FoundDeeds

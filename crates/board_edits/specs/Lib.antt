@@ -1,0 +1,6 @@
+pub mod Deeds
+pub mod Fitting
+pub mod Touched
+pub mod Staying
+pub mod Making
+pub mod Planning

@@ -1,0 +1,37 @@
+-- What is known of a deed while it is done.
+use Rattle.std.specs.Prelude.{ℕ, List, [], ◌∷◌, Option, map}
+use Rattle.geo_seg.specs.declared.boxes.Bounds.{Bounds}
+use Rattle.board_items.specs.declared.item.Item.{Item}
+use Rattle.board_items.specs.Boards.{PlainBoard}
+use Rattle.board_items.specs.Extents.{AreBoundsOf}
+use Rattle.board_items.specs.Parts.{parts_of}
+use Rattle.board_edits.specs.declared.making.Made.{Made}
+use Rattle.board_edits.specs.Deeds.{PlainDeed, nothing, take_out, After}
+use Rattle.board_edits.specs.Fitting.{plain_deed, LeadsBack, AddsNone}
+use Rattle.board_edits.specs.Touched.{ids_touched, AreEdited, AreKnown}
+
+-- the item has bounds where it has parts
+abbrev pub HasBounds : ℕ × Item → Type 0
+HasBounds entry = (found : Option Bounds) × AreBoundsOf (parts_of entry.1) found
+
+-- the ids of the entries
+abbrev pub ids_of : List (ℕ × Item) → List ℕ
+ids_of entries = map (λ entry. entry.0) entries
+
+-- what takes out items that were added in this unit
+abbrev pub without_added : ℕ → List Item → PlainDeed
+without_added unit [] = nothing
+without_added unit (item ∷ items) = take_out unit
+
+-- what takes out items that were put back, which are of one unit
+abbrev pub without_put : List (ℕ × Item) → PlainDeed
+without_put [] = nothing
+without_put (entry ∷ entries) = take_out entry.1.unit
+
+-- what is known of a deed that was done
+pub record IsMade (deed : PlainDeed) (old new : PlainBoard) (made : Made) : Type 0 where
+  pub after : After old deed new
+  pub leads : LeadsBack (plain_deed made.back) new old
+  pub adds_none : AddsNone (plain_deed made.back)
+  pub edited : AreEdited old new made.ids.items
+  pub known : AreKnown old (ids_touched old deed) made.ids.items

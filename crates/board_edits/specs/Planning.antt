@@ -1,0 +1,34 @@
+-- What the code finds out of a command.
+use Rattle.std.specs.Prelude.{◌≡◌, ◌⊎◌, ℕ, Result, Ok, Err}
+use Rattle.board_items.specs.declared.errors.BoardError.{BoardError}
+use Rattle.board_items.specs.declared.errors.BoardError.TheVariants.{OutOfMemory as NoMemory}
+use Rattle.board_items.specs.declared.errors.Found.{Found}
+use Rattle.board_items.specs.declared.errors.Found.TheVariants.{None as NoUnit, Shared, Inside, Unit as OneUnit}
+use Rattle.board_items.specs.Boards.{PlainBoard}
+use Rattle.edit_script.specs.Commands.{PlainCommand}
+use Rattle.board_edits.specs.declared.deed.Deed.{Deed}
+use Rattle.board_edits.specs.declared.refusal.Refusal.{Refusal}
+use Rattle.board_edits.specs.declared.refusal.Refusal.TheVariants.{NoSuchItem, SharedName, PartOfFootprint, Item, OutOfMemory}
+use Rattle.board_edits.specs.Deeds.{PlainDeed, Does}
+use Rattle.board_edits.specs.Fitting.{plain_deed}
+
+abbrev pub plain_answer : Result Deed Refusal → Result PlainDeed Refusal
+plain_answer (Ok deed) = Ok (plain_deed deed)
+plain_answer (Err why) = Err why
+
+-- it is what the command does, unless memory ran out
+abbrev pub IsFound : PlainBoard → PlainCommand → Result Deed Refusal → Type 0
+IsFound board command (Ok deed) = Does board command (Ok (plain_deed deed))
+IsFound board command (Err why) = (why ≡ OutOfMemory) ⊎ Does board command (Err why)
+
+-- why an added list is refused
+abbrev pub refusal_in : BoardError → Refusal
+refusal_in NoMemory = OutOfMemory
+refusal_in why = Item why
+
+-- the unit, or why there is none
+abbrev pub unit_in : Found → Result ℕ Refusal
+unit_in NoUnit = Err NoSuchItem
+unit_in Shared = Err SharedName
+unit_in Inside = Err PartOfFootprint
+unit_in (OneUnit unit) = Ok unit

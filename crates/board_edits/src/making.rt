@@ -1,0 +1,205 @@
+//! Deeds that are done.
+
+ghost use Rattle.std.specs.Prelude.{◌≡◌, true, map, IfOk, OnOk, All};
+ghost use Rattle.board_items.specs.Back.{kept_entry, entries_of, FitsBack};
+ghost use Rattle.board_items.specs.Boards.{IsSound};
+ghost use Rattle.board_items.specs.Moves.{unit_stays};
+ghost use Rattle.board_items.specs.Walks.{unit_left};
+ghost use Rattle.part_read.specs.Ready.{AreReady};
+ghost use Rattle.edit_script.specs.Fits.{IsNear};
+ghost use Rattle.board_edits.specs.Deeds.{After, append, put_back, take_out, shift};
+ghost use Rattle.board_edits.specs.Fitting.{plain_deed, DeedFits, LeadsBack, AddsNone};
+ghost use Rattle.board_edits.specs.Making.{HasBounds, ids_of, without_added, without_put, IsMade};
+ghost use Rattle.board_edits.specs.Touched.{ids_touched, AreEdited, AreKnown};
+
+use crate::deed::Deed;
+use crate::touching::ids_of_unit;
+use board_items::laws::{moved_back, moved_by_nothing, moved_nowhere};
+use board_items::{Board, Item, Kept, Nm, UnitIter};
+use board_laws::laws;
+use pcb_read::add_items;
+use std::alloc::{AllocError, Global};
+
+/// What was done: the ids of the items that were added, put back, taken out or moved, rising, and the deed that leads back.
+#[derive(Drop)]
+pub struct Made {
+    pub ids: Vec<u32>,
+    pub back: Deed,
+}
+
+// What holds of each board.
+fn is_sound(board: &Board)
+    ensures { IsSound board.now }
+{
+    let _room = board.left();
+}
+
+// ---- items that are added
+
+// The deed that takes out what is added in this unit.
+fn without_added(unit: u32, items: &[Item]) -> Deed
+    ensures { plain_deed result ≡ without_added unit items.now }
+{
+    if items.is_empty() {
+        Deed::Nothing
+    } else {
+        Deed::TakeOut { unit }
+    }
+}
+
+// Appends the items, which are of the next unit.
+fn append(alloc: Global, board: &mut Board, items: Vec<Item>) -> Result<Made, AllocError>
+    requires { AreReady board.old board.old.next_unit items.items }
+    ensures { IfOk result (IsMade (append items.items) board.old board.new) }
+{
+    laws::added();
+    is_sound(board);
+    let unit = board.next_unit();
+    let back = without_added(unit, &items);
+    if add_items(board, unit, items).is_err() {
+        return Err(AllocError);
+    }
+    is_sound(board);
+    let ids = ids_of_unit(alloc, board, unit)?;
+    Ok(Made { ids, back })
+}
+
+// ---- items that are put back
+
+// The ids of items that are kept.
+fn ids_kept(alloc: Global, items: &[Kept]) -> Result<Vec<u32>, AllocError>
+    ensures { IfOk result (λ ids. ids.items ≡ ids_of (map kept_entry items.now)) }
+{
+    let mut ids = Vec::new(alloc);
+    for kept in items {
+        ids.push(kept.id)?;
+    }
+    Ok(ids)
+}
+
+// The deed that takes them out again. They are of one unit.
+fn without_put(items: &[Kept]) -> Deed
+    ensures { plain_deed result ≡ without_put (map kept_entry items.now) }
+{
+    match items.first() {
+        None => Deed::Nothing,
+        Some(kept) => Deed::TakeOut {
+            unit: kept.item.unit,
+        },
+    }
+}
+
+// Puts the items back under their ids.
+fn put_back(alloc: Global, board: &mut Board, items: Vec<Kept>) -> Result<Made, AllocError>
+    requires { FitsBack board.old (map kept_entry items.items) }
+    ensures { IfOk result (IsMade (put_back (map kept_entry items.items)) board.old board.new) }
+{
+    laws::put_back();
+    is_sound(board);
+    let ids = ids_kept(alloc, &items)?;
+    let back = without_put(&items);
+    let mut left = items;
+    board.put_back(&mut left)?;
+    is_sound(board);
+    Ok(Made { ids, back })
+}
+
+// ---- units that are taken out
+
+// Takes the unit out. `ids` are those of its items.
+fn take_out(board: &mut Board, unit: u32, ids: Vec<u32>) -> Result<Made, AllocError>
+    requires { ids.items ≡ ids_touched board.old (take_out unit) }
+    ensures { IfOk result (IsMade (take_out unit) board.old board.new) }
+{
+    laws::taken_out();
+    is_sound(board);
+    let items = board.taken(unit)?;
+    is_sound(board);
+    Ok(Made {
+        ids,
+        back: Deed::PutBack { items },
+    })
+}
+
+// ---- units that are moved
+
+// Items of a board have bounds where they have parts, so what is moved has other parts.
+fn have_bounds(items: UnitIter<'_>)
+    ensures { All HasBounds (unit_left items.entry) }
+{
+    for (_, item) in items {
+        let _bounds = item.bounds();
+    }
+}
+
+// Moves the unit, which stays on the board. `ids` are those of its items that move.
+fn shift(board: &mut Board, unit: u32, dx: Nm, dy: Nm, ids: Vec<u32>) -> Made
+    requires dx { IsNear dx }
+    requires dy { IsNear dy }
+    requires stays { unit_stays unit dx dy board.old.items ≡ true }
+    requires ids { ids.items ≡ ids_touched board.old (shift unit dx dy) }
+    ensures { IsMade (shift unit dx dy) board.old board.new result }
+{
+    laws::moved();
+    moved_back();
+    moved_by_nothing();
+    moved_nowhere();
+    is_sound(board);
+    have_bounds(board.of_unit(unit));
+    let moved = board.moved(unit, dx, dy).is_ok();
+    prove!(moved);
+    is_sound(board);
+    Made {
+        ids,
+        back: Deed::Shift {
+            unit,
+            dx: -dx,
+            dy: -dy,
+        },
+    }
+}
+
+// ---- all deeds
+
+// Does the deed, with all that is said of it.
+fn done(alloc: Global, board: &mut Board, deed: Deed, touched: Vec<u32>) -> Result<Made, AllocError>
+    requires fits { DeedFits board.old (plain_deed deed) }
+    requires touched { touched.items ≡ ids_touched board.old (plain_deed deed) }
+    ensures { IfOk result (IsMade (plain_deed deed) board.old board.new) }
+{
+    match deed {
+        Deed::Nothing => {
+            is_sound(board);
+            Ok(Made {
+                ids: touched,
+                back: Deed::Nothing,
+            })
+        }
+        Deed::Append { items } => append(alloc, board, items),
+        Deed::PutBack { items } => put_back(alloc, board, items),
+        Deed::TakeOut { unit } => take_out(board, unit, touched),
+        Deed::Shift { unit, dx, dy } => Ok(shift(board, unit, dx, dy, touched)),
+    }
+}
+
+/// Does the deed to a board that takes it. `touched` are the ids that [`ids_touched`](crate::ids_touched) gives of it. Only want of
+/// memory fails it, and the board may then hold a part of what was to be added.
+pub fn make(
+    alloc: Global,
+    board: &mut Board,
+    deed: Deed,
+    touched: Vec<u32>,
+) -> Result<Made, AllocError>
+    requires fits { DeedFits board.old (plain_deed deed) }
+    requires touched { touched.items ≡ ids_touched board.old (plain_deed deed) }
+    ensures after { OnOk result (After board.old (plain_deed deed) board.new) }
+    ensures sound { IsSound board.old × IsSound board.new }
+    ensures back { IfOk result (λ made. LeadsBack (plain_deed made.back) board.new board.old × AddsNone (plain_deed made.back)) }
+    ensures edited { IfOk result (λ made. AreEdited board.old board.new made.ids.items) }
+    ensures known { IfOk result (λ made. AreKnown board.old (ids_touched board.old (plain_deed deed)) made.ids.items) }
+{
+    is_sound(board);
+    let made = done(alloc, board, deed, touched);
+    is_sound(board);
+    made
+}

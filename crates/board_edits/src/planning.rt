@@ -1,0 +1,93 @@
+//! What a command does to a board, found before anything is changed.
+
+ghost use Rattle.std.specs.Prelude.{◌≡◌, ◌⊎◌, ◌≤◌, length, MatchResult, IfOk, Result, Ok, Err};
+ghost use Rattle.edit_script.specs.Commands.{plain_command, add};
+ghost use Rattle.edit_script.specs.Fits.{Fits, IsNear};
+ghost use Rattle.board_edits.specs.declared.refusal.Refusal.{Refusal};
+ghost use Rattle.board_edits.specs.Deeds.{PlainDeed, Does, to_unit, take_out, shifted};
+ghost use Rattle.board_edits.specs.Fitting.{plain_deed, DeedFits};
+ghost use Rattle.board_edits.specs.Planning.{plain_answer, IsFound, refusal_in, unit_in};
+
+use crate::deed::Deed;
+use crate::laws::one_deed;
+use crate::refusal::Refusal;
+use crate::staying::unit_stays;
+use board_items::{Board, BoardError, Found, Nm};
+use edit_script::Command;
+use pcb_read::read_item;
+use std::alloc::Global;
+
+// Why an added list is refused.
+fn refused(error: BoardError) -> Refusal
+    ensures { result ≡ refusal_in error }
+{
+    match error {
+        BoardError::OutOfMemory => Refusal::OutOfMemory,
+        error => Refusal::Item(error),
+    }
+}
+
+// The items of an added list.
+fn appended(alloc: Global, board: &Board, text: &[u8], at: u32) -> Result<Deed, Refusal>
+    requires text { length text.now ≤ 33554432 }
+    requires at { at ≤ 33554432 }
+    ensures found { IsFound board.now (add text.now at) result }
+    ensures fits { IfOk result (λ deed. DeedFits board.now (plain_deed deed)) }
+{
+    match read_item(alloc, text, at, board, board.next_unit()) {
+        Ok(items) => Ok(Deed::Append { items }),
+        Err(error) => Err(refused(error)),
+    }
+}
+
+// The unit that a name stands for, or why it stands for none.
+fn unit_in(found: Found) -> Result<u32, Refusal>
+    ensures { result ≡ unit_in found }
+{
+    match found {
+        Found::None => Err(Refusal::NoSuchItem),
+        Found::Shared => Err(Refusal::SharedName),
+        Found::Inside => Err(Refusal::PartOfFootprint),
+        Found::Unit(unit) => Ok(unit),
+    }
+}
+
+// That the unit is taken out.
+fn taken_out(found: Found) -> Result<Deed, Refusal>
+    ensures answer { plain_answer result ≡ to_unit found (λ unit. Ok (take_out unit)) }
+{
+    let unit = unit_in(found)?;
+    Ok(Deed::TakeOut { unit })
+}
+
+// That the unit is moved, where all of it stays on the board. `at` is the place of the command.
+fn shifted(board: &Board, found: Found, dx: Nm, dy: Nm, at: u32) -> Result<Deed, Refusal>
+    requires dx { IsNear dx }
+    requires dy { IsNear dy }
+    ensures answer { plain_answer result ≡ to_unit found (shifted board.now dx dy at) }
+    ensures fits { IfOk result (λ deed. DeedFits board.now (plain_deed deed)) }
+{
+    let unit = unit_in(found)?;
+    if unit_stays(board, unit, dx, dy) {
+        Ok(Deed::Shift { unit, dx, dy })
+    } else {
+        Err(Refusal::Item(BoardError::OutOfBoard { at }))
+    }
+}
+
+/// What the command does to the board, or why it is refused. The board stays as it is. The refusals are those of [`Refusal`], exactly
+/// where `specs/Deeds` has them; want of memory alone is free.
+pub fn deed_of(alloc: Global, board: &Board, command: &Command<'_>) -> Result<Deed, Refusal>
+    requires { Fits (plain_command command.now) }
+    ensures does { MatchResult result (λ deed. Does board.now (plain_command command.now) (Ok (plain_deed deed))) (λ why. (why ≡ Refusal.OutOfMemory) ⊎ Does board.now (plain_command command.now) (Err why)) }
+    ensures only { (answer : Result PlainDeed Refusal) → Does board.now (plain_command command.now) answer → MatchResult result (λ deed. answer ≡ Ok (plain_deed deed)) (λ why. (why ≡ Refusal.OutOfMemory) ⊎ (answer ≡ Err why)) }
+    ensures fits { IfOk result (λ deed. DeedFits board.now (plain_deed deed)) }
+{
+    one_deed();
+    match command {
+        Command::Add { text, at } => appended(alloc, board, text, *at),
+        Command::Delete { name, .. } => taken_out(board.find(name)),
+        Command::Move { name, dx, dy, at } => shifted(board, board.find(name), *dx, *dy, *at),
+        Command::Rules { .. } | Command::Again { .. } => Ok(Deed::Nothing),
+    }
+}

@@ -1,0 +1,81 @@
+//! The items that a deed touches.
+
+ghost use Rattle.std.specs.Prelude.{◌≡◌, not, filter, IfOk};
+ghost use Rattle.board_items.specs.Back.{entries_of};
+ghost use Rattle.board_items.specs.Moves.{is_note, moves};
+ghost use Rattle.board_items.specs.Walks.{unit_left};
+ghost use Rattle.board_edits.specs.Deeds.{shift};
+ghost use Rattle.board_edits.specs.Fitting.{plain_deed};
+ghost use Rattle.board_edits.specs.Making.{ids_of};
+ghost use Rattle.board_edits.specs.Touched.{ids_touched};
+
+use crate::deed::Deed;
+use crate::staying::is_note;
+use board_items::{Board, Nm, UnitIter};
+use std::alloc::{AllocError, Global};
+
+// The ids of these items of a unit.
+fn ids_in(alloc: Global, items: UnitIter<'_>) -> Result<Vec<u32>, AllocError>
+    ensures { IfOk result (λ ids. ids.items ≡ ids_of (unit_left items.entry)) }
+{
+    let mut ids = Vec::new(alloc);
+    for (id, _) in items {
+        ids.push(id)?;
+    }
+    Ok(ids)
+}
+
+// The ids of those that are no notes.
+fn moving_in(alloc: Global, items: UnitIter<'_>) -> Result<Vec<u32>, AllocError>
+    ensures { IfOk result (λ ids. ids.items ≡ ids_of (filter (λ entry. not (is_note entry.1.what)) (unit_left items.entry))) }
+{
+    let mut ids = Vec::new(alloc);
+    for (id, item) in items {
+        if !is_note(item) {
+            ids.push(id)?;
+        }
+    }
+    Ok(ids)
+}
+
+/// The ids of the unit's items, rising.
+pub(crate) fn ids_of_unit(alloc: Global, board: &Board, unit: u32) -> Result<Vec<u32>, AllocError>
+    ensures { IfOk result (λ ids. ids.items ≡ ids_of (entries_of unit board.now.items)) }
+{
+    ids_in(alloc, board.of_unit(unit))
+}
+
+// The ids of the unit's items that move with it.
+fn moving_of_unit(alloc: Global, board: &Board, unit: u32) -> Result<Vec<u32>, AllocError>
+    ensures { IfOk result (λ ids. ids.items ≡ ids_of (filter (λ entry. moves unit entry.1) board.now.items)) }
+{
+    moving_in(alloc, board.of_unit(unit))
+}
+
+// The ids of the items that a move of the unit moves.
+fn shifted_ids(
+    alloc: Global,
+    board: &Board,
+    unit: u32,
+    dx: Nm,
+    dy: Nm,
+) -> Result<Vec<u32>, AllocError>
+    ensures { IfOk result (λ ids. ids.items ≡ ids_touched board.now (shift unit dx dy)) }
+{
+    if dx == 0 && dy == 0 {
+        return Ok(Vec::new(alloc));
+    }
+    moving_of_unit(alloc, board, unit)
+}
+
+/// The ids of the items of the board that the deed takes out or moves, rising. A move by nothing moves none. Only want of memory
+/// refuses it.
+pub fn ids_touched(alloc: Global, board: &Board, deed: &Deed) -> Result<Vec<u32>, AllocError>
+    ensures { IfOk result (λ ids. ids.items ≡ ids_touched board.now (plain_deed deed.now)) }
+{
+    match deed {
+        Deed::TakeOut { unit } => ids_of_unit(alloc, board, *unit),
+        Deed::Shift { unit, dx, dy } => shifted_ids(alloc, board, *unit, *dx, *dy),
+        Deed::Nothing | Deed::Append { .. } | Deed::PutBack { .. } => Ok(Vec::new(alloc)),
+    }
+}
