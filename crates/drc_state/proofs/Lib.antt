@@ -1,0 +1,5 @@
+pub mod OneAnswer
+pub mod OneRecheck
+pub mod FoundTiles
+pub mod FewRules
+pub mod Planned

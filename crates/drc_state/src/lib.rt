@@ -1,0 +1,19 @@
+//! States of what is edited: what a command makes of one, which changes lead back, and which tiles are gone through again.
+#![tactic(auto)]
+
+mod change;
+mod error;
+pub mod laws;
+mod planning;
+
+pub use change::{Change, Edit, change_of, edit_in};
+pub use error::{EditError, InTwo};
+pub use planning::edit_of;
+
+// Each type may go to another thread and be shared by threads.
+fn crosses<T: Send + Sync>() {}
+
+fn all_cross() {
+    crosses::<EditError>();
+    crosses::<InTwo>();
+}
