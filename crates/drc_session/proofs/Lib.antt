@@ -1,0 +1,15 @@
+pub mod Looked
+pub mod Entries
+pub mod Clearances
+pub mod Stirring
+pub mod Enough
+pub mod Known
+pub mod Settled
+pub mod AllTiles
+pub mod Answered
+pub mod Crossing
+pub mod Kept
+pub mod Rechecked
+pub mod Opened
+pub mod Edited
+pub mod SessionsCross

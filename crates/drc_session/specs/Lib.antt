@@ -1,0 +1,5 @@
+pub mod Sessions
+pub mod Holding
+pub mod Looks
+pub mod Steps
+pub mod TreeCode

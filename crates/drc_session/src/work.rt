@@ -1,0 +1,96 @@
+//! The tiles of a session as the work of workers.
+
+ghost use Rattle.std.specs.Prelude.{◌≡◌, ◌<◌, ℕ, List, IfOk, slice_index};
+ghost use Rattle.std.specs.List.Sorted.{IsStrictlyIncreasing};
+ghost use Rattle.pair_check.specs.PlainRow.{PlainRow};
+ghost use Rattle.pair_check.specs.Views.{checked_by, IsWhole};
+ghost use Rattle.row_check.specs.Tiles.{IsIndexOf, AreRowsOfTile};
+ghost use Rattle.tile_pool.specs.Answers.{AreAnswers};
+
+use box_index::TileIndex;
+use kept_rows::TileRows;
+use row_check::{CheckView, Row, Steps, test_tile};
+use std::alloc::{AllocError, Global};
+use std::marker::Brand;
+use std::sync::ledger::{Blank, Ledger};
+use tile_pool::TileWork;
+use tile_pool::laws::one_list_of_answers;
+
+/// Tiles of which the rows with an id that changed are wanted. The number k of the work is `tiles[k]`.
+#[derive(Drop)]
+pub(crate) struct Tiles<'a> {
+    pub(crate) view: CheckView<'a>,
+    pub(crate) index: &'a TileIndex,
+    pub(crate) tiles: &'a [u32],
+    pub(crate) changed: &'a [u32],
+}
+
+// The rows of a tile, on a counter of its own.
+fn rows_counted<L: Ledger>(
+    alloc: Global,
+    view: &CheckView,
+    index: &TileIndex,
+    tile: u32,
+    changed: &[u32],
+    blank: Blank,
+) -> Result<Vec<Row>, AllocError>
+    requires name { blank.name ≡ L.name }
+    requires parts { blank.parts ≡ L.parts }
+    requires some { 0 < blank.parts }
+    requires view { IsWhole view.now }
+    requires index { IsIndexOf (checked_by view.now) index.now }
+    requires changed { IsStrictlyIncreasing changed.now }
+    ensures { IfOk result (λ rows. AreRowsOfTile (checked_by view.now) index.now tile changed.now rows.items) }
+{
+    let mut steps: Steps<L> = Steps::new(blank);
+    test_tile(alloc, view, index, tile, changed, &mut steps)
+}
+
+// The rows of a tile.
+fn tile_rows(
+    alloc: Global,
+    view: &CheckView,
+    index: &TileIndex,
+    tile: u32,
+    changed: &[u32],
+) -> Result<TileRows, AllocError>
+    requires view { IsWhole view.now }
+    requires index { IsIndexOf (checked_by view.now) index.now }
+    requires changed { IsStrictlyIncreasing changed.now }
+    ensures { IfOk result (AreRowsOfTile (checked_by view.now) index.now tile changed.now) }
+{
+    let rows = rows_counted::<Brand>(alloc, view, index, tile, changed, Blank::new(1))?;
+    Ok(TileRows::of(rows))
+}
+
+impl<'a> TileWork for Tiles<'a> {
+    type Out = TileRows;
+
+    ghost use Rattle.std.specs.Prelude.{length, slice_index};
+    ghost use Rattle.std.specs.List.Sorted.{IsStrictlyIncreasing};
+    ghost use Rattle.pair_check.specs.Views.{checked_by, IsWhole};
+    ghost use Rattle.row_check.specs.Tiles.{IsIndexOf, AreRowsOfTile};
+
+    ghost ready = { λ work. IsWhole work.view × IsIndexOf (checked_by work.view) work.index.now × IsStrictlyIncreasing work.changed.now };
+
+    ghost count = { λ work. length work.tiles.now };
+
+    ghost gives = { λ work number rows. AreRowsOfTile (checked_by work.view) work.index.now (slice_index work.tiles.now number) work.changed.now rows };
+
+    fn test(&self, alloc: Global, number: u32) -> Result<TileRows, AllocError> {
+        tile_rows(
+            alloc,
+            &self.view,
+            self.index,
+            self.tiles[number as usize],
+            self.changed,
+        )
+    }
+}
+
+/// The work has one list of answers: so workers make the same, however many they are. The function does nothing.
+pub(crate) fn one_value(work: &Tiles<'_>)
+    ensures { (count : ℕ) (answers others : List (List PlainRow)) → AreAnswers (λ number rows. AreRowsOfTile (checked_by work.now.view) work.now.index.now (slice_index work.now.tiles.now number) work.now.changed.now rows) count answers → AreAnswers (λ number rows. AreRowsOfTile (checked_by work.now.view) work.now.index.now (slice_index work.now.tiles.now number) work.now.changed.now rows) count others → answers ≡ others }
+{
+    one_list_of_answers(work);
+}
