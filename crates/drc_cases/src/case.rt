@@ -4,6 +4,8 @@ use case_lines::Outcome;
 use drc_io::{MemShelf, MemSink, Name};
 use drc_run::run;
 use std::alloc::{AllocError, Global};
+use std::thread::Threads;
+use tile_pool::NoGate;
 
 /// The words, the files, the numbers of the reads and writes that fail, and how many bytes a write takes at most.
 #[derive(Drop)]
@@ -39,7 +41,11 @@ impl Given {
     }
 
     /// How the program ends on this, where some so many bytes are expected of it.
-    pub fn run<R: AllocGlobal>(self, rt: &R, expected: usize) -> Result<Outcome, AllocError> {
+    pub fn run<R: Threads + Sync + AllocGlobal>(
+        self,
+        rt: &R,
+        expected: usize,
+    ) -> Result<Outcome, AllocError> {
         let alloc = rt.alloc();
         let Given {
             words,
@@ -52,7 +58,7 @@ impl Given {
         let room = expected.saturating_add(ROOM);
         let mut out = MemSink::new(alloc, most.max(1) as usize, room, failing_writes)?;
         let words: Vec<&str> = words.iter().map(|word| word.as_str()).collect(alloc)?;
-        let status = run(rt, &words, &mut shelf, &mut out);
+        let status = run(rt, &words, &mut shelf, &mut out, &NoGate);
         Ok(Outcome {
             status,
             text: out.bytes().to_vec(alloc)?,

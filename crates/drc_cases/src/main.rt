@@ -16,6 +16,7 @@ use reader::{Line, first_case, lines_of, read_case};
 use std::env::Env;
 use std::process::ExitCode;
 use std::rt::Files;
+use std::thread::Threads;
 use std::{env, fs, io};
 use texts::Shorthands;
 
@@ -27,7 +28,11 @@ struct Counts {
 }
 
 /// Runs a case and prints how it ended.
-fn try_case<R: AllocGlobal + Print>(rt: &R, counts: &mut Counts, case: Case) -> io::Result<()> {
+fn try_case<R: Threads + Sync + AllocGlobal + Print>(
+    rt: &R,
+    counts: &mut Counts,
+    case: Case,
+) -> io::Result<()> {
     let Case {
         name,
         given,
@@ -54,7 +59,7 @@ fn refuse<R: Print>(rt: &R, counts: &mut Counts, file: &str, fault: Fault) -> io
 }
 
 /// Tries the case of some lines. A case with a line that cannot be read is not tried.
-fn try_lines<R: AllocGlobal + Print>(
+fn try_lines<R: Threads + Sync + AllocGlobal + Print>(
     rt: &R,
     counts: &mut Counts,
     file: &str,
@@ -69,7 +74,7 @@ fn try_lines<R: AllocGlobal + Print>(
 }
 
 /// Tries the cases of a file.
-fn try_file<R: AllocGlobal + Print + Files>(
+fn try_file<R: Threads + Sync + AllocGlobal + Print + Files>(
     rt: &R,
     counts: &mut Counts,
     file: &str,
@@ -87,7 +92,7 @@ fn try_file<R: AllocGlobal + Print + Files>(
     Ok(())
 }
 
-fn try_files<R: AllocGlobal + Print + Files + Env>(rt: &R) -> io::Result<Counts> {
+fn try_files<R: Threads + Sync + AllocGlobal + Print + Files + Env>(rt: &R) -> io::Result<Counts> {
     let mut counts = Counts { ok: 0, differ: 0 };
     for file in env::args(rt)?.skip(1) {
         try_file(rt, &mut counts, file.as_str())?;

@@ -1,12 +1,13 @@
-//! Checks a circuit board: `drc BOARD [--project FILE] [--rules FILE]`.
+//! Checks a circuit board, and again after each edit of a script:
+//! `drc [BOARD] [--project FILE] [--rules FILE] [--script FILE] [--workers N] [--make N]`.
 //!
-//! The report goes to standard output, and the exit status says how the run ended.
+//! The reports go to standard output, and the exit status says how the run ended.
 #![tactic(auto)]
 
 ghost use Rattle.std.specs.Prelude.{◌≡◌, IfOk};
-ghost use Rattle.drc_run.specs.Words.{words_of};
+ghost use Rattle.drc_run.specs.Calls.{words_of};
 ghost use Rattle.drc_run.specs.Endings.{Promises};
-ghost use Rattle.drc_cli.specs.CommandLine.{reading_of_line, words_after_name};
+ghost use Rattle.drc_cli.specs.CommandLine.{call_of_line, words_after_name};
 
 mod outside;
 
@@ -17,7 +18,9 @@ use std::alloc::{AllocError, Global};
 use std::env::Env;
 use std::io::ErrorKind;
 use std::process::ExitCode;
+use std::thread::Threads;
 use std::{env, io};
+use tile_pool::NoGate;
 
 /// The status where memory has no room for the words.
 const OUT_OF_MEMORY: u8 = 6;
@@ -40,18 +43,18 @@ fn words_of(alloc: Global, line: &[String]) -> Result<Vec<&str>, AllocError>
 
 /// Runs the program on a command line and says with which status it ends. What the status says, it says of the
 /// words behind the program's name.
-fn answer<R: AllocGlobal, F: Shelf, W: Sink>(
+fn answer<R: Threads + Sync + AllocGlobal, F: Shelf, W: Sink>(
     rt: &R,
     line: &[String],
     shelf: &mut F,
     out: &mut W,
 ) -> u8
-    ensures promises { Promises (reading_of_line line.now) (F.files shelf.old) (F.faults shelf.old) (F.faults shelf.new)
+    ensures promises { Promises (call_of_line line.now) (F.files shelf.old) (F.faults shelf.old) (F.faults shelf.new)
         (W.written out.old) (W.written out.new) (W.faults out.old) (W.faults out.new) result }
     ensures same { F.files shelf.new ≡ F.files shelf.old }
 {
     match words_of(rt.alloc(), line) {
-        Ok(words) => run(rt, &words, shelf, out),
+        Ok(words) => run(rt, &words, shelf, out, &NoGate),
         Err(_) => OUT_OF_MEMORY,
     }
 }

@@ -1,39 +1,55 @@
 -- From the texts one by one to the output of all.
-use Rattle.std.proofs.Common.{◌≡◌, ℕ, ◌+◌, ◌<◌, ◌≤◌, List, [], ◌∷◌, ◌++◌, length, append-nil, Option, Some, None, Result, Ok, Err, IfErr, MatchResult, inl, inr, refl, sym, subst, arith}
+use Rattle.std.proofs.Common.{◌≡◌, ◌∙◌, ap, ℕ, ◌+◌, ◌<◌, ◌≤◌, List, [], ◌∷◌, ◌++◌, length, append-nil, append_assoc, Option, Some, None, Result, Ok, Err, IfErr, MatchResult, inl, inr, refl, sym, subst, arith}
 use Rattle.std.specs.Prelude.{replicate}
 use Rattle.std.proofs.Math.ListN.{length-replicate}
 use Rattle.drc_io.specs.Causes.{Rose}
-use Rattle.drc_io.specs.Files.{IsLonger, IsWhole, HasMore, file_of}
-use Rattle.board_items.specs.Boards.{PlainBoard}
+use Rattle.drc_io.specs.Files.{IsLonger, HasMore, file_of}
 use Rattle.net_class.specs.Classes.{PlainClasses, plain_classes}
 use Rattle.rule_text.specs.RulesOf.{PlainRules, no_rules}
+use Rattle.edit_script.specs.Commands.{PlainCommand}
+use Rattle.drc_state.specs.States.{State}
 use Rattle.drc_run.specs.declared.texts.Which.{Which}
-use Rattle.drc_run.specs.declared.texts.Which.TheVariants.{Board, Project, Rules}
+use Rattle.drc_run.specs.declared.texts.Which.TheVariants.{Board, Project, Rules, Script}
 use Rattle.drc_run.specs.declared.texts.Stop.{Stop}
 use Rattle.drc_run.specs.declared.texts.Stop.TheVariants.{Refused, Unread, OutOfMemory}
-use Rattle.drc_run.specs.Words.{Reading}
-use Rattle.drc_run.specs.Texts.{Named, optional, texts_of, Value, a_board, a_project, a_rules, Said, accepted, refused, ReaderSays, longer, read, too_long}
-use Rattle.drc_run.specs.Output.{Output, FileSays, AreAccepted, IsReached, Opened, Gives, AreOpened, IsOutputFor, HasReadFault, stopped}
-use Rattle.drc_run.specs.Refusing.{why_of, StopsReading, StopsText, StopsTexts, StopsOption, IsLineOf}
+use Rattle.drc_run.specs.Calls.{Source, file, made, Reading, Call, check}
+use Rattle.drc_run.specs.Texts.{Named, named, optional, texts_of, Value, a_board, a_project, a_rules, a_script, Said, accepted, refused, ReaderSays, longer, read, too_long, AreBytesOf, SourceSays, AreAccepted, IsReached}
+use Rattle.drc_run.specs.Output.{Output, classes_among, rules_among, commands_among, IsOpenedBy, IsOutputFor, ReadFails, stopped}
+use Rattle.drc_run.specs.Refusing.{why_of, HasRisen, StopsReading, StopsText, StopsTexts, StopsOption, StopsReadingOption, AreBytesOfOption, Gives, GivesReading, AreOpened, IsLineOf}
 
 module _ (told : Option (List (List ℕ × List ℕ))) where
   -- ---- one text
 
-  pub file_says : (which : Which) (file bytes : List ℕ) (said : Said) → IsWhole told file bytes → length bytes ≤ 33554432 → ReaderSays which bytes said
-      → FileSays told (record { which = which; file = file }) said
-  file_says which file bytes said whole short says = record { bytes = bytes; whole = whole; says = read short says }
+  pub text_says : (text : Named) (bytes : List ℕ) (said : Said) → AreBytesOf told text.source bytes → length bytes ≤ 33554432 → ReaderSays text.which bytes said → SourceSays told text said
+  text_says text bytes said whole short says = record { bytes = bytes; whole = whole; says = read short says }
 
-  -- a reader that refuses the bytes of a file refuses the text
-  pub reading_stops : (before now : List ℕ → ℕ) (which : Which) (file bytes : List ℕ) (stop : Stop) → IsWhole told file bytes → length bytes ≤ 33554432 → StopsReading which bytes stop
-      → StopsText told before now (record { which = which; file = file }) stop
-  reading_stops before now which file bytes (Refused r) whole short says = (says.0, file_says which file bytes _ whole short says.1)
-  reading_stops before now which file bytes (Unread it) whole short says = absurd says
-  reading_stops before now which file bytes OutOfMemory whole short says = tt
+  -- a reader that refuses the bytes of a text refuses the text
+  pub reading_stops : (before now : List ℕ → ℕ) (text : Named) (bytes : List ℕ) (stop : Stop) → AreBytesOf told text.source bytes → length bytes ≤ 33554432 → StopsReading text.which bytes stop
+      → StopsText told before now text stop
+  reading_stops before now text bytes (Refused r) whole short says = (says.0, text_says text bytes _ whole short says.1)
+  reading_stops before now text bytes (Unread it) whole short says = absurd says
+  reading_stops before now text bytes OutOfMemory whole short says = tt
 
-  pub stops_if_refused : {T : Type 0} (before now : List ℕ → ℕ) (which : Which) (file bytes : List ℕ) (P : T → Type 0) (r : Result T Stop) → IsWhole told file bytes → length bytes ≤ 33554432
-      → MatchResult r P (StopsReading which bytes) → IfErr r (StopsText told before now (record { which = which; file = file }))
-  stops_if_refused before now which file bytes P (Ok x) whole short h = tt
-  stops_if_refused before now which file bytes P (Err stop) whole short h = reading_stops before now which file bytes stop whole short h
+  pub stops_if_refused : {T : Type 0} (before now : List ℕ → ℕ) (text : Named) (bytes : List ℕ) (P : T → Type 0) (r : Result T Stop) → AreBytesOf told text.source bytes → length bytes ≤ 33554432
+      → MatchResult r P (StopsReading text.which bytes) → IfErr r (StopsText told before now text)
+  stops_if_refused before now text bytes P (Ok x) whole short h = tt
+  stops_if_refused before now text bytes P (Err stop) whole short h = reading_stops before now text bytes stop whole short h
+
+  pub says_if_accepted : {T : Type 0} (text : Named) (bytes : List ℕ) (value : T → Value) (Q : Stop → Type 0) (r : Result T Stop) → AreBytesOf told text.source bytes → length bytes ≤ 33554432
+      → MatchResult r (λ x. ReaderSays text.which bytes (accepted (value x))) Q → (x : T) → r ≡ Ok x → SourceSays told text (accepted (value x))
+  says_if_accepted text bytes value Q (Ok x) whole short h y e = let same : x ≡ y = cc in text_says text bytes _ whole short (subst (λ z. ReaderSays text.which bytes (accepted (value z))) same h)
+  says_if_accepted text bytes value Q (Err stop) whole short h y e = absurd (cc)
+
+  -- the same of an option's text
+  pub option_stopped : (before now : List ℕ → ℕ) (which : Which) (name : Option (List ℕ)) (bytes : List ℕ) (stop : Stop) → AreBytesOfOption told name bytes → length bytes ≤ 33554432 → StopsReadingOption which name bytes stop
+      → StopsOption told before now which name stop
+  option_stopped before now which None bytes stop whole short h = h
+  option_stopped before now which (Some name) bytes stop whole short h = reading_stops before now (named which name) bytes stop whole short h
+
+  pub option_gives : (which : Which) (name : Option (List ℕ)) (bytes : List ℕ) (plain value : Value) → AreBytesOfOption told name bytes → length bytes ≤ 33554432 → GivesReading which name bytes plain value
+      → Gives told which name plain value
+  option_gives which None bytes plain value whole short h = h
+  option_gives which (Some name) bytes plain value whole short h = text_says (named which name) bytes (accepted value) whole short h
 
 -- there are texts of every length
 some_text : (n : ℕ) → (text : List ℕ) × (length text ≡ n)
@@ -42,13 +58,13 @@ some_text n = (replicate n 0, length-replicate n 0)
 one_more : (n : ℕ) (text : List ℕ) → length text ≡ n + 1 → n < length text
 one_more n text e = omega arith
 
-longer_of : (files : List (List ℕ × List ℕ)) (which : Which) (name : List ℕ) (file : Option (List ℕ)) → file_of files name ≡ file → HasMore file 33554432
-    → FileSays (Some files) (record { which = which; file = name }) (refused too_long)
+longer_of : (files : List (List ℕ × List ℕ)) (which : Which) (name : List ℕ) (text : Option (List ℕ)) → file_of files name ≡ text → HasMore text 33554432
+    → SourceSays (Some files) (named which name) (refused too_long)
 longer_of files which name None e h = absurd h
 longer_of files which name (Some text) e h = record { bytes = text; whole = e; says = longer h refl }
 
 -- a text that is too long, of a shelf that tells or not
-pub longer_says : (told : Option (List (List ℕ × List ℕ))) (which : Which) (name : List ℕ) → IsLonger told name 33554432 → FileSays told (record { which = which; file = name }) (refused too_long)
+pub longer_says : (told : Option (List (List ℕ × List ℕ))) (which : Which) (name : List ℕ) → IsLonger told name 33554432 → SourceSays told (named which name) (refused too_long)
 longer_says None which name h = let t = some_text (33554432 + 1) in record { bytes = t.0; whole = tt; says = longer (one_more 33554432 t.0 t.1) refl }
 longer_says (Some files) which name h = longer_of files which name (file_of files name) refl h
 
@@ -62,11 +78,11 @@ module _ (told : Option (List (List ℕ × List ℕ))) where
   -- the value of an option's text
   abbrev given : Option (List ℕ) → Value → List Value
   given None value = []
-  given (Some file) value = value ∷ []
+  given (Some name) value = value ∷ []
 
-  given_accepted : (which : Which) (file : Option (List ℕ)) (plain value : Value) → Gives told which file plain value → AreAccepted told (optional which file) (given file value)
+  given_accepted : (which : Which) (name : Option (List ℕ)) (plain value : Value) → Gives told which name plain value → AreAccepted told (optional which name) (given name value)
   given_accepted which None plain value gives = tt
-  given_accepted which (Some file) plain value gives = (gives, tt)
+  given_accepted which (Some name) plain value gives = (gives, tt)
 
   both_accepted : (first second : List Named) (vs ws : List Value) → AreAccepted told first vs → AreAccepted told second ws → AreAccepted told (first ++ second) (vs ++ ws)
   both_accepted [] second [] ws p q = q
@@ -74,77 +90,151 @@ module _ (told : Option (List (List ℕ × List ℕ))) where
   both_accepted (text ∷ first) second [] ws p q = absurd p
   both_accepted (text ∷ first) second (v ∷ vs) ws p q = (p.0, both_accepted first second vs ws p.1 q)
 
-  -- all texts are accepted where they open something
-  pub all_accepted : (reading : Reading) (opened : Opened) → AreOpened told reading opened → (values : List Value) × AreAccepted told (texts_of reading) values
-  all_accepted reading opened are =
-      let classes = a_project opened.classes in
-      let rules = a_rules opened.rules in (
-        a_board opened.board ∷ (given reading.project classes ++ given reading.rules rules),
-        (
-          are.board,
-          both_accepted (optional Project reading.project) (optional Rules reading.rules) (given reading.project classes) (given reading.rules rules)
-              (given_accepted Project reading.project (a_project plain_classes) classes are.classes) (given_accepted Rules reading.rules (a_rules no_rules) rules are.rules),
-        ),
+  -- the values of all texts
+  abbrev pub values_of : Reading → State → List PlainCommand → List Value
+  values_of reading opened commands =
+      a_board opened.board ∷ (given reading.project (a_project opened.classes) ++ (given reading.rules (a_rules opened.rules) ++ given reading.script (a_script commands)))
+
+  pub all_accepted : (reading : Reading) (opened : State) (commands : List PlainCommand) → AreOpened told reading opened → Gives told Script reading.script (a_script []) (a_script commands)
+      → AreAccepted told (texts_of (check reading)) (values_of reading opened commands)
+  all_accepted reading opened commands are script =
+      let last = given_accepted Script reading.script (a_script []) (a_script commands) script in
+      let rules = given_accepted Rules reading.rules (a_rules no_rules) (a_rules opened.rules) are.rules in
+      let project = given_accepted Project reading.project (a_project plain_classes) (a_project opened.classes) are.classes in
+      let both = both_accepted (optional Rules reading.rules) (optional Script reading.script) (given reading.rules (a_rules opened.rules)) (given reading.script (a_script commands)) rules last in (
+        are.board,
+        both_accepted (optional Project reading.project) (optional Rules reading.rules ++ optional Script reading.script) (given reading.project (a_project opened.classes))
+            (given reading.rules (a_rules opened.rules) ++ given reading.script (a_script commands)) project both,
       )
+
+  same_classes : (a b : PlainClasses) → a_project a ≡ a_project b → a ≡ b
+  same_classes a b e = cc
+
+  same_rules : (a b : PlainRules) → a_rules a ≡ a_rules b → a ≡ b
+  same_rules a b e = cc
+
+  same_commands : (a b : List PlainCommand) → a_script a ≡ a_script b → a ≡ b
+  same_commands a b e = cc
+
+  module _ (classes : PlainClasses) (rules : PlainRules) (commands : List PlainCommand) where
+    abbrev behind : (project list script : Option (List ℕ)) → List Value
+    behind project list script = given project (a_project classes) ++ (given list (a_rules rules) ++ given script (a_script commands))
+
+    its_classes : (project list script : Option (List ℕ)) → Gives told Project project (a_project plain_classes) (a_project classes) → classes ≡ classes_among (behind project list script)
+    its_classes None None None g = same_classes classes plain_classes g
+    its_classes None None (Some s) g = same_classes classes plain_classes g
+    its_classes None (Some l) None g = same_classes classes plain_classes g
+    its_classes None (Some l) (Some s) g = same_classes classes plain_classes g
+    its_classes (Some p) list script g = refl
+
+    its_rules : (project list script : Option (List ℕ)) → Gives told Rules list (a_rules no_rules) (a_rules rules) → rules ≡ rules_among (behind project list script)
+    its_rules None None None g = same_rules rules no_rules g
+    its_rules None None (Some s) g = same_rules rules no_rules g
+    its_rules (Some p) None None g = same_rules rules no_rules g
+    its_rules (Some p) None (Some s) g = same_rules rules no_rules g
+    its_rules None (Some l) script g = refl
+    its_rules (Some p) (Some l) script g = refl
+
+    its_commands : (project list script : Option (List ℕ)) → Gives told Script script (a_script []) (a_script commands) → commands_among (behind project list script) ≡ commands
+    its_commands None None None g = sym (same_commands commands [] g)
+    its_commands None (Some l) None g = sym (same_commands commands [] g)
+    its_commands (Some p) None None g = sym (same_commands commands [] g)
+    its_commands (Some p) (Some l) None g = sym (same_commands commands [] g)
+    its_commands None None (Some s) g = refl
+    its_commands None (Some l) (Some s) g = refl
+    its_commands (Some p) None (Some s) g = refl
+    its_commands (Some p) (Some l) (Some s) g = refl
+
+  -- what they open
+  pub opened_by : (reading : Reading) (opened : State) (commands : List PlainCommand) → AreOpened told reading opened → IsOpenedBy (values_of reading opened commands) opened
+  opened_by reading opened commands are = record {
+    board = refl;
+    classes = its_classes opened.classes opened.rules commands reading.project reading.rules reading.script are.classes;
+    rules = its_rules opened.classes opened.rules commands reading.project reading.rules reading.script are.rules;
+  }
+
+  pub commands_are : (reading : Reading) (opened : State) (commands : List PlainCommand) → Gives told Script reading.script (a_script []) (a_script commands) → commands_among (values_of reading opened commands) ≡ commands
+  commands_are reading opened commands gives = its_commands opened.classes opened.rules commands reading.project reading.rules reading.script gives
+
+  -- ---- a text that is not accepted
 
   -- the count of a file that rose later has risen
   rose_later : (m n k : ℕ) → m ≤ n → Rose n k → Rose m k
   rose_later m n k h (inl r) = inl (omega arith)
   rose_later m n k h (inr r) = inr r
 
-  module _ (before now : List ℕ → ℕ) where
-    -- the text whose turn came is not accepted
-    stops_at : (texts : List Named) (text : Named) (stop : Stop) → IsReached told texts text → StopsText told before now text stop → StopsTexts told texts before now stop
-    stops_at texts text (Refused r) turn s = (
-      text.file,
-      subst (λ (w : Which). IsReached told texts (record { which = w; file = text.file })) (sym s.0) turn,
-      subst (λ (w : Which). FileSays told (record { which = w; file = text.file }) (refused (why_of r))) (sym s.0) s.1,
-    )
-    stops_at texts text (Unread it) turn s =
-        record { file = text.file; reached = subst (λ (w : Which). IsReached told texts (record { which = w; file = text.file })) (sym s.0) turn; rose = s.1 }
-    stops_at texts text OutOfMemory turn s = tt
+  risen_later : (before middle now : List ℕ → ℕ) (source : Source) → ((other : List ℕ) → before other ≤ middle other) → HasRisen middle now source → HasRisen before now source
+  risen_later before middle now (file name) up h = rose_later (before name) (middle name) (now name) (up name) h
+  risen_later before middle now (made count) up h = h
 
-    pub board_stops : (file : List ℕ) (project rules : Option (List ℕ)) (stop : Stop) → StopsText told before now (record { which = Board; file = file }) stop
-        → StopsTexts told (texts_of (record { board = file; project = project; rules = rules })) before now stop
-    board_stops file project rules stop s =
-        stops_at (texts_of (record { board = file; project = project; rules = rules })) (record { which = Board; file = file }) stop
-        (reached [] (optional Project project ++ optional Rules rules) [] (record { which = Board; file = file }) tt) s
+  module _ (before now : List ℕ → ℕ) where
+    unread_at : (call : Call) (which : Which) (source : Source) → IsReached told (texts_of call) (record { which = which; source = source }) → HasRisen before now source → ReadFails call told before now which
+    unread_at call which (file name) turn rose = record { name = name; reached = turn; rose = rose }
+    unread_at call which (made count) turn rose = absurd rose
+
+    -- the text whose turn came is not accepted
+    stops_at : (call : Call) (text : Named) (stop : Stop) → IsReached told (texts_of call) text → StopsText told before now text stop → StopsTexts told call before now stop
+    stops_at call text (Refused r) turn s = (
+      text.source,
+      subst (λ (w : Which). IsReached told (texts_of call) (record { which = w; source = text.source })) (sym s.0) turn,
+      subst (λ (w : Which). SourceSays told (record { which = w; source = text.source }) (refused (why_of r))) (sym s.0) s.1,
+    )
+    stops_at call text (Unread it) turn s =
+        unread_at call it text.source (subst (λ (w : Which). IsReached told (texts_of call) (record { which = w; source = text.source })) (sym s.0) turn) s.1
+    stops_at call text OutOfMemory turn s = tt
+
+    pub board_stops : (reading : Reading) (stop : Stop) → StopsText told before now (record { which = Board; source = reading.board }) stop → StopsTexts told (check reading) before now stop
+    board_stops reading stop s =
+        stops_at (check reading) (record { which = Board; source = reading.board }) stop
+        (reached [] (optional Project reading.project ++ (optional Rules reading.rules ++ optional Script reading.script)) [] (record { which = Board; source = reading.board }) tt) s
 
     -- counts only rise
     later : (middle : List ℕ → ℕ) (text : Named) (stop : Stop) → ((other : List ℕ) → before other ≤ middle other) → StopsText told middle now text stop → StopsText told before now text stop
     later middle text (Refused r) up s = s
-    later middle text (Unread it) up s = (s.0, rose_later (before text.file) (middle text.file) (now text.file) (up text.file) s.1)
+    later middle text (Unread it) up s = (s.0, risen_later before middle now text.source up s.1)
     later middle text OutOfMemory up s = tt
 
     -- the text of an option is not accepted, those before it are
-    option_stops : (which : Which) (option : Option (List ℕ)) (first last : List Named) (values : List Value) (middle : List ℕ → ℕ) (stop : Stop) → AreAccepted told first values
-        → ((other : List ℕ) → before other ≤ middle other) → StopsOption told middle now which option stop → StopsTexts told (first ++ (optional which option ++ last)) before now stop
-    option_stops which None first last values middle stop are up s = subst (λ (x : Stop). StopsTexts told (first ++ last) before now x) (sym s) tt
-    option_stops which (Some file) first last values middle stop are up s =
-        let text : Named = record { which = which; file = file } in
-        stops_at (first ++ text ∷ last) text stop (reached first last values text are) (later middle text stop up s)
+    option_stops : (call : Call) (which : Which) (option : Option (List ℕ)) (first last : List Named) (values : List Value) (middle : List ℕ → ℕ) (stop : Stop) → texts_of call ≡ first ++ (optional which option ++ last)
+        → AreAccepted told first values → ((other : List ℕ) → before other ≤ middle other) → StopsOption told middle now which option stop → StopsTexts told call before now stop
+    option_stops call which None first last values middle stop all are up s = subst (λ (x : Stop). StopsTexts told call before now x) (sym s) tt
+    option_stops call which (Some name) first last values middle stop all are up s =
+        let text : Named = named which name in
+        stops_at call text stop (subst (λ (texts : List Named). IsReached told texts text) (sym all) (reached first last values text are)) (later middle text stop up s)
 
-    pub project_stops : (file : List ℕ) (project rules : Option (List ℕ)) (board : PlainBoard) (middle : List ℕ → ℕ) (stop : Stop)
-        → FileSays told (record { which = Board; file = file }) (accepted (a_board board)) → ((other : List ℕ) → before other ≤ middle other) → StopsOption told middle now Project project stop
-        → StopsTexts told (texts_of (record { board = file; project = project; rules = rules })) before now stop
-    project_stops file project rules board middle stop says up s =
-        option_stops Project project (record { which = Board; file = file } ∷ []) (optional Rules rules) (a_board board ∷ []) middle stop (says, tt) up s
+    module _ (reading : Reading) (middle : List ℕ → ℕ) (stop : Stop) (up : (other : List ℕ) → before other ≤ middle other) (opened : State)
+        (board : SourceSays told (record { which = Board; source = reading.board }) (accepted (a_board opened.board))) where
+      pub project_stops : StopsOption told middle now Project reading.project stop → StopsTexts told (check reading) before now stop
+      project_stops s =
+          option_stops (check reading) Project reading.project (record { which = Board; source = reading.board } ∷ []) (optional Rules reading.rules ++ optional Script reading.script) (a_board opened.board ∷ []) middle stop refl
+          (board, tt) up s
 
-    pub rules_stop : (file : List ℕ) (project rules : Option (List ℕ)) (board : PlainBoard) (classes : PlainClasses) (middle : List ℕ → ℕ) (stop : Stop)
-        → FileSays told (record { which = Board; file = file }) (accepted (a_board board)) → Gives told Project project (a_project plain_classes) (a_project classes)
-        → ((other : List ℕ) → before other ≤ middle other) → StopsOption told middle now Rules rules stop
-        → StopsTexts told (texts_of (record { board = file; project = project; rules = rules })) before now stop
-    rules_stop file project rules board classes middle stop says gives up s =
-        subst (λ (l : List Named). StopsTexts told (record { which = Board; file = file } ∷ (optional Project project ++ l)) before now stop) (append-nil (optional Rules rules))
-        (option_stops Rules rules (record { which = Board; file = file } ∷ optional Project project) [] (a_board board ∷ given project (a_project classes)) middle stop
-        (says, given_accepted Project project (a_project plain_classes) (a_project classes) gives) up s)
+      module _ (classes : Gives told Project reading.project (a_project plain_classes) (a_project opened.classes)) where
+        pub rules_stop : StopsOption told middle now Rules reading.rules stop → StopsTexts told (check reading) before now stop
+        rules_stop s =
+            option_stops (check reading) Rules reading.rules (record { which = Board; source = reading.board } ∷ optional Project reading.project) (optional Script reading.script)
+            (a_board opened.board ∷ given reading.project (a_project opened.classes)) middle stop refl
+            (board, given_accepted Project reading.project (a_project plain_classes) (a_project opened.classes) classes) up s
+
+        pub script_stops : Gives told Rules reading.rules (a_rules no_rules) (a_rules opened.rules) → StopsOption told middle now Script reading.script stop → StopsTexts told (check reading) before now stop
+        script_stops rules s =
+            let projects = optional Project reading.project in
+            let lists = optional Rules reading.rules in
+            let scripts = optional Script reading.script in
+            let one = given_accepted Project reading.project (a_project plain_classes) (a_project opened.classes) classes in
+            let two = given_accepted Rules reading.rules (a_rules no_rules) (a_rules opened.rules) rules in
+            let all : projects ++ (lists ++ scripts) ≡ (projects ++ lists) ++ (scripts ++ []) = sym (append_assoc projects lists scripts) ∙ ap (λ (l : List Named). (projects ++ lists) ++ l) (sym (append-nil scripts)) in
+            option_stops (check reading) Script reading.script (record { which = Board; source = reading.board } ∷ (projects ++ lists)) []
+            (a_board opened.board ∷ (given reading.project (a_project opened.classes) ++ given reading.rules (a_rules opened.rules))) middle stop
+            (ap (λ (l : List Named). record { which = Board; source = reading.board } ∷ l) all)
+            (board, both_accepted projects lists (given reading.project (a_project opened.classes)) (given reading.rules (a_rules opened.rules)) one two) up s
 
     -- ---- the output
 
-    pub line_is_output : (reading : Reading) (stop : Stop) (out : Output) → StopsTexts told (texts_of reading) before now stop → IsLineOf stop out → IsOutputFor (Some reading) told out
-    line_is_output reading (Refused r) out s line = stopped (record { which = r.which; file = s.0 }) (why_of r) s.1 s.2 line
-    line_is_output reading (Unread which) out s line = absurd line
-    line_is_output reading OutOfMemory out s line = absurd line
+    pub line_is_output : (call : Call) (stop : Stop) (out : Output) → StopsTexts told call before now stop → IsLineOf stop out → IsOutputFor call told out
+    line_is_output call (Refused r) out s line = stopped (record { which = r.which; source = s.0 }) (why_of r) s.1 s.2 line
+    line_is_output call (Unread which) out s line = absurd line
+    line_is_output call OutOfMemory out s line = absurd line
 
-    pub unread_has_fault : (reading : Reading) (stop : Stop) (which : Which) → StopsTexts told (texts_of reading) before now stop → stop ≡ Unread which → HasReadFault (Some reading) told before now which
-    unread_has_fault reading stop which s e = subst (λ (x : Stop). StopsTexts told (texts_of reading) before now x) e s
+    pub unread_has_fault : (call : Call) (stop : Stop) (which : Which) → StopsTexts told call before now stop → stop ≡ Unread which → ReadFails call told before now which
+    unread_has_fault call stop which s e = subst (λ (x : Stop). StopsTexts told call before now x) e s

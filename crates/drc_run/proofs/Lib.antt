@@ -3,8 +3,12 @@ pub mod Written
 pub mod Accepting
 pub mod OneProject
 pub mod FewRules
-pub mod Indexed
-pub mod Parts
-pub mod OneFindings
+pub mod TurnLists
+pub mod OneTurn
+pub mod OneTold
 pub mod OneOutput
+pub mod Turning
+pub mod Ending
 pub mod Promised
+pub mod MadeLines
+pub mod MadeLength

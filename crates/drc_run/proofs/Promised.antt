@@ -1,17 +1,19 @@
 -- What a run promises, by how it ends.
-use Rattle.std.proofs.Common.{◌≡◌, ◌⊎◌, ◌<◌, ◌≤◌, ℕ, List, Option, Some, None, IfSome, inl, inr, sym, ap, subst, ◌∙◌, refl, arith}
+use Rattle.std.proofs.Common.{◌≡◌, ◌⊎◌, ◌<◌, ◌≤◌, ℕ, List, ◌++◌, Option, Some, None, IfSome, inl, inr, sym, ap, subst, ◌∙◌, refl, arith}
+use Rattle.std.proofs.lemmas.List.{append_assoc}
 use Rattle.std.specs.Io.KnownBytes.{Appends}
 use Rattle.drc_io.specs.Causes.{Rose}
+use Rattle.drc_io.specs.Sinks.{AppendsFront}
 use denote.Enum.Declared.{tag_of}
 use Rattle.drc_run.specs.contracts.status.Status.{the_type}
 use Rattle.drc_run.specs.declared.texts.Which.{Which}
 use Rattle.drc_run.specs.declared.status.Status.{Status}
 use Rattle.drc_run.specs.declared.status.Status.TheVariants.{Clean, Rows, Usage, Refused, ReadFault, WriteFault, OutOfMemory}
-use Rattle.drc_run.specs.Words.{Reading}
-use Rattle.drc_run.specs.Output.{Output, IsOutputFor, HasReadFault}
-use Rattle.drc_run.specs.Endings.{Whole, Front, Unread, UnreadFront, Ends, Promises}
+use Rattle.drc_run.specs.Calls.{Call}
+use Rattle.drc_run.specs.Output.{Output, IsOutputFor, IsBegunFor, ReadFails}
+use Rattle.drc_run.specs.Endings.{Whole, Front, FrontOf, Unread, UnreadFront, Ends, Promises}
 
-module _ (IsIt : Output → Type 0) (Fault : Which → Type 0) (old new : Option (List ℕ)) where
+module _ (IsIt : Output → Type 0) (IsBegun : List ℕ → Type 0) (Fault : Which → Type 0) (old new : Option (List ℕ)) where
   small : (s : Status) → tag_of the_type s ≤ 6
   small Clean = omega arith
   small Rows = omega arith
@@ -21,7 +23,7 @@ module _ (IsIt : Output → Type 0) (Fault : Which → Type 0) (old new : Option
   small WriteFault = omega arith
   small OutOfMemory = omega arith
 
-  whole_below : (s : Status) → Ends IsIt Fault old new s → tag_of the_type s < 4 → Whole IsIt old new (tag_of the_type s)
+  whole_below : (s : Status) → Ends IsIt IsBegun Fault old new s → tag_of the_type s < 4 → Whole IsIt old new (tag_of the_type s)
   whole_below Clean w h = w
   whole_below Rows w h = w
   whole_below Usage w h = w
@@ -30,7 +32,7 @@ module _ (IsIt : Output → Type 0) (Fault : Which → Type 0) (old new : Option
   whole_below WriteFault w h = absurd (omega arith)
   whole_below OutOfMemory w h = absurd (omega arith)
 
-  unread_at : (s : Status) → Ends IsIt Fault old new s → tag_of the_type s ≡ 4 → Unread Fault old new
+  unread_at : (s : Status) → Ends IsIt IsBegun Fault old new s → tag_of the_type s ≡ 4 → Unread Fault old new
   unread_at Clean w h = absurd (omega arith)
   unread_at Rows w h = absurd (omega arith)
   unread_at Usage w h = absurd (omega arith)
@@ -39,7 +41,7 @@ module _ (IsIt : Output → Type 0) (Fault : Which → Type 0) (old new : Option
   unread_at WriteFault w h = absurd (omega arith)
   unread_at OutOfMemory w h = absurd (omega arith)
 
-  part_at : (s : Status) → Ends IsIt Fault old new s → tag_of the_type s ≡ 5 → Front IsIt old new ⊎ UnreadFront Fault old new
+  part_at : (s : Status) → Ends IsIt IsBegun Fault old new s → tag_of the_type s ≡ 5 → Front IsBegun old new ⊎ UnreadFront Fault old new
   part_at Clean w h = absurd (omega arith)
   part_at Rows w h = absurd (omega arith)
   part_at Usage w h = absurd (omega arith)
@@ -48,7 +50,7 @@ module _ (IsIt : Output → Type 0) (Fault : Which → Type 0) (old new : Option
   part_at WriteFault w h = w
   part_at OutOfMemory w h = absurd (omega arith)
 
-  front_at : (s : Status) → Ends IsIt Fault old new s → tag_of the_type s ≡ 6 → Front IsIt old new
+  front_at : (s : Status) → Ends IsIt IsBegun Fault old new s → tag_of the_type s ≡ 6 → Front IsBegun old new
   front_at Clean w h = absurd (omega arith)
   front_at Rows w h = absurd (omega arith)
   front_at Usage w h = absurd (omega arith)
@@ -67,7 +69,7 @@ module _ (IsIt : Output → Type 0) (Fault : Which → Type 0) (old new : Option
     rose_at WriteFault f h = f refl
     rose_at OutOfMemory f h = absurd (omega arith)
 
-    complete_at : (s : Status) → Ends IsIt Fault old new s → (s ≡ WriteFault → Rose m n) → ¬ (Rose m n) → ((which : Which) → ¬ (Fault which)) → (tag_of the_type s < 4) ⊎ (tag_of the_type s ≡ 6)
+    complete_at : (s : Status) → Ends IsIt IsBegun Fault old new s → (s ≡ WriteFault → Rose m n) → ¬ (Rose m n) → ((which : Which) → ¬ (Fault which)) → (tag_of the_type s < 4) ⊎ (tag_of the_type s ≡ 6)
     complete_at Clean w f calm read = inl (omega arith)
     complete_at Rows w f calm read = inl (omega arith)
     complete_at Usage w f calm read = inl (omega arith)
@@ -80,31 +82,61 @@ module _ (IsIt : Output → Type 0) (Fault : Which → Type 0) (old new : Option
   its_status status same w out is =
       (sym w.2 ∙ ap (λ (o : Output). o.status) (same w.0 out w.1 is), subst (λ (o : Output). Appends old new o.text) (same w.0 out w.1 is) w.3)
 
-module _ (once : (reading : Option Reading) (files : List (List ℕ × List ℕ)) (a b : Output) → IsOutputFor reading (Some files) a → IsOutputFor reading (Some files) b → a ≡ b) where
-  exact_at : (reading : Option Reading) (told : Option (List (List ℕ × List ℕ))) (Fault : Which → Type 0) (old new : Option (List ℕ)) (s : Status) → Ends (IsOutputFor reading told) Fault old new s
-      → IfSome told (λ files. (out : Output) → IsOutputFor reading (Some files) out → tag_of the_type s < 4 → (tag_of the_type s ≡ out.status) × Appends old new out.text)
-  exact_at reading None Fault old new s w = tt
-  exact_at reading (Some files) Fault old new s w = λ out is h.
-      its_status (IsOutputFor reading (Some files)) Fault old new (tag_of the_type s) (once reading files) (whole_below (IsOutputFor reading (Some files)) Fault old new s w h) out is
+-- a front part of what a text begins with is one of the text
+longer : (old new : Option (List ℕ)) (text whole rest : List ℕ) → whole ≡ text ++ rest → AppendsFront old new text → AppendsFront old new whole
+longer old new text whole rest e a = record {
+  front = a.front;
+  rest = a.rest ++ rest;
+  whole = e ∙ (ap (λ xs. xs ++ rest) a.whole ∙ append_assoc a.front a.rest rest);
+  appended = a.appended;
+}
 
-  pub promised : (reading : Option Reading) (told : Option (List (List ℕ × List ℕ))) (before now : List ℕ → ℕ) (old new : Option (List ℕ)) (m n : ℕ) (s : Status)
-      → Ends (IsOutputFor reading told) (HasReadFault reading told before now) old new s → (s ≡ WriteFault → Rose m n) → Promises reading told before now old new m n (tag_of the_type s)
-  promised reading told before now old new m n s w f =
-      let IsIt = IsOutputFor reading told in
-      let Fault = HasReadFault reading told before now in
+module _ (begun : (call : Call) (files : List (List ℕ × List ℕ)) (text : List ℕ) (out : Output) → IsBegunFor call (Some files) text → IsOutputFor call (Some files) out → (rest : List ℕ) × (out.text ≡ text ++ rest)) where
+  front_of : (call : Call) (files : List (List ℕ × List ℕ)) (old new : Option (List ℕ)) (out : Output) → IsOutputFor call (Some files) out → Front (IsBegunFor call (Some files)) old new → FrontOf out.text old new
+  front_of call files old new out is (inl k) = inl k
+  front_of call files old new out is (inr f) = let more = begun call files f.0 out f.1 is in inr (longer old new f.0 out.text more.0 more.1 f.2)
+
+  part_of : (call : Call) (files : List (List ℕ × List ℕ)) (old new : Option (List ℕ)) (Fault : Which → Type 0) (out : Output) → IsOutputFor call (Some files) out
+      → Front (IsBegunFor call (Some files)) old new ⊎ UnreadFront Fault old new → FrontOf out.text old new ⊎ UnreadFront Fault old new
+  part_of call files old new Fault out is (inl f) = inl (front_of call files old new out is f)
+  part_of call files old new Fault out is (inr u) = inr u
+
+  fronts_at : (call : Call) (told : Option (List (List ℕ × List ℕ))) (Fault : Which → Type 0) (old new : Option (List ℕ)) (s : Status) → Ends (IsOutputFor call told) (IsBegunFor call told) Fault old new s
+      → IfSome told (λ files. (out : Output) → IsOutputFor call (Some files) out → (tag_of the_type s ≡ 6 → FrontOf out.text old new) × (tag_of the_type s ≡ 5 → FrontOf out.text old new ⊎ UnreadFront Fault old new))
+  fronts_at call None Fault old new s w = tt
+  fronts_at call (Some files) Fault old new s w = λ out is. (
+    λ h. front_of call files old new out is (front_at (IsOutputFor call (Some files)) (IsBegunFor call (Some files)) Fault old new s w h),
+    λ h. part_of call files old new Fault out is (part_at (IsOutputFor call (Some files)) (IsBegunFor call (Some files)) Fault old new s w h),
+  )
+
+module _ (once : (call : Call) (files : List (List ℕ × List ℕ)) (a b : Output) → IsOutputFor call (Some files) a → IsOutputFor call (Some files) b → a ≡ b)
+    (begun : (call : Call) (files : List (List ℕ × List ℕ)) (text : List ℕ) (out : Output) → IsBegunFor call (Some files) text → IsOutputFor call (Some files) out → (rest : List ℕ) × (out.text ≡ text ++ rest)) where
+  exact_at : (call : Call) (told : Option (List (List ℕ × List ℕ))) (IsBegun : List ℕ → Type 0) (Fault : Which → Type 0) (old new : Option (List ℕ)) (s : Status) → Ends (IsOutputFor call told) IsBegun Fault old new s
+      → IfSome told (λ files. (out : Output) → IsOutputFor call (Some files) out → tag_of the_type s < 4 → (tag_of the_type s ≡ out.status) × Appends old new out.text)
+  exact_at call None IsBegun Fault old new s w = tt
+  exact_at call (Some files) IsBegun Fault old new s w = λ out is h.
+      its_status (IsOutputFor call (Some files)) IsBegun Fault old new (tag_of the_type s) (once call files) (whole_below (IsOutputFor call (Some files)) IsBegun Fault old new s w h) out is
+
+  pub promised : (call : Call) (told : Option (List (List ℕ × List ℕ))) (before now : List ℕ → ℕ) (old new : Option (List ℕ)) (m n : ℕ) (s : Status)
+      → Ends (IsOutputFor call told) (IsBegunFor call told) (ReadFails call told before now) old new s → (s ≡ WriteFault → Rose m n) → Promises call told before now old new m n (tag_of the_type s)
+  promised call told before now old new m n s w f =
+      let IsIt = IsOutputFor call told in
+      let IsBegun = IsBegunFor call told in
+      let Fault = ReadFails call told before now in
       record {
-        bound = small IsIt Fault old new s;
-        whole = whole_below IsIt Fault old new s w;
-        read = unread_at IsIt Fault old new s w;
-        write = rose_at IsIt Fault old new m n s f;
-        part = part_at IsIt Fault old new s w;
-        memory = front_at IsIt Fault old new s w;
-        complete = complete_at IsIt Fault old new m n s w f;
-        exact = exact_at reading told Fault old new s w;
+        bound = small IsIt IsBegun Fault old new s;
+        whole = whole_below IsIt IsBegun Fault old new s w;
+        read = unread_at IsIt IsBegun Fault old new s w;
+        write = rose_at IsIt IsBegun Fault old new m n s f;
+        part = part_at IsIt IsBegun Fault old new s w;
+        memory = front_at IsIt IsBegun Fault old new s w;
+        complete = complete_at IsIt IsBegun Fault old new m n s w f;
+        exact = exact_at call told IsBegun Fault old new s w;
+        front = fronts_at begun call told Fault old new s w;
       }
 
   -- the same for the words
-  pub promised_for : (reading other : Option Reading) (told : Option (List (List ℕ × List ℕ))) (before now : List ℕ → ℕ) (old new : Option (List ℕ)) (m n : ℕ) (s : Status) → reading ≡ other
-      → Ends (IsOutputFor reading told) (HasReadFault reading told before now) old new s → (s ≡ WriteFault → Rose m n) → Promises other told before now old new m n (tag_of the_type s)
-  promised_for reading other told before now old new m n s same w f =
-      subst (λ (r : Option Reading). Promises r told before now old new m n (tag_of the_type s)) same (promised reading told before now old new m n s w f)
+  pub promised_for : (call other : Call) (told : Option (List (List ℕ × List ℕ))) (before now : List ℕ → ℕ) (old new : Option (List ℕ)) (m n : ℕ) (s : Status) → call ≡ other
+      → Ends (IsOutputFor call told) (IsBegunFor call told) (ReadFails call told before now) old new s → (s ≡ WriteFault → Rose m n) → Promises other told before now old new m n (tag_of the_type s)
+  promised_for call other told before now old new m n s same w f =
+      subst (λ (r : Call). Promises r told before now old new m n (tag_of the_type s)) same (promised call told before now old new m n s w f)

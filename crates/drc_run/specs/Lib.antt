@@ -1,7 +1,10 @@
-pub mod Words
+pub mod Calls
+pub mod MadeBoard
 pub mod Texts
-pub mod Findings
+pub mod Reports
+pub mod Turns
 pub mod Output
-pub mod Names
-pub mod Refusing
 pub mod Endings
+pub mod Views
+pub mod Refusing
+pub mod Running

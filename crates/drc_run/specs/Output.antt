@@ -1,26 +1,27 @@
--- The whole output of the program, as a relation between its words, the files of its shelf and what it writes.
-use Rattle.std.specs.Prelude.{◌≡◌, ℕ, List, [], ◌∷◌, ◌++◌, Option, None, Some, codes}
+-- The whole output of the program, as a relation between what is called for, the files of its shelf and what it writes.
+use Rattle.std.specs.Prelude.{◌≡◌, ℕ, Bool, true, false, List, [], ◌∷◌, ◌++◌, Option, None, Some, codes}
 use Rattle.drc_io.specs.Causes.{Rose}
-use Rattle.drc_io.specs.Files.{IsWhole}
 use Rattle.board_items.specs.Boards.{PlainBoard}
 use Rattle.net_class.specs.Classes.{PlainClasses, plain_classes}
 use Rattle.rule_text.specs.RulesOf.{PlainRules, no_rules}
 use Rattle.pair_check.specs.PlainRow.{PlainRow}
-use Rattle.pair_check.specs.Rows.{Checked}
-use Rattle.drc_rows.specs.ReportOf.{Found, whole_report}
-use Rattle.drc_run.specs.Findings.{AreFindings}
+use Rattle.pair_check.specs.Rows.{AreRows}
+use Rattle.edit_script.specs.Commands.{PlainCommand}
+use Rattle.drc_state.specs.States.{State, checked_in}
 use Rattle.drc_run.specs.declared.texts.Which.{Which}
-use Rattle.drc_run.specs.declared.texts.Which.TheVariants.{Board, Project, Rules}
-use Rattle.drc_run.specs.Words.{Reading}
-use Rattle.drc_run.specs.Texts.{Named, texts_of, word_of, Value, a_board, a_project, a_rules, Said, accepted, refused, TextSays}
+use Rattle.drc_run.specs.Calls.{Source, file, made, Call, nothing, check}
+use Rattle.drc_run.specs.Texts.{Named, named, texts_of, word_of, Value, a_board, a_project, a_rules, a_script, refused, SourceSays, AreAccepted, IsReached}
+use Rattle.drc_run.specs.Reports.{IsOpening}
+use Rattle.drc_run.specs.Turns.{AreTurns, AreFirstTurns, IsTurn}
 
 -- a text, and the status with which the program ends once it is written
 pub record Output : Type 0 where
   pub text : List ℕ
   pub status : ℕ
 
-abbrev pub usage : Output
-usage = record { text = codes "usage: drc BOARD [--project FILE] [--rules FILE]\n"; status = 2 }
+-- the line that says how the program is called
+abbrev pub usage : List ℕ → Output
+usage line = record { text = line; status = 2 }
 
 -- the line of a text that is refused
 abbrev pub refusal : Which → List ℕ → Output
@@ -35,77 +36,93 @@ abbrev pub status_of : List PlainRow → ℕ
 status_of [] = 0
 status_of (row ∷ rows) = 1
 
--- ---- the texts
-
--- the bytes of a text are what the shelf tells of its file, or else any, and they say this
-pub record FileSays (told : Option (List (List ℕ × List ℕ))) (text : Named) (said : Said) : Type 0 where
-  pub bytes : List ℕ
-  pub whole : IsWhole told text.file bytes
-  pub says : TextSays text.which bytes said
-
--- the texts are accepted, each with its value
-abbrev pub AreAccepted : Option (List (List ℕ × List ℕ)) → List Named → List Value → Type 0
-AreAccepted told [] [] = Unit {0}
-AreAccepted told [] (value ∷ values) = ⊥
-AreAccepted told (text ∷ texts) [] = ⊥
-AreAccepted told (text ∷ texts) (value ∷ values) = FileSays told text (accepted value) × AreAccepted told texts values
-
--- a text's turn comes: it is among the texts, and those before it are accepted
-pub record IsReached (told : Option (List (List ℕ × List ℕ))) (texts : List Named) (text : Named) : Type 0 where
-  pub before : List Named
-  pub after : List Named
-  pub among : texts ≡ before ++ text ∷ after
-  pub values : List Value
-  pub before_accepted : AreAccepted told before values
-
 -- ---- what the texts open
 
--- what is checked, and reported: a board, under the classes of its nets and under rules
-pub record Opened : Type 0 where
-  pub board : PlainBoard
-  pub classes : PlainClasses
-  pub rules : PlainRules
+abbrev pub board_among : List Value → Option PlainBoard
+board_among [] = None
+board_among (a_board board ∷ values) = Some board
+board_among (_ ∷ values) = board_among values
 
-abbrev pub checked : Opened → Checked
-checked opened = record { board = opened.board; classes = opened.classes; rules = opened.rules.rules }
+-- the classes of the project, or without one the plain classes
+abbrev pub classes_among : List Value → PlainClasses
+classes_among [] = plain_classes
+classes_among (a_project classes ∷ values) = classes
+classes_among (_ ∷ values) = classes_among values
 
--- its report: it tells all that is found, all tiles that hold an item were gone through, and the status is 1 exactly where there is a row
-pub record IsReportOf (opened : Opened) (out : Output) : Type 0 where
-  pub found : Found
-  pub are_findings : AreFindings (checked opened) found
-  pub text : out.text ≡ whole_report 0 opened.board opened.rules found found.held
-  pub status : out.status ≡ status_of found.rows
+-- the rules of the rule file, or without one no rules
+abbrev pub rules_among : List Value → PlainRules
+rules_among [] = no_rules
+rules_among (a_rules rules ∷ values) = rules
+rules_among (_ ∷ values) = rules_among values
 
--- an option's text is accepted with this value; where the option is not given, the value is the plain one
-abbrev pub Gives : Option (List (List ℕ × List ℕ)) → Which → Option (List ℕ) → (plain value : Value) → Type 0
-Gives told which None plain value = value ≡ plain
-Gives told which (Some file) plain value = FileSays told (record { which = which; file = file }) (accepted value)
+-- the commands of the script, or without one no commands
+abbrev pub commands_among : List Value → List PlainCommand
+commands_among [] = []
+commands_among (a_script commands ∷ values) = commands
+commands_among (_ ∷ values) = commands_among values
 
--- all texts are accepted, and open this: the board that its text says, the classes that the project's says, or without one the plain
--- classes, and the rules that the rule file says, or without one no rules
-pub record AreOpened (told : Option (List (List ℕ × List ℕ))) (reading : Reading) (opened : Opened) : Type 0 where
-  pub board : FileSays told (record { which = Board; file = reading.board }) (accepted (a_board opened.board))
-  pub classes : Gives told Project reading.project (a_project plain_classes) (a_project opened.classes)
-  pub rules : Gives told Rules reading.rules (a_rules no_rules) (a_rules opened.rules)
+-- the state that texts with these values open
+pub record IsOpenedBy (values : List Value) (s : State) : Type 0 where
+  pub board : board_among values ≡ Some s.board
+  pub classes : s.classes ≡ classes_among values
+  pub rules : s.rules ≡ rules_among values
 
--- the output for a reading: the line of the first text that is refused, or the report of what all of them open
-pub data IsOutputOf (told : Option (List (List ℕ × List ℕ))) (reading : Reading) (out : Output) : Type 0 where
-  stopped : (text : Named) (why : List ℕ) → IsReached told (texts_of reading) text → FileSays told text (refused why) → out ≡ refusal text.which why → IsOutputOf told reading out
-  reported : (opened : Opened) → AreOpened told reading opened → IsReportOf opened out → IsOutputOf told reading out
+-- ---- what is written, by what is called for
 
--- the whole output for a reading of the words
-abbrev pub IsOutputFor : Option Reading → Option (List (List ℕ × List ℕ)) → Output → Type 0
-IsOutputFor None told out = out ≡ usage
-IsOutputFor (Some reading) told out = IsOutputOf told reading out
+-- a generated board is reported in short
+abbrev pub is_short : Source → Bool
+is_short (file name) = false
+is_short (made count) = true
+
+-- the status is 1 exactly where the state has a row
+pub record IsStatusOf (s : State) (status : ℕ) : Type 0 where
+  pub rows : List PlainRow
+  pub are_rows : AreRows (checked_in s) rows
+  pub status_is : status ≡ status_of rows
+
+-- the report of the opening, then what each command writes, and the status of the state that they lead to
+pub record IsTold (short : Bool) (opening : State) (commands : List PlainCommand) (out : Output) : Type 0 where
+  pub first : List ℕ
+  pub first_is : IsOpening short opening first
+  pub rest : List ℕ
+  pub last : State
+  pub turns : AreTurns (IsTurn short) 1 opening commands last rest
+  pub text_is : out.text ≡ first ++ rest
+  pub status : IsStatusOf last out.status
+
+-- the report of the opening, and what the first of the commands write
+pub record IsToldSoFar (short : Bool) (opening : State) (commands : List PlainCommand) (text : List ℕ) : Type 0 where
+  pub first : List ℕ
+  pub first_is : IsOpening short opening first
+  pub rest : List ℕ
+  pub turns : AreFirstTurns (IsTurn short) opening commands rest
+  pub text_is : text ≡ first ++ rest
+
+-- all that a call writes whose texts have these values
+abbrev pub IsTextOf : Call → List Value → Output → Type 0
+IsTextOf (nothing usage) values out = ⊥
+IsTextOf (check r) values out = (opening : State) × IsOpenedBy values opening × IsTold (is_short r.board) opening (commands_among values) out
+
+-- what it has written after some of the commands
+abbrev pub IsBegunBy : Call → List Value → List ℕ → Type 0
+IsBegunBy (nothing usage) values text = ⊥
+IsBegunBy (check r) values text = (opening : State) × IsOpenedBy values opening × IsToldSoFar (is_short r.board) opening (commands_among values) text
+
+-- the output: the usage line, or the line of the first text that is refused, or what all of them give
+pub data IsOutputFor (call : Call) (told : Option (List (List ℕ × List ℕ))) (out : Output) : Type 0 where
+  unclear : (line : List ℕ) → call ≡ nothing line → out ≡ usage line → IsOutputFor call told out
+  stopped : (text : Named) (why : List ℕ) → IsReached told (texts_of call) text → SourceSays told text (refused why) → out ≡ refusal text.which why → IsOutputFor call told out
+  given : (values : List Value) → AreAccepted told (texts_of call) values → IsTextOf call values out → IsOutputFor call told out
+
+-- what the output begins with: all of it, or in place of what the texts give as much as some of the commands do
+pub data IsBegunFor (call : Call) (told : Option (List (List ℕ × List ℕ))) (text : List ℕ) : Type 0 where
+  whole : (out : Output) → IsOutputFor call told out → text ≡ out.text → IsBegunFor call told text
+  begun_by : (values : List Value) → AreAccepted told (texts_of call) values → IsBegunBy call values text → IsBegunFor call told text
 
 -- ---- faults
 
 -- a text was not read: its turn came, and the count of faults of its file rose
-pub record ReadFails (told : Option (List (List ℕ × List ℕ))) (texts : List Named) (before now : List ℕ → ℕ) (which : Which) : Type 0 where
-  pub file : List ℕ
-  pub reached : IsReached told texts (record { which = which; file = file })
-  pub rose : Rose (before file) (now file)
-
-abbrev pub HasReadFault : Option Reading → Option (List (List ℕ × List ℕ)) → (List ℕ → ℕ) → (List ℕ → ℕ) → Which → Type 0
-HasReadFault None told before now which = ⊥
-HasReadFault (Some reading) told before now which = ReadFails told (texts_of reading) before now which
+pub record ReadFails (call : Call) (told : Option (List (List ℕ × List ℕ))) (before now : List ℕ → ℕ) (which : Which) : Type 0 where
+  pub name : List ℕ
+  pub reached : IsReached told (texts_of call) (named which name)
+  pub rose : Rose (before name) (now name)

@@ -2,12 +2,18 @@
 use Rattle.std.specs.Prelude.{◌≡◌, ℕ, List, [], ◌++◌, codes, decimal, Option, None, Some}
 use Rattle.std.proofs.Common.{Bor}
 use Rattle.drc_io.specs.Causes.{Rose}
+use Rattle.drc_io.specs.Files.{IsWhole}
+use Rattle.net_class.specs.Classes.{plain_classes}
+use Rattle.rule_text.specs.RulesOf.{no_rules}
+use Rattle.drc_state.specs.States.{State}
 use Rattle.drc_run.specs.declared.texts.Which.{Which}
+use Rattle.drc_run.specs.declared.texts.Which.TheVariants.{Board, Project, Rules}
 use Rattle.drc_run.specs.declared.texts.Refusal.{Refusal}
 use Rattle.drc_run.specs.declared.texts.Stop.{Stop}
 use Rattle.drc_run.specs.declared.texts.Stop.TheVariants.{Refused, Unread, OutOfMemory}
-use Rattle.drc_run.specs.Texts.{Named, refused, at_place, ReaderSays}
-use Rattle.drc_run.specs.Output.{Output, refusal, FileSays, IsReached, ReadFails}
+use Rattle.drc_run.specs.Calls.{Source, file, made, Reading, Call}
+use Rattle.drc_run.specs.Texts.{Named, named, texts_of, Value, a_board, a_project, a_rules, accepted, refused, at_place, ReaderSays, SourceSays, IsReached}
+use Rattle.drc_run.specs.Output.{Output, refusal, ReadFails}
 
 -- the name and the number of a reason, as they are written
 abbrev pub reason : List ℕ → List ℕ → List ℕ
@@ -26,16 +32,23 @@ abbrev pub digits_text : Option ℕ → List ℕ
 digits_text None = []
 digits_text (Some inner) = decimal inner
 
+-- ---- one text
+
 -- the reader of a text refuses its bytes so
 abbrev pub StopsReading : Which → List ℕ → Stop → Type 0
 StopsReading which bytes (Refused r) = (r.which ≡ which) × ReaderSays which bytes (refused (why_of r))
 StopsReading which bytes (Unread it) = ⊥
 StopsReading which bytes OutOfMemory = Unit {0}
 
+-- the count of a file rose. A generated board has no file
+abbrev pub HasRisen : (List ℕ → ℕ) → (List ℕ → ℕ) → Source → Type 0
+HasRisen before now (file name) = Rose (before name) (now name)
+HasRisen before now (made count) = ⊥
+
 -- a text is not accepted: its bytes are refused, or the count of its file rose
 abbrev pub StopsText : Option (List (List ℕ × List ℕ)) → (List ℕ → ℕ) → (List ℕ → ℕ) → Named → Stop → Type 0
-StopsText told before now text (Refused r) = (r.which ≡ text.which) × FileSays told text (refused (why_of r))
-StopsText told before now text (Unread it) = (it ≡ text.which) × Rose (before text.file) (now text.file)
+StopsText told before now text (Refused r) = (r.which ≡ text.which) × SourceSays told text (refused (why_of r))
+StopsText told before now text (Unread it) = (it ≡ text.which) × HasRisen before now text.source
 StopsText told before now text OutOfMemory = Unit {0}
 
 -- the stop of a refusal with this place, and this one in a condition
@@ -46,14 +59,42 @@ stop_of which name code (Some at) inner = Refused (record { which = which; name 
 -- the option's text is not accepted
 abbrev pub StopsOption : Option (List (List ℕ × List ℕ)) → (List ℕ → ℕ) → (List ℕ → ℕ) → Which → Option (List ℕ) → Stop → Type 0
 StopsOption told before now which None stop = stop ≡ OutOfMemory
-StopsOption told before now which (Some file) stop = StopsText told before now (record { which = which; file = file }) stop
+StopsOption told before now which (Some name) stop = StopsText told before now (named which name) stop
+
+-- the bytes are those of the option's file; where the option is not given, they are any
+abbrev pub AreBytesOfOption : Option (List (List ℕ × List ℕ)) → Option (List ℕ) → List ℕ → Type 0
+AreBytesOfOption told None bytes = Unit {0}
+AreBytesOfOption told (Some name) bytes = IsWhole told name bytes
+
+-- the reader of the option's text refuses its bytes so
+abbrev pub StopsReadingOption : Which → Option (List ℕ) → List ℕ → Stop → Type 0
+StopsReadingOption which None bytes stop = stop ≡ OutOfMemory
+StopsReadingOption which (Some name) bytes stop = StopsReading which bytes stop
+
+-- an option's text is accepted with this value; where the option is not given, the value is the plain one
+abbrev pub Gives : Option (List (List ℕ × List ℕ)) → Which → Option (List ℕ) → (plain value : Value) → Type 0
+Gives told which None plain value = value ≡ plain
+Gives told which (Some name) plain value = SourceSays told (named which name) (accepted value)
+
+-- its reader finds this value in its bytes
+abbrev pub GivesReading : Which → Option (List ℕ) → List ℕ → (plain value : Value) → Type 0
+GivesReading which None bytes plain value = value ≡ plain
+GivesReading which (Some name) bytes plain value = ReaderSays which bytes (accepted value)
+
+-- ---- all texts
 
 -- one of the texts is not accepted, those before it are
-abbrev pub StopsTexts : Option (List (List ℕ × List ℕ)) → List Named → (List ℕ → ℕ) → (List ℕ → ℕ) → Stop → Type 0
-StopsTexts told texts before now (Refused r) =
-    (file : List ℕ) × IsReached told texts (record { which = r.which; file = file }) × FileSays told (record { which = r.which; file = file }) (refused (why_of r))
-StopsTexts told texts before now (Unread which) = ReadFails told texts before now which
-StopsTexts told texts before now OutOfMemory = Unit {0}
+abbrev pub StopsTexts : Option (List (List ℕ × List ℕ)) → Call → (List ℕ → ℕ) → (List ℕ → ℕ) → Stop → Type 0
+StopsTexts told call before now (Refused r) =
+    (source : Source) × IsReached told (texts_of call) (record { which = r.which; source = source }) × SourceSays told (record { which = r.which; source = source }) (refused (why_of r))
+StopsTexts told call before now (Unread which) = ReadFails call told before now which
+StopsTexts told call before now OutOfMemory = Unit {0}
+
+-- the texts of what is checked are accepted, and open this
+pub record AreOpened (told : Option (List (List ℕ × List ℕ))) (reading : Reading) (opened : State) : Type 0 where
+  pub board : SourceSays told (record { which = Board; source = reading.board }) (accepted (a_board opened.board))
+  pub classes : Gives told Project reading.project (a_project plain_classes) (a_project opened.classes)
+  pub rules : Gives told Rules reading.rules (a_rules no_rules) (a_rules opened.rules)
 
 -- the line of what stops a run, where it is a refusal
 abbrev pub IsLineOf : Stop → Output → Type 0

@@ -1,6 +1,7 @@
--- The texts that the words name, in the order in which they are read, and what each says. A further text is one entry more in
--- each table here.
+-- The texts that a call names, in the order in which they are read, and what each says. A further text is one entry more in each table
+-- here.
 use Rattle.std.specs.Prelude.{◌≡◌, ℕ, ◌<◌, ◌≤◌, List, [], ◌∷◌, ◌++◌, length, codes, decimal, Option, None, Some, Ok, Err}
+use Rattle.drc_io.specs.Files.{IsWhole}
 use Rattle.board_items.specs.declared.errors.BoardError.{BoardError}
 use Rattle.board_items.specs.Reasons.{board_reason_of, board_place_of}
 use Rattle.board_items.specs.Boards.{PlainBoard}
@@ -13,35 +14,47 @@ use Rattle.rule_text.specs.declared.error.RuleError.{RuleError}
 use Rattle.rule_text.specs.Reasons.{reason_of as rules_reason_of, place_of as rules_place_of, inner_place_of as rules_inner_place_of}
 use Rattle.rule_text.specs.RulesOf.{PlainRules}
 use Rattle.rule_text.specs.RuleText.{Says as RulesSays}
+use Rattle.edit_script.specs.declared.error.ScriptError.{ScriptError}
+use Rattle.edit_script.specs.Reasons.{reason_of as script_reason_of, place_of as script_place_of}
+use Rattle.edit_script.specs.Commands.{PlainCommand}
+use Rattle.edit_script.specs.ScriptText.{Says as ScriptSays}
 use Rattle.drc_run.specs.declared.texts.Which.{Which}
-use Rattle.drc_run.specs.declared.texts.Which.TheVariants.{Board, Project, Rules}
-use Rattle.drc_run.specs.Words.{Reading}
+use Rattle.drc_run.specs.declared.texts.Which.TheVariants.{Board, Project, Rules, Script}
+use Rattle.drc_run.specs.MadeBoard.{made_text}
+use Rattle.drc_run.specs.Calls.{Source, file, made, Call, nothing, check}
 
--- a text that the words name: which one it is, and its file
+-- a text that the words name: which one it is, and where it comes from
 pub record Named : Type 0 where
   pub which : Which
-  pub file : List ℕ
+  pub source : Source
+
+-- the text of a file
+abbrev pub named : Which → List ℕ → Named
+named which name = record { which = which; source = file name }
 
 -- the text of an option, where the option is given
 abbrev pub optional : Which → Option (List ℕ) → List Named
 optional which None = []
-optional which (Some file) = record { which = which; file = file } ∷ []
+optional which (Some name) = named which name ∷ []
 
--- the texts of a reading of the words, in their order
-abbrev pub texts_of : Reading → List Named
-texts_of reading = record { which = Board; file = reading.board } ∷ (optional Project reading.project ++ optional Rules reading.rules)
+-- the texts of a call, in their order
+abbrev pub texts_of : Call → List Named
+texts_of (nothing usage) = []
+texts_of (check r) = record { which = Board; source = r.board } ∷ (optional Project r.project ++ (optional Rules r.rules ++ optional Script r.script))
 
 -- what lines call a text
 abbrev pub word_of : Which → List ℕ
 word_of Board = codes "board"
 word_of Project = codes "project"
 word_of Rules = codes "rules"
+word_of Script = codes "script"
 
 -- what a text stands for once it is accepted
 pub data Value : Type 0 where
   a_board : PlainBoard → Value
   a_project : PlainClasses → Value
   a_rules : PlainRules → Value
+  a_script : List PlainCommand → Value
 
 -- what a text says: its value, or why it is refused, and where
 pub data Said : Type 0 where
@@ -75,6 +88,9 @@ ReaderSays Rules bytes (accepted (a_rules rules)) = RulesSays bytes (Ok rules)
 ReaderSays Rules bytes (accepted _) = ⊥
 ReaderSays Rules bytes (refused why) =
     (e : RuleError) × RulesSays bytes (Err e) × IsWritten (rules_reason_of e) (rules_place_of e) (rules_inner_place_of e) why
+ReaderSays Script bytes (accepted (a_script commands)) = ScriptSays bytes (Ok commands)
+ReaderSays Script bytes (accepted _) = ⊥
+ReaderSays Script bytes (refused why) = (e : ScriptError) × ScriptSays bytes (Err e) × IsWritten (script_reason_of e) (script_place_of e) None why
 
 -- the most bytes of a text
 abbrev pub limit : ℕ
@@ -87,3 +103,31 @@ too_long = at_place (codes "TooLong (0)") 33554432 None
 pub data TextSays (which : Which) (bytes : List ℕ) (said : Said) : Type 0 where
   longer : limit < length bytes → said ≡ refused too_long → TextSays which bytes said
   read : length bytes ≤ limit → ReaderSays which bytes said → TextSays which bytes said
+
+-- the bytes of a text: what the shelf tells of its file, or else any; or those of the generated board
+abbrev pub AreBytesOf : Option (List (List ℕ × List ℕ)) → Source → List ℕ → Type 0
+AreBytesOf told (file name) bytes = IsWhole told name bytes
+AreBytesOf told (made count) bytes = bytes ≡ made_text count
+
+-- a text, wherever it comes from, says this
+pub record SourceSays (told : Option (List (List ℕ × List ℕ))) (text : Named) (said : Said) : Type 0 where
+  pub bytes : List ℕ
+  pub whole : AreBytesOf told text.source bytes
+  pub says : TextSays text.which bytes said
+
+-- ---- several texts
+
+-- the texts are accepted, each with its value
+abbrev pub AreAccepted : Option (List (List ℕ × List ℕ)) → List Named → List Value → Type 0
+AreAccepted told [] [] = Unit {0}
+AreAccepted told [] (value ∷ values) = ⊥
+AreAccepted told (text ∷ texts) [] = ⊥
+AreAccepted told (text ∷ texts) (value ∷ values) = SourceSays told text (accepted value) × AreAccepted told texts values
+
+-- a text's turn comes: it is among the texts, and those before it are accepted
+pub record IsReached (told : Option (List (List ℕ × List ℕ))) (texts : List Named) (text : Named) : Type 0 where
+  pub before : List Named
+  pub after : List Named
+  pub among : texts ≡ before ++ text ∷ after
+  pub values : List Value
+  pub before_accepted : AreAccepted told before values

@@ -1,28 +1,31 @@
-//! From the texts to the report, or to the line that stands in its place.
+//! From the texts to the reports, or to the line that stands in their place.
 
-ghost use Rattle.std.specs.Prelude.{◌≡◌, ◌≤◌, ℕ, List, length, Option, Some, IfOk, MatchResult};
+ghost use Rattle.std.specs.Prelude.{◌≡◌, ◌≤◌, ℕ, List, length, map, All, false, Option, None, MatchResult};
 ghost use Rattle.drc_io.specs.Causes.{Rose};
-ghost use Rattle.rule_text.specs.Views.{plain_rules};
-ghost use Rattle.pair_check.specs.Views.{checked_by, IsWhole};
+ghost use Rattle.edit_script.specs.Commands.{plain_command};
+ghost use Rattle.edit_script.specs.Fits.{Fits as CommandFits};
+ghost use Rattle.drc_state.specs.States.{checked_in};
+ghost use Rattle.drc_state.specs.Recheck.{IsHeldCount};
 ghost use Rattle.drc_run.specs.declared.status.Status.{Status};
-ghost use Rattle.drc_run.specs.Names.{reading_in, opened_in, found_in};
-ghost use Rattle.drc_run.specs.Findings.{AreFound};
-ghost use Rattle.drc_run.specs.Output.{IsOutputFor, HasReadFault, IsReportOf, usage, status_of};
+ghost use Rattle.drc_run.specs.Calls.{check_if, check};
+ghost use Rattle.drc_run.specs.Views.{source_in, reading_in, Fits, opened_in};
+ghost use Rattle.drc_run.specs.Output.{IsOutputFor, IsBegunFor, ReadFails, IsTold, IsToldSoFar, IsStatusOf, is_short};
 ghost use Rattle.drc_run.specs.Refusing.{IsLineOf};
-ghost use Rattle.drc_run.specs.Endings.{Ends, number_of};
+ghost use Rattle.drc_run.specs.Endings.{Ends, IsTextOfOne, number_of};
 
-use crate::findings::{Findings, find};
-use crate::index::index_of;
 use crate::lines::{write_refusal, write_unread};
+use crate::reporting::write_report;
 use crate::status::Status;
-use crate::texts::{Stop, Texts, texts_of};
-use crate::words::Names;
-use crate::writing::write_report;
+use crate::texts::{Stop, Texts, commands_of, script_text, texts_of};
+use crate::turns::{Break, Way, tiles_of, turns};
+use crate::words::{Request, Source};
+use crate::writing::Tiles;
 use drc_io::{Failed, Shelf, Sink, put_all};
-use item_facts::{all_facts, reach};
-use row_check::{CheckView, Row};
-use rule_text::Rules;
-use std::alloc::{AllocError, Global};
+use drc_session::Session;
+use edit_script::Command;
+use std::alloc::AllocGlobal;
+use std::thread::Threads;
+use tile_pool::Gate;
 
 /// The status after a text was written, or not.
 fn after(written: Result<(), Failed>, status: Status) -> Status
@@ -36,18 +39,22 @@ fn after(written: Result<(), Failed>, status: Status) -> Status
 
 /// Writes how the program is called.
 pub(crate) fn usage<W: Sink>(out: &mut W) -> Status
-    ensures ends { Ends (λ o. o ≡ usage) (λ _. ⊥) (W.written out.old) (W.written out.new) result }
+    ensures ends { (told : Option (List (List ℕ × List ℕ))) (before now : List ℕ → ℕ)
+        → Ends (IsOutputFor (check_if None) told) (IsBegunFor (check_if None) told) (ReadFails (check_if None) told before now) (W.written out.old) (W.written out.new) result }
     ensures fault { result ≡ Status.WriteFault → Rose (W.faults out.old) (W.faults out.new) }
 {
     after(
-        put_all(out, b"usage: drc BOARD [--project FILE] [--rules FILE]\n"),
+        put_all(
+            out,
+            b"usage: drc [BOARD] [--project FILE] [--rules FILE] [--script FILE] [--workers N] [--make N]\n",
+        ),
         Status::Usage,
     )
 }
 
 /// Writes why there is no report. Want of memory is not written.
 fn write_stop<W: Sink>(stop: Stop, out: &mut W) -> Status
-    ensures ends { Ends (IsLineOf stop) (λ which. stop ≡ Stop.Unread which) (W.written out.old) (W.written out.new) result }
+    ensures ends { Ends (IsLineOf stop) (IsTextOfOne (IsLineOf stop)) (λ which. stop ≡ Stop.Unread which) (W.written out.old) (W.written out.new) result }
     ensures fault { result ≡ Status.WriteFault → Rose (W.faults out.old) (W.faults out.new) }
 {
     match stop {
@@ -57,75 +64,113 @@ fn write_stop<W: Sink>(stop: Stop, out: &mut W) -> Status
     }
 }
 
-/// The status of a report with these rows.
-fn report_status(rows: &[Row]) -> Status
-    ensures { number_of result ≡ status_of rows.now }
+/// The status of a session that is not stopped: whether it has a row.
+fn session_status(session: &Session) -> Status
+    requires { session.now.stopped ≡ false }
+    ensures { IsStatusOf session.now.state (number_of result) }
 {
-    match rows {
+    match session.rows() {
         [] => Status::Clean,
         _ => Status::Rows,
     }
 }
 
-/// All that is found on the board of the view.
-fn findings(alloc: Global, view: &CheckView<'_>) -> Result<Findings, AllocError>
-    requires { IsWhole view.now }
-    ensures { IfOk result (λ found. AreFound (checked_by view.now) (found_in found)) }
-{
-    let reach = reach(view.board, view.classes, view.rules);
-    let index = index_of(alloc, view.board, reach)?;
-    find(alloc, view, &index)
-}
-
-/// Checks the board of the view, and writes its report. The rules of the view are those of the rule file.
-fn write_checked<W: Sink>(alloc: Global, view: &CheckView<'_>, rules: &Rules, out: &mut W) -> Status
-    requires whole { IsWhole view.now }
-    requires rules { view.now.rules.now ≡ rules.now.rules }
-    ensures ends { Ends (IsReportOf (record { board = view.now.board.now; classes = view.now.classes.now; rules = plain_rules rules.now })) (λ _. ⊥) (W.written out.old) (W.written out.new) result }
+/// Writes the report of a session that begins, and then what each command makes of it.
+fn go_through<R: Threads + Sync + AllocGlobal, W: Sink, G: Gate>(
+    rt: &R,
+    gate: &G,
+    way: Way,
+    session: &mut Session,
+    tiles: Tiles,
+    commands: &[Command<'_>],
+    out: &mut W,
+) -> Status
+    requires workers { (1 ≤ way.workers) × (way.workers ≤ 64) }
+    requires running { session.old.stopped ≡ false }
+    requires held { IsHeldCount (checked_in session.old.state) tiles.held }
+    requires whole { tiles.done ≡ tiles.held }
+    requires fit { All CommandFits (map plain_command commands.now) }
+    ensures ends { Ends (IsTold way.short session.old.state (map plain_command commands.now)) (IsToldSoFar way.short session.old.state (map plain_command commands.now)) (λ _. ⊥) (W.written out.old) (W.written out.new) result }
     ensures fault { result ≡ Status.WriteFault → Rose (W.faults out.old) (W.faults out.new) }
 {
-    match findings(alloc, view) {
-        Ok(found) => after(
-            write_report(0, view, rules, &found, found.held, out),
-            report_status(&found.rows),
-        ),
+    match write_report(way.short, 0, session, tiles, out) {
+        Ok(()) => {}
+        Err(Failed) => return Status::WriteFault,
+    }
+    match turns(rt, gate, way, commands, session, out) {
+        Ok(()) => session_status(session),
+        Err(Break::Unwritten) => Status::WriteFault,
+        Err(Break::OutOfMemory) => Status::OutOfMemory,
+    }
+}
+
+/// Checks the board of the texts, carries the commands out, and writes the reports.
+fn report<R: Threads + Sync + AllocGlobal, W: Sink, G: Gate>(
+    rt: &R,
+    gate: &G,
+    way: Way,
+    texts: Texts,
+    commands: &[Command<'_>],
+    out: &mut W,
+) -> Status
+    requires workers { (1 ≤ way.workers) × (way.workers ≤ 64) }
+    requires few { length texts.rules.rules ≤ 33_554_432 }
+    requires fit { All CommandFits (map plain_command commands.now) }
+    ensures ends { Ends (IsTold way.short (opened_in texts) (map plain_command commands.now)) (IsToldSoFar way.short (opened_in texts) (map plain_command commands.now)) (λ _. ⊥) (W.written out.old) (W.written out.new) result }
+    ensures fault { result ≡ Status.WriteFault → Rose (W.faults out.old) (W.faults out.new) }
+{
+    match Session::begin(
+        rt,
+        way.workers,
+        texts.board,
+        texts.classes,
+        texts.rules,
+        gate,
+    ) {
+        Ok((mut session, applied)) => {
+            let tiles = tiles_of(&applied);
+            go_through(rt, gate, way, &mut session, tiles, commands, out)
+        }
         Err(_) => Status::OutOfMemory,
     }
 }
 
-/// Checks the board of the texts, and writes its report.
-fn report<W: Sink>(alloc: Global, texts: &Texts, out: &mut W) -> Status
-    requires few { length texts.now.rules.rules ≤ 33_554_432 }
-    ensures ends { Ends (IsReportOf (opened_in texts.now)) (λ _. ⊥) (W.written out.old) (W.written out.new) result }
-    ensures fault { result ≡ Status.WriteFault → Rose (W.faults out.old) (W.faults out.new) }
+/// By how many workers, and whether in short: a generated board is reported so.
+fn way_of(request: Request<'_>) -> Way
+    ensures workers { result.workers ≡ request.entry.workers }
+    ensures short { result.short ≡ is_short (source_in request.entry.board) }
 {
-    let facts = match all_facts(alloc, &texts.board, &texts.classes) {
-        Ok(facts) => facts,
-        Err(_) => return Status::OutOfMemory,
-    };
-    let view = CheckView {
-        board: &texts.board,
-        facts: &facts,
-        rules: texts.rules.rules.as_slice(),
-        classes: &texts.classes,
-    };
-    write_checked(alloc, &view, &texts.rules, out)
+    Way {
+        workers: request.workers,
+        short: matches!(request.board, Source::Made(_)),
+    }
 }
 
-/// Fetches and reads the texts, and checks the board.
-pub(crate) fn check<F: Shelf, W: Sink>(
-    alloc: Global,
-    names: Names<'_>,
+/// Fetches and reads the texts, and checks the board after each command.
+pub(crate) fn check<R: Threads + Sync + AllocGlobal, F: Shelf, W: Sink, G: Gate>(
+    rt: &R,
+    gate: &G,
+    request: Request<'_>,
     shelf: &mut F,
     out: &mut W,
 ) -> Status
-    ensures ends { Ends (IsOutputFor (Some (reading_in names.entry)) (F.files shelf.old)) (HasReadFault (Some (reading_in names.entry)) (F.files shelf.old) (F.faults shelf.old) (F.faults shelf.new))
-        (W.written out.old) (W.written out.new) result }
+    requires { Fits request }
+    ensures ends { Ends (IsOutputFor (check (reading_in request.entry)) (F.files shelf.old)) (IsBegunFor (check (reading_in request.entry)) (F.files shelf.old))
+        (ReadFails (check (reading_in request.entry)) (F.files shelf.old) (F.faults shelf.old) (F.faults shelf.new)) (W.written out.old) (W.written out.new) result }
     ensures fault { result ≡ Status.WriteFault → Rose (W.faults out.old) (W.faults out.new) }
     ensures same { F.files shelf.new ≡ F.files shelf.old }
 {
-    match texts_of(alloc, names, shelf) {
-        Ok(texts) => report(alloc, &texts, out),
+    let alloc = rt.alloc();
+    let texts = match texts_of(alloc, request, shelf) {
+        Ok(texts) => texts,
+        Err(stop) => return write_stop(stop, out),
+    };
+    let script = match script_text(alloc, request.script, shelf) {
+        Ok(script) => script,
+        Err(stop) => return write_stop(stop, out),
+    };
+    match commands_of(alloc, request.script, &script) {
+        Ok(commands) => report(rt, gate, way_of(request), texts, &commands, out),
         Err(stop) => write_stop(stop, out),
     }
 }

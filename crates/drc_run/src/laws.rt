@@ -1,25 +1,40 @@
 //! Laws of the output. The functions do nothing: each clause holds for all words and files.
 
-ghost use Rattle.std.specs.Prelude.{◌≡◌, ℕ, List, Option, Some};
-ghost use Rattle.pair_check.specs.Rows.{Checked};
-ghost use Rattle.drc_rows.specs.ReportOf.{Found};
-ghost use Rattle.drc_run.specs.Words.{Reading};
-ghost use Rattle.drc_run.specs.Findings.{AreFindings};
-ghost use Rattle.drc_run.specs.Output.{Output, IsOutputFor};
+ghost use Rattle.std.specs.Prelude.{◌≡◌, ◌++◌, ℕ, List, Some};
+ghost use Rattle.drc_run.specs.Calls.{Call};
+ghost use Rattle.drc_run.specs.Output.{Output, IsOutputFor, IsBegunFor};
 
+use drc_state::laws::{one_answer, one_list_held, one_recheck};
+use edit_script::laws::one_reading as one_script_reading;
+use kept_nets::laws::one_list_of_parts;
 use pcb_read::laws::one_reading;
+use row_check::laws::one_list;
 use rule_text::laws::one_reading as one_rules_reading;
-
-/// What is found on a board is one.
-pub fn one_finding()
-    ensures { (c : Checked) (a b : Found) → AreFindings c a → AreFindings c b → a ≡ b }
-{}
 
 /// The words and the files have one output at most.
 pub fn one_output()
-    ensures { (reading : Option Reading) (files : List (List ℕ × List ℕ)) (a b : Output) → IsOutputFor reading (Some files) a → IsOutputFor reading (Some files) b → a ≡ b }
+    ensures { (call : Call) (files : List (List ℕ × List ℕ)) (a b : Output) → IsOutputFor call (Some files) a → IsOutputFor call (Some files) b → a ≡ b }
 {
     one_reading();
     one_rules_reading();
-    one_finding();
+    one_script_reading();
+    one_list();
+    one_list_of_parts();
+    one_list_held();
+    one_answer();
+    one_recheck();
+}
+
+/// What the output begins with after some of the commands is a front part of it, where there is an output.
+pub fn begun_is_front()
+    ensures { (call : Call) (files : List (List ℕ × List ℕ)) (text : List ℕ) (out : Output) → IsBegunFor call (Some files) text → IsOutputFor call (Some files) out → (rest : List ℕ) × (out.text ≡ text ++ rest) }
+{
+    one_reading();
+    one_rules_reading();
+    one_script_reading();
+    one_list();
+    one_list_of_parts();
+    one_list_held();
+    one_answer();
+    one_recheck();
 }

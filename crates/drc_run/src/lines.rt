@@ -1,13 +1,16 @@
-//! Lines that stand in the place of a report.
+//! Lines that stand in the place of reports.
 
 ghost use Rattle.std.specs.Prelude.{◌≡◌, ◌++◌, ℕ, List};
 ghost use Rattle.drc_io.specs.Sinks.{Writes};
 ghost use Rattle.drc_run.specs.Output.{refusal, cannot_read};
 ghost use Rattle.drc_run.specs.Refusing.{plus_text, digits_text, why_of};
+ghost use Rattle.drc_run.specs.Reports.{why_edit, refused_line};
+ghost use Rattle.drc_run.specs.Running.{at_text, inner_behind};
 
 use crate::texts::{Refusal, Which};
 use drc_io::{Failed, Sink};
 use drc_rows::write_pieces;
+use drc_state::EditError;
 use itoa::Buffer;
 
 /// What stands between a place and the place in a condition.
@@ -20,13 +23,33 @@ fn plus(inner: Option<u32>) -> &'static [u8]
     }
 }
 
-/// The digits of the place in a condition.
-fn inner_digits(inner: Option<u32>, digits: &mut Buffer) -> &[u8]
-    ensures { result.now ≡ digits_text inner }
+/// The digits of a place.
+fn place_digits(place: Option<u32>, digits: &mut Buffer) -> &[u8]
+    ensures { result.now ≡ digits_text place }
 {
-    match inner {
-        Some(inner) => digits.format(inner).as_bytes(),
+    match place {
+        Some(place) => digits.format(place).as_bytes(),
         None => b"",
+    }
+}
+
+/// What stands before a place.
+fn at(place: Option<u32>) -> &'static [u8]
+    ensures { result.now ≡ at_text place }
+{
+    match place {
+        Some(_) => b" at ",
+        None => b"",
+    }
+}
+
+/// The place in a condition, where there is a place.
+fn inner_behind(place: Option<u32>, inner: Option<u32>) -> Option<u32>
+    ensures { result ≡ inner_behind place inner }
+{
+    match place {
+        Some(_) => inner,
+        None => None,
     }
 }
 
@@ -47,7 +70,7 @@ pub(crate) fn write_refusal<W: Sink>(why: Refusal, out: &mut W) -> Result<(), Fa
             b") at ",
             digits.format(why.at).as_bytes(),
             plus(why.inner),
-            inner_digits(why.inner, &mut more_digits),
+            place_digits(why.inner, &mut more_digits),
             b"\n",
         ],
         out,
@@ -59,4 +82,40 @@ pub(crate) fn write_unread<W: Sink>(which: Which, out: &mut W) -> Result<(), Fai
     ensures { Writes (W.written out.old) (W.written out.new) (W.faults out.old) (W.faults out.new) (cannot_read which) result }
 {
     write_pieces(&[b"cannot read ", which.word(), b"\n"], out)
+}
+
+/// Writes `command NUMBER refused: NAME (CODE)`, behind it ` at PLACE` where there is a place, and for a condition ` + PLACE`.
+pub(crate) fn write_refused<W: Sink>(
+    number: u64,
+    why: &EditError,
+    out: &mut W,
+) -> Result<(), Failed>
+    ensures { Writes (W.written out.old) (W.written out.new) (W.faults out.old) (W.faults out.new) (refused_line number (why_edit why.now)) result }
+{
+    let name = why.name();
+    let code = why.code();
+    let place = why.place();
+    let inner = inner_behind(place, why.inner_place());
+    let mut digits = Buffer::new();
+    let mut digits_of_place = Buffer::new();
+    let mut digits_of_inner = Buffer::new();
+    write_pieces(
+        &[
+            b"command ",
+            digits.format(number).as_bytes(),
+            b" refused: ",
+            name.front.as_bytes(),
+            name.rest.as_bytes(),
+            b" (",
+            code.front.as_bytes(),
+            code.rest.as_bytes(),
+            b")",
+            at(place),
+            place_digits(place, &mut digits_of_place),
+            plus(inner),
+            place_digits(inner, &mut digits_of_inner),
+            b"\n",
+        ],
+        out,
+    )
 }

@@ -1,18 +1,23 @@
 //! The texts that the words name: they are fetched and read in their order, each before the next.
 
-ghost use Rattle.std.specs.Prelude.{◌≡◌, ◌≤◌, ℕ, List, Option, Some, None, IfOk, IfErr, MatchResult, Ok, Err, length, option_map};
+ghost use Rattle.std.specs.Prelude.{◌≡◌, ◌≤◌, ℕ, List, [], Option, IfOk, IfErr, MatchResult, Ok, Err, length, map, All, option_map};
 ghost use Rattle.drc_io.specs.Files.{IsWhole};
 ghost use Rattle.net_class.specs.Classes.{plain_classes};
 ghost use Rattle.rule_text.specs.RulesOf.{no_rules};
 ghost use Rattle.rule_text.specs.Views.{plain_rules};
-ghost use Rattle.drc_run.specs.Names.{reading_in, opened_in};
-ghost use Rattle.drc_run.specs.Texts.{word_of, texts_of, a_board, a_project, a_rules, accepted, ReaderSays};
-ghost use Rattle.drc_run.specs.Output.{FileSays, Gives, AreOpened};
-ghost use Rattle.drc_run.specs.Refusing.{StopsReading, StopsText, StopsTexts, StopsOption, stop_of};
+ghost use Rattle.edit_script.specs.Commands.{plain_command};
+ghost use Rattle.edit_script.specs.Fits.{Fits as CommandFits};
+ghost use Rattle.drc_run.specs.Calls.{check};
+ghost use Rattle.drc_run.specs.MadeBoard.{made_text};
+ghost use Rattle.drc_run.specs.Views.{source_in, reading_in, SourceFits, Fits, opened_in};
+ghost use Rattle.drc_run.specs.Texts.{named, word_of, a_board, a_project, a_rules, a_script, accepted, ReaderSays, AreBytesOf, SourceSays};
+ghost use Rattle.drc_run.specs.Refusing.{StopsReading, StopsText, StopsTexts, StopsOption, StopsReadingOption, AreBytesOfOption, Gives, GivesReading, AreOpened, stop_of};
 
-use crate::words::Names;
+use crate::made::made_text;
+use crate::words::{Request, Source};
 use board_items::Board;
 use drc_io::{FetchError, Shelf, fetch};
+use edit_script::{Command, read_script};
 use net_class::{Classes, read_project};
 use pcb_read::read_board;
 use rule_text::{RuleList, RuleNotes, Rules, read_rules};
@@ -28,6 +33,7 @@ pub enum Which {
     Board,
     Project,
     Rules,
+    Script,
 }
 
 impl Which {
@@ -39,6 +45,7 @@ impl Which {
             Which::Board => b"board",
             Which::Project => b"project",
             Which::Rules => b"rules",
+            Which::Script => b"script",
         }
     }
 }
@@ -107,7 +114,7 @@ fn fetch_text<F: Shelf>(
 ) -> Result<Vec<u8>, Stop>
     ensures whole { IfOk result (λ text. IsWhole (F.files shelf.old) name.now text.items) }
     ensures short { IfOk result (λ text. length text.items ≤ 33_554_432) }
-    ensures stop { IfErr result (StopsText (F.files shelf.old) (F.faults shelf.old) (F.faults shelf.new) (record { which = which; file = name.now })) }
+    ensures stop { IfErr result (StopsText (F.files shelf.old) (F.faults shelf.old) (F.faults shelf.new) (named which name.now)) }
     ensures same { F.files shelf.new ≡ F.files shelf.old }
     ensures counts { (other : List ℕ) → F.faults shelf.old other ≤ F.faults shelf.new other }
 {
@@ -116,6 +123,34 @@ fn fetch_text<F: Shelf>(
         Err(FetchError::TooLong) => Err(refused(which, "TooLong", "0", Some(LIMIT), None)),
         Err(FetchError::Failed) => Err(Stop::Unread(which)),
         Err(FetchError::OutOfMemory) => Err(Stop::OutOfMemory),
+    }
+}
+
+/// The text of the generated board of so many, from 1 to 90,000.
+fn generated_text(alloc: Global, count: u32) -> Result<Vec<u8>, Stop>
+    requires { (1 ≤ count) × (count ≤ 90_000) }
+    ensures text { IfOk result (λ text. text.items ≡ made_text count) }
+    ensures short { IfOk result (λ text. length text.items ≤ 33_554_432) }
+    ensures stop { IfErr result (λ stop. stop ≡ Stop.OutOfMemory) }
+{
+    match made_text(alloc, count) {
+        Ok(text) => Ok(text),
+        Err(_) => Err(Stop::OutOfMemory),
+    }
+}
+
+/// The text of the board, which is fetched or generated.
+fn board_text<F: Shelf>(alloc: Global, source: Source<'_>, shelf: &mut F) -> Result<Vec<u8>, Stop>
+    requires { SourceFits source }
+    ensures whole { IfOk result (λ text. AreBytesOf (F.files shelf.old) (source_in source.entry) text.items) }
+    ensures short { IfOk result (λ text. length text.items ≤ 33_554_432) }
+    ensures stop { IfErr result (StopsText (F.files shelf.old) (F.faults shelf.old) (F.faults shelf.new) (record { which = Which.Board; source = source_in source.entry })) }
+    ensures same { F.files shelf.new ≡ F.files shelf.old }
+    ensures counts { (other : List ℕ) → F.faults shelf.old other ≤ F.faults shelf.new other }
+{
+    match source {
+        Source::File(name) => fetch_text(alloc, Which::Board, name, shelf),
+        Source::Made(count) => generated_text(alloc, count),
     }
 }
 
@@ -155,14 +190,27 @@ fn rules_in(alloc: Global, text: &[u8]) -> Result<Rules, Stop>
     }
 }
 
-/// Fetches the board's text and reads it.
-fn board_of<F: Shelf>(alloc: Global, name: &str, shelf: &mut F) -> Result<Board, Stop>
-    ensures ok { IfOk result (λ board. FileSays (F.files shelf.old) (record { which = Which.Board; file = name.now }) (accepted (a_board board))) }
-    ensures stop { IfErr result (StopsText (F.files shelf.old) (F.faults shelf.old) (F.faults shelf.new) (record { which = Which.Board; file = name.now })) }
+/// The commands of the text of a script, which they borrow.
+fn script_in<'t>(alloc: Global, text: &'t [u8]) -> Result<Vec<Command<'t>>, Stop>
+    requires { length text.now ≤ 33_554_432 }
+    ensures says { MatchResult result (λ commands. ReaderSays Which.Script text.entry.now (accepted (a_script (map plain_command commands.items)))) (StopsReading Which.Script text.entry.now) }
+    ensures fit { IfOk result (λ commands. All CommandFits (map plain_command commands.items)) }
+{
+    match read_script(alloc, text) {
+        Ok(commands) => Ok(commands),
+        Err(e) => Err(refused(Which::Script, e.name(), e.code(), e.place(), None)),
+    }
+}
+
+/// Fetches or makes the board's text and reads it.
+fn board_of<F: Shelf>(alloc: Global, source: Source<'_>, shelf: &mut F) -> Result<Board, Stop>
+    requires { SourceFits source }
+    ensures ok { IfOk result (λ board. SourceSays (F.files shelf.old) (record { which = Which.Board; source = source_in source.entry }) (accepted (a_board board))) }
+    ensures stop { IfErr result (StopsText (F.files shelf.old) (F.faults shelf.old) (F.faults shelf.new) (record { which = Which.Board; source = source_in source.entry })) }
     ensures same { F.files shelf.new ≡ F.files shelf.old }
     ensures counts { (other : List ℕ) → F.faults shelf.old other ≤ F.faults shelf.new other }
 {
-    match fetch_text(alloc, Which::Board, name, shelf) {
+    match board_text(alloc, source, shelf) {
         Ok(text) => board_in(alloc, &text),
         Err(stop) => Err(stop),
     }
@@ -170,8 +218,8 @@ fn board_of<F: Shelf>(alloc: Global, name: &str, shelf: &mut F) -> Result<Board,
 
 /// Fetches the project's text and reads it.
 fn project_of<F: Shelf>(alloc: Global, name: &str, shelf: &mut F) -> Result<Classes, Stop>
-    ensures ok { IfOk result (λ classes. FileSays (F.files shelf.old) (record { which = Which.Project; file = name.now }) (accepted (a_project classes))) }
-    ensures stop { IfErr result (StopsText (F.files shelf.old) (F.faults shelf.old) (F.faults shelf.new) (record { which = Which.Project; file = name.now })) }
+    ensures ok { IfOk result (λ classes. SourceSays (F.files shelf.old) (named Which.Project name.now) (accepted (a_project classes))) }
+    ensures stop { IfErr result (StopsText (F.files shelf.old) (F.faults shelf.old) (F.faults shelf.new) (named Which.Project name.now)) }
     ensures same { F.files shelf.new ≡ F.files shelf.old }
     ensures counts { (other : List ℕ) → F.faults shelf.old other ≤ F.faults shelf.new other }
 {
@@ -183,10 +231,11 @@ fn project_of<F: Shelf>(alloc: Global, name: &str, shelf: &mut F) -> Result<Clas
 
 /// Fetches the text of the rule file and reads it.
 fn rule_file_of<F: Shelf>(alloc: Global, name: &str, shelf: &mut F) -> Result<Rules, Stop>
-    ensures ok { IfOk result (λ rules. FileSays (F.files shelf.old) (record { which = Which.Rules; file = name.now }) (accepted (a_rules (plain_rules rules)))) }
+    ensures ok { IfOk result (λ rules. SourceSays (F.files shelf.old) (named Which.Rules name.now) (accepted (a_rules (plain_rules rules)))) }
     ensures few { IfOk result (λ rules. length rules.rules ≤ 33_554_432) }
-    ensures stop { IfErr result (StopsText (F.files shelf.old) (F.faults shelf.old) (F.faults shelf.new) (record { which = Which.Rules; file = name.now })) }
+    ensures stop { IfErr result (StopsText (F.files shelf.old) (F.faults shelf.old) (F.faults shelf.new) (named Which.Rules name.now)) }
     ensures same { F.files shelf.new ≡ F.files shelf.old }
+    ensures counts { (other : List ℕ) → F.faults shelf.old other ≤ F.faults shelf.new other }
 {
     match fetch_text(alloc, Which::Rules, name, shelf) {
         Ok(text) => rules_in(alloc, &text),
@@ -227,6 +276,7 @@ fn rules_of<F: Shelf>(alloc: Global, name: Option<&str>, shelf: &mut F) -> Resul
     ensures few { IfOk result (λ rules. length rules.rules ≤ 33_554_432) }
     ensures stop { IfErr result (StopsOption (F.files shelf.old) (F.faults shelf.old) (F.faults shelf.new) Which.Rules (option_map (λ file. file.now) name.entry)) }
     ensures same { F.files shelf.new ≡ F.files shelf.old }
+    ensures counts { (other : List ℕ) → F.faults shelf.old other ≤ F.faults shelf.new other }
 {
     match name {
         Some(name) => rule_file_of(alloc, name, shelf),
@@ -234,31 +284,68 @@ fn rules_of<F: Shelf>(alloc: Global, name: Option<&str>, shelf: &mut F) -> Resul
     }
 }
 
-/// Fetches and reads the texts, each where those before it are accepted.
+/// Fetches and reads the texts but for the script, each where those before it are accepted.
 pub(crate) fn texts_of<F: Shelf>(
     alloc: Global,
-    names: Names<'_>,
+    request: Request<'_>,
     shelf: &mut F,
 ) -> Result<Texts, Stop>
-    ensures ok { IfOk result (λ texts. AreOpened (F.files shelf.old) (reading_in names.entry) (opened_in texts)) }
+    requires { Fits request }
+    ensures ok { IfOk result (λ texts. AreOpened (F.files shelf.old) (reading_in request.entry) (opened_in texts)) }
     ensures few { IfOk result (λ texts. length texts.rules.rules ≤ 33_554_432) }
-    ensures stop { IfErr result (StopsTexts (F.files shelf.old) (texts_of (reading_in names.entry)) (F.faults shelf.old) (F.faults shelf.new)) }
+    ensures stop { IfErr result (StopsTexts (F.files shelf.old) (check (reading_in request.entry)) (F.faults shelf.old) (F.faults shelf.new)) }
     ensures same { F.files shelf.new ≡ F.files shelf.old }
+    ensures counts { (other : List ℕ) → F.faults shelf.old other ≤ F.faults shelf.new other }
 {
-    let board = match board_of(alloc, names.board, shelf) {
+    let board = match board_of(alloc, request.board, shelf) {
         Ok(board) => board,
         Err(stop) => return Err(stop),
     };
-    let classes = match classes_of(alloc, names.project, shelf) {
+    let classes = match classes_of(alloc, request.project, shelf) {
         Ok(classes) => classes,
         Err(stop) => return Err(stop),
     };
-    match rules_of(alloc, names.rules, shelf) {
+    match rules_of(alloc, request.rules, shelf) {
         Ok(rules) => Ok(Texts {
             board,
             classes,
             rules,
         }),
         Err(stop) => Err(stop),
+    }
+}
+
+/// Fetches the script's text, which is empty where there is no script.
+pub(crate) fn script_text<F: Shelf>(
+    alloc: Global,
+    name: Option<&str>,
+    shelf: &mut F,
+) -> Result<Vec<u8>, Stop>
+    ensures whole { IfOk result (λ text. AreBytesOfOption (F.files shelf.old) (option_map (λ file. file.now) name.entry) text.items) }
+    ensures short { IfOk result (λ text. length text.items ≤ 33_554_432) }
+    ensures stop { IfErr result (StopsOption (F.files shelf.old) (F.faults shelf.old) (F.faults shelf.new) Which.Script (option_map (λ file. file.now) name.entry)) }
+    ensures same { F.files shelf.new ≡ F.files shelf.old }
+    ensures counts { (other : List ℕ) → F.faults shelf.old other ≤ F.faults shelf.new other }
+{
+    match name {
+        Some(name) => fetch_text(alloc, Which::Script, name, shelf),
+        None => Ok(Vec::new(alloc)),
+    }
+}
+
+/// The commands of the script with this text, or without a script none.
+pub(crate) fn commands_of<'t>(
+    alloc: Global,
+    name: Option<&str>,
+    text: &'t [u8],
+) -> Result<Vec<Command<'t>>, Stop>
+    requires { length text.now ≤ 33_554_432 }
+    ensures says { IfOk result (λ commands. GivesReading Which.Script (option_map (λ file. file.now) name.entry) text.entry.now (a_script []) (a_script (map plain_command commands.items))) }
+    ensures stop { IfErr result (StopsReadingOption Which.Script (option_map (λ file. file.now) name.entry) text.entry.now) }
+    ensures fit { IfOk result (λ commands. All CommandFits (map plain_command commands.items)) }
+{
+    match name {
+        Some(_) => script_in(alloc, text),
+        None => Ok(Vec::new(alloc)),
     }
 }

@@ -1,20 +1,38 @@
 //! What the words of the command line say.
 
-ghost use Rattle.std.specs.Prelude.{◌≡◌, false, IfOk, option_map, codes};
+ghost use Rattle.std.specs.Prelude.{◌≡◌, ◌≤◌, false, Some, None, IfOk, IfSome, option_map, codes};
 ghost use Rattle.clap.specs.Words.{app_of, rule_of, first_value, found_of};
-ghost use Rattle.drc_run.specs.Words.{option_rule, bare_app, drc_app, reading_of, reading_with, words_of};
-ghost use Rattle.drc_run.specs.Names.{reading_in};
+ghost use Rattle.drc_run.specs.Calls.{option_rule, bare_app, app_with_files, drc_app, number_in, workers_of, source_of, reading_of, reading_by, words_of};
+ghost use Rattle.drc_run.specs.Views.{source_in, reading_in, SourceFits, Fits};
 
 use clap::error::ErrorKind;
 use clap::{Arg, ArgMatches, Command};
+use exact_dec::count_of;
 use std::alloc::{AllocError, Global};
 
-/// The files that the words give.
+/// The most workers.
+const MOST_WORKERS: u32 = 64;
+
+/// The greatest generated board.
+const MOST_MADE: u32 = 90_000;
+
+/// Where the board comes from.
 #[derive(Clone, Copy)]
-pub(crate) struct Names<'a> {
-    pub(crate) board: &'a str,
+pub(crate) enum Source<'a> {
+    /// The file of this name.
+    File(&'a str),
+    /// The generated board of so many vias and segments, from 1 to 90,000.
+    Made(u32),
+}
+
+/// What the words ask for: the texts, and the number of workers, from 1 to 64.
+#[derive(Clone, Copy)]
+pub(crate) struct Request<'a> {
+    pub(crate) board: Source<'a>,
     pub(crate) project: Option<&'a str>,
     pub(crate) rules: Option<&'a str>,
+    pub(crate) script: Option<&'a str>,
+    pub(crate) workers: u32,
 }
 
 /// An option that has a value.
@@ -35,27 +53,38 @@ fn bare_command<'a>(alloc: Global) -> Command<'a>
         .disable_version_flag(true)
 }
 
-/// The program's command: `drc BOARD [--project FILE] [--rules FILE]`.
+/// `drc [BOARD] [--project FILE] [--rules FILE] [--script FILE]`.
+fn command_with_files<'a>(alloc: Global) -> Result<Command<'a>, AllocError>
+    ensures { IfOk result (λ command. app_of command ≡ app_with_files) }
+{
+    let command = bare_command(alloc)
+        .arg(Arg::new(alloc, "BOARD"))?
+        .arg(option(alloc, "project"))?;
+    command
+        .arg(option(alloc, "rules"))?
+        .arg(option(alloc, "script"))
+}
+
+/// The program's command, with `[--workers N] [--make N]` behind the files.
 fn command<'a>(alloc: Global) -> Result<Command<'a>, AllocError>
     ensures { IfOk result (λ command. app_of command ≡ drc_app) }
 {
-    let board = Arg::new(alloc, "BOARD").required(true);
-    let command = bare_command(alloc)
-        .arg(board)?
-        .arg(option(alloc, "project"))?;
-    command.arg(option(alloc, "rules"))
+    command_with_files(alloc)?
+        .arg(option(alloc, "workers"))?
+        .arg(option(alloc, "make"))
 }
 
-/// The files that the words give, or none where they are no command line.
-pub(crate) fn reading<'a>(
+/// What the words ask for, or none where they are no command line.
+pub(crate) fn request_of<'a>(
     alloc: Global,
     words: &'a [&'a str],
-) -> Result<Option<Names<'a>>, AllocError>
-    ensures { IfOk result (λ names. option_map reading_in names ≡ reading_of (words_of words.entry.now)) }
+) -> Result<Option<Request<'a>>, AllocError>
+    ensures reading { IfOk result (λ request. option_map reading_in request ≡ reading_of (words_of words.entry.now)) }
+    ensures fits { IfOk result (λ request. IfSome request Fits) }
 {
     let command = command(alloc)?;
     match command.try_get_matches_from(words) {
-        Ok(matches) => Ok(names_in(&matches)),
+        Ok(matches) => Ok(request_in(&matches)),
         Err(error) => match error.kind() {
             ErrorKind::OutOfMemory => Err(AllocError),
             _ => Ok(None),
@@ -63,14 +92,61 @@ pub(crate) fn reading<'a>(
     }
 }
 
-/// The files among the matches.
-fn names_in<'a>(matches: &ArgMatches<'a>) -> Option<Names<'a>>
-    ensures { option_map reading_in result ≡ reading_with (first_value (found_of matches.now) (codes "BOARD")) (first_value (found_of matches.now) (codes "project")) (first_value (found_of matches.now) (codes "rules")) }
+/// What the matches ask for.
+fn request_in<'a>(matches: &ArgMatches<'a>) -> Option<Request<'a>>
+    ensures reading { option_map reading_in result ≡ reading_by (λ name. first_value (found_of matches.now) name) }
+    ensures fits { IfSome result Fits }
 {
-    let board = matches.get_str("BOARD")?;
-    Some(Names {
+    let board = source_of(matches.get_str("BOARD"), matches.get_str("make"))?;
+    let workers = workers_of(matches.get_str("workers"))?;
+    Some(Request {
         board,
         project: matches.get_str("project"),
         rules: matches.get_str("rules"),
+        script: matches.get_str("script"),
+        workers,
     })
+}
+
+/// Exactly one of a file and a generated board.
+fn source_of<'a>(name: Option<&'a str>, count: Option<&'a str>) -> Option<Source<'a>>
+    ensures source { option_map source_in result ≡ source_of (option_map (λ text. text.now) name.entry) (option_map (λ text. text.now) count.entry) }
+    ensures fits { IfSome result SourceFits }
+{
+    match (name, count) {
+        (Some(name), None) => Some(Source::File(name)),
+        (None, Some(count)) => made_of(count),
+        _ => None,
+    }
+}
+
+/// The generated board of a number from 1 to 90,000.
+fn made_of<'a>(count: &str) -> Option<Source<'a>>
+    ensures source { option_map source_in result ≡ source_of None (Some count.now) }
+    ensures fits { IfSome result SourceFits }
+{
+    let count = number_in(count, MOST_MADE)?;
+    Some(Source::Made(count))
+}
+
+/// A number of workers from 1 to 64, 1 where none is given.
+fn workers_of(count: Option<&str>) -> Option<u32>
+    ensures workers { result ≡ workers_of (option_map (λ text. text.now) count.entry) }
+    ensures fits { IfSome result (λ number. (1 ≤ number) × (number ≤ 64)) }
+{
+    match count {
+        Some(count) => number_in(count, MOST_WORKERS),
+        None => Some(1),
+    }
+}
+
+/// The number that the text spells, from 1 to `most`.
+fn number_in(text: &str, most: u32) -> Option<u32>
+    ensures number { result ≡ number_in 1 most text.now }
+    ensures fits { IfSome result (λ number. (1 ≤ number) × (number ≤ most)) }
+{
+    match count_of(text.as_bytes()) {
+        Ok(number) if 1 <= number && number <= most => Some(number),
+        _ => None,
+    }
 }

@@ -1,4 +1,4 @@
-//! The whole report of a board.
+//! Reports of a board, whole and short.
 
 ghost use Rattle.std.specs.Prelude.{◌≡◌, ◌++◌, ℕ, List, All, map, length, filter};
 ghost use Rattle.std.specs.List.{flat_map};
@@ -6,20 +6,17 @@ ghost use Rattle.drc_io.specs.Sinks.{Writes};
 ghost use Rattle.cond_lang.specs.Rules.{plain_rule};
 ghost use Rattle.rule_text.specs.Views.{plain_rules};
 ghost use Rattle.pair_check.specs.Rows.{HasItems, HasSource};
-ghost use Rattle.pair_check.specs.Views.{checked_by};
 ghost use Rattle.net_groups.specs.NetParts.{is_open, IsWritable};
-ghost use Rattle.drc_rows.specs.Report.{rows_text, notes_text};
-ghost use Rattle.drc_rows.specs.ReportOf.{part_text, nets_text, tiles_line, first_line, whole_report};
-ghost use Rattle.drc_run.specs.Findings.{AreFound};
-ghost use Rattle.drc_run.specs.Names.{found_in};
+ghost use Rattle.drc_rows.specs.Notes.{note_count};
+ghost use Rattle.drc_rows.specs.Report.{rows_text, notes_text, number_line};
+ghost use Rattle.drc_rows.specs.ReportOf.{part_text, nets_text, tiles_line, first_line, whole_report, short_report};
+ghost use Rattle.drc_run.specs.Running.{counts_text};
 
-use crate::findings::Findings;
-use crate::nets::NetPart;
 use board_items::Board;
 use drc_io::{Failed, Sink};
 use drc_rows::{count_notes, write_line, write_net, write_notes, write_pieces, write_rows};
 use itoa::Buffer;
-use row_check::laws::{rows_have_items, rows_have_sources};
+use kept_nets::NetPart;
 use row_check::{CheckView, Row};
 use rule_text::Rules;
 
@@ -96,18 +93,25 @@ fn write_parts<W: Sink>(board: &Board, parts: &[NetPart], out: &mut W) -> Result
     write_line(b"open nets ", count_open(parts), b"", out)
 }
 
+/// How many tiles were gone through, and how many hold an item.
+#[derive(Clone, Copy)]
+pub(crate) struct Tiles {
+    pub(crate) done: u64,
+    pub(crate) held: u32,
+}
+
 /// Writes how many tiles were gone through, and how many hold an item.
-fn write_tiles<W: Sink>(done: u32, held: u32, out: &mut W) -> Result<(), Failed>
-    ensures { Writes (W.written out.old) (W.written out.new) (W.faults out.old) (W.faults out.new) (tiles_line done held) result }
+fn write_tiles<W: Sink>(tiles: Tiles, out: &mut W) -> Result<(), Failed>
+    ensures { Writes (W.written out.old) (W.written out.new) (W.faults out.old) (W.faults out.new) (tiles_line tiles.done tiles.held) result }
 {
     let mut done_digits = Buffer::new();
     let mut held_digits = Buffer::new();
     write_pieces(
         &[
             b"rechecked ",
-            done_digits.format(done).as_bytes(),
+            done_digits.format(tiles.done).as_bytes(),
             b" of ",
-            held_digits.format(held).as_bytes(),
+            held_digits.format(tiles.held).as_bytes(),
             b" tiles\n",
         ],
         out,
@@ -132,24 +136,65 @@ fn write_items<W: Sink>(
     write_counted_notes(view.board, rules, out)
 }
 
-/// Writes the whole report of this number: the board's rows, its notes, its open nets, and how many tiles were gone through.
-/// `Failed` comes only where the sink's count of faults rose, and then a front part of the report was written. It takes no
-/// memory.
-pub(crate) fn write_report<W: Sink>(
+/// Writes the whole report of this number: the board's rows, its notes, its open nets, and how many tiles were gone through. `Failed`
+/// comes only where the sink's count of faults rose, and then a front part of the report was written. It takes no memory.
+pub(crate) fn write_whole<W: Sink>(
     number: u64,
     view: &CheckView<'_>,
     rules: &Rules,
-    found: &Findings,
-    done: u32,
+    rows: &[Row],
+    parts: &[NetPart],
+    tiles: Tiles,
     out: &mut W,
 ) -> Result<(), Failed>
-    requires rules { view.now.rules.now ≡ rules.now.rules }
-    requires found { AreFound (checked_by view.now) (found_in found.now) }
-    ensures { Writes (W.written out.old) (W.written out.new) (W.faults out.old) (W.faults out.new) (whole_report number view.now.board.now (plain_rules rules.now) (found_in found.now) done) result }
+    requires rules { map plain_rule view.now.rules.now ≡ (plain_rules rules.now).rules }
+    requires items { All (HasItems view.now.board.now) rows.now }
+    requires sources { All (HasSource (map plain_rule view.now.rules.now)) rows.now }
+    requires writable { All (IsWritable view.now.board.now) parts.now }
+    ensures { Writes (W.written out.old) (W.written out.new) (W.faults out.old) (W.faults out.new)
+        (whole_report number view.now.board.now (plain_rules rules.now) (record { rows = rows.now; parts = parts.now; held = tiles.held }) tiles.done) result }
 {
-    rows_have_items();
-    rows_have_sources();
-    write_items(number, view, rules, &found.rows, out)?;
-    write_parts(view.board, &found.parts, out)?;
-    write_tiles(done, found.held, out)
+    write_items(number, view, rules, rows, out)?;
+    write_parts(view.board, parts, out)?;
+    write_tiles(tiles, out)
+}
+
+/// How many rows, notes and open nets a report has.
+#[derive(Clone, Copy)]
+struct Counts {
+    rows: u64,
+    notes: u64,
+    open: u64,
+}
+
+/// Writes how many rows, notes and open nets there are.
+fn write_counts<W: Sink>(counts: Counts, out: &mut W) -> Result<(), Failed>
+    ensures { Writes (W.written out.old) (W.written out.new) (W.faults out.old) (W.faults out.new) (counts_text counts.rows counts.notes counts.open) result }
+{
+    write_line(b"rows ", counts.rows, b"", out)?;
+    write_line(b"not checked ", counts.notes, b"", out)?;
+    write_line(b"open nets ", counts.open, b"", out)
+}
+
+/// Writes the short report of this number: how many rows, notes and open nets there are, and the tiles. `Failed` is as above.
+pub(crate) fn write_short<W: Sink>(
+    number: u64,
+    board: &Board,
+    rules: &Rules,
+    rows: &[Row],
+    parts: &[NetPart],
+    tiles: Tiles,
+    out: &mut W,
+) -> Result<(), Failed>
+    ensures { Writes (W.written out.old) (W.written out.new) (W.faults out.old) (W.faults out.new)
+        (short_report number board.now (plain_rules rules.now) (record { rows = rows.now; parts = parts.now; held = tiles.held }) tiles.done) result }
+{
+    let counts = Counts {
+        rows: rows.len() as u64,
+        notes: count_notes(board, rules),
+        open: count_open(parts),
+    };
+    write_line(b"report ", number, b"", out)?;
+    write_counts(counts, out)?;
+    write_tiles(tiles, out)
 }

@@ -22,7 +22,9 @@ use rule_text::{Rules, read_rules};
 use std::alloc::Global;
 use std::process::ExitCode;
 use std::rt::Files;
+use std::thread::Threads;
 use std::{env, fs, io};
+use tile_pool::NoGate;
 
 /// A board with two copper layers and three nets, up to its items.
 const HEAD: &[u8] =
@@ -105,7 +107,11 @@ fn plain_report_of(alloc: Global, board: &[u8], rules: &[u8]) -> Option<Vec<u8>>
 }
 
 /// The whole report of the program.
-fn report_of<R: AllocGlobal>(rt: &R, board: Vec<u8>, rules: Vec<u8>) -> Option<Vec<u8>> {
+fn report_of<R: Threads + Sync + AllocGlobal>(
+    rt: &R,
+    board: Vec<u8>,
+    rules: Vec<u8>,
+) -> Option<Vec<u8>> {
     let alloc = rt.alloc();
     let mut files = Vec::new(alloc);
     files
@@ -116,12 +122,12 @@ fn report_of<R: AllocGlobal>(rt: &R, board: Vec<u8>, rules: Vec<u8>) -> Option<V
         .ok()?;
     let mut shelf = MemShelf::new(files, Vec::new(alloc));
     let mut out = MemSink::new(alloc, usize::MAX, ROOM, Vec::new(alloc)).ok()?;
-    run(rt, &["b", "--rules", "r"], &mut shelf, &mut out);
+    run(rt, &["b", "--rules", "r"], &mut shelf, &mut out, &NoGate);
     out.bytes().to_vec(alloc).ok()
 }
 
 /// How many rows the board has, where the program's report begins with those over all pairs.
-fn rows_alike<R: AllocGlobal>(rt: &R, items: &[u8], rules: &[u8]) -> Option<u64> {
+fn rows_alike<R: Threads + Sync + AllocGlobal>(rt: &R, items: &[u8], rules: &[u8]) -> Option<u64> {
     let board = board_text(rt.alloc(), items)?;
     let plain = plain_report_of(rt.alloc(), &board, rules)?;
     let whole = report_of(rt, board, rules.to_vec(rt.alloc()).ok()?)?;
@@ -139,7 +145,7 @@ fn behind<'a>(line: &'a str, word: &str) -> Option<&'a [u8]> {
 }
 
 /// Tries the boards of a text, and answers whether all are alike.
-fn try_text<R: AllocGlobal + Print>(rt: &R, text: &str) -> io::Result<bool> {
+fn try_text<R: Threads + Sync + AllocGlobal + Print>(rt: &R, text: &str) -> io::Result<bool> {
     let mut rules: &[u8] = b"(version 1)";
     let mut alike = true;
     let mut number = 0u64;

@@ -3,11 +3,14 @@ use Rattle.drc_run.specs.declared.status.Status.TheVariants.{Refused}
 use Rattle.drc_run.specs.declared.texts.Stop.{Stop}
 use Rattle.drc_run.specs.Output.{refusal}
 use Rattle.drc_run.specs.Refusing.{IsLineOf, why_of}
-use Rattle.drc_run.proofs.Written.{written}
+use Rattle.drc_run.specs.Endings.{IsTextOfOne}
+use Rattle.drc_run.proofs.Written.{written, its_text}
 use Rattle.drc_run.proofs.check.write_stop.Goals as goal
 
 pub returns-in-Refused-clause-ends : goal.returns-in-Refused-clause-ends
 returns-in-Refused-clause-ends g c =
     let r = c.in-Refused.why in
     let line = refusal r.which (why_of r) in
-    written (IsLineOf c.args.stop) _ _ _ _ _ line c.write_refusal.result Refused c.after.result (subst (λ (x : Stop). IsLineOf x line) (sym c.in-Refused.is) refl) (λ w. w) c.write_refusal.ensures c.after.ensures
+    let is = subst (λ (x : Stop). IsLineOf x line) (sym c.in-Refused.is) refl in
+    written (IsLineOf c.args.stop) (IsTextOfOne (IsLineOf c.args.stop)) _ _ _ _ _ line c.write_refusal.result Refused c.after.result is (its_text (IsLineOf c.args.stop) line is) (λ w. w) c.write_refusal.ensures
+    c.after.ensures

@@ -20,9 +20,9 @@ returns g c =
     let name : c.as_bytes.result.now ≡ it.name.now = search rules in
     let code : c.as_bytes-2.result.now ≡ it.code.now = search rules in
     let line : List ℕ = codes "refused " ++ (c.word.result.now ++ (codes ": " ++ (c.as_bytes.result.now ++ (codes " (" ++ (c.as_bytes-2.result.now ++ ((codes ")" ++ codes " at ")
-    ++ (c.as_bytes-3.result.now ++ (c.plus.result.now ++ (c.inner_digits.result.now ++ codes "\n"))))))))) in
+    ++ (c.as_bytes-3.result.now ++ (c.plus.result.now ++ (c.place_digits.result.now ++ codes "\n"))))))))) in
     let text : line ≡ (refusal it.which (why_of it)).text =
-    rw (at, name, code, c.word.ensures, c.plus.ensures, c.inner_digits.ensures)
+    rw (at, name, code, c.word.ensures, c.plus.ensures, c.place_digits.ensures)
     (pieces (codes "refused ") (word_of it.which) (codes ": ") it.name.now (codes " (") it.code.now (codes ")") (codes " at ") (decimal it.at) (plus_text it.inner) (digits_text it.inner) (codes "\n")
     ∙ ap (λ l. codes "refused " ++ word_of it.which ++ codes ": " ++ (it.name.now ++ codes " (" ++ it.code.now ++ codes ")" ++ codes " at " ++ decimal it.at ++ l) ++ codes "\n") (two_pieces it.inner)) in
     Writes-text _ _ _ _ _ _ _ text c.write_pieces.ensures

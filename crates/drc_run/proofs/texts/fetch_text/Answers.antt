@@ -1,5 +1,6 @@
 use Rattle.std.proofs.Common.{refl, ap, sym, subst, Err}
 use Rattle.drc_run.specs.declared.texts.Stop.{Stop}
+use Rattle.drc_run.specs.Texts.{named}
 use Rattle.drc_run.specs.Refusing.{StopsText}
 use Rattle.drc_run.proofs.Accepting.{longer_says}
 use Rattle.drc_run.proofs.texts.fetch_text.Goals as goal
@@ -10,4 +11,4 @@ returns-in-Err-TooLong-clause-stop g c =
     let before = g.F.Shelf.faults c.args.shelf.now in
     let now = g.F.Shelf.faults c.fetch.new.shelf in
     let longer = longer_says told c.args.which c.args.name.now (c.in-Err-TooLong.ensures.too_long (ap Err c.in-Err-TooLong.field-0-is)) in
-    subst (λ (s : Stop). StopsText told before now (record { which = c.args.which; file = c.args.name.now }) s) (sym c.refused.ensures) (refl, longer)
+    subst (λ (s : Stop). StopsText told before now (named c.args.which c.args.name.now) s) (sym c.refused.ensures) (refl, longer)

@@ -1,4 +1,4 @@
-use Rattle.std.proofs.Common.{length, subst, ◌≤◌, ℕ}
+use Rattle.std.proofs.Common.{subst, ◌≤◌, ℕ}
 use Rattle.std.proofs.lemmas.List.{length-map}
 use Rattle.cond_lang.specs.Rules.{plain_rule}
 use Rattle.rule_text.specs.Views.{plain_rules}

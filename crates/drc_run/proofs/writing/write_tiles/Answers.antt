@@ -10,9 +10,9 @@ pieces a d b h z = simp append_assoc
 pub returns : goal.returns
 unfolding tiles_line
 returns g c =
-    let done : c.as_bytes.result.now ≡ decimal c.args.done = search rules in
-    let held : c.as_bytes-2.result.now ≡ decimal c.args.held = search rules in
+    let done : c.as_bytes.result.now ≡ decimal c.args.tiles.done = search rules in
+    let held : c.as_bytes-2.result.now ≡ decimal c.args.tiles.held = search rules in
     let line : List ℕ = codes "rechecked " ++ (c.as_bytes.result.now ++ (codes " of " ++ (c.as_bytes-2.result.now ++ codes " tiles\n"))) in
-    let text : line ≡ tiles_line c.args.done c.args.held =
-    rw (done, held) (pieces (codes "rechecked ") (decimal c.args.done) (codes " of ") (decimal c.args.held) (codes " tiles\n")) in
+    let text : line ≡ tiles_line c.args.tiles.done c.args.tiles.held =
+    rw (done, held) (pieces (codes "rechecked ") (decimal c.args.tiles.done) (codes " of ") (decimal c.args.tiles.held) (codes " tiles\n")) in
     Writes-text _ _ _ _ _ _ _ text c.write_pieces.ensures

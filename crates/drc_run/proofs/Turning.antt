@@ -1,0 +1,225 @@
+-- Turns as they are taken, and how a run ends after them.
+use Rattle.std.proofs.Common.{◌≡◌, ◌∙◌, ◌⊎◌, inl, inr, refl, sym, ap, subst, ℕ, ◌+◌, ◌<◌, ◌≤◌, Bool, true, false, List, [], ◌∷◌, ◌++◌, length, map, take, drop, get_or, take-append-drop, append-nil, length-append, All, Option, Result, Ok, Err, IfOk, IfErr, MatchResult, arith}
+use Rattle.std.specs.Io.KnownBytes.{Appends, Keeps}
+use Rattle.std.proofs.KnownBytes.{Appends-nil, Appends-trans, Appends-kept}
+use Rattle.std.proofs.lemmas.List.{get_or-map, length-map, map-append, map_more}
+use Rattle.drc_io.specs.Causes.{Rose}
+use Rattle.drc_io.specs.Sinks.{AppendsFront, Writes}
+use Rattle.drc_io.specs.declared.Failed.{Failed}
+use Rattle.drc_io.proofs.Writing.{AppendsFront-after}
+use Rattle.pair_check.specs.PlainRow.{PlainRow}
+use Rattle.edit_script.specs.Commands.{PlainCommand}
+use Rattle.drc_state.specs.declared.error.EditError.{EditError}
+use Rattle.drc_state.specs.declared.error.EditError.TheVariants.{NoSuchItem, SharedName, PartOfFootprint, Item, Rules, Stopped, OutOfMemory as NoMemory}
+use Rattle.drc_state.specs.States.{State}
+use Rattle.drc_state.specs.Steps.{Answers}
+use Rattle.drc_session.specs.Sessions.{PlainSession, IsRefusedBy}
+use Rattle.drc_run.specs.declared.turns.Break.{Break}
+use Rattle.drc_run.specs.declared.turns.Break.TheVariants.{Unwritten}
+use Rattle.drc_run.specs.declared.status.Status.{Status}
+use Rattle.drc_run.specs.declared.status.Status.TheVariants.{WriteFault}
+use Rattle.drc_run.specs.Reports.{AreFindings, IsOpening, report_text, refused_line, why_edit}
+use Rattle.drc_run.specs.Turns.{AreTurns, IsTurn, refused}
+use Rattle.drc_run.specs.Output.{Output, status_of, IsStatusOf, IsTold, IsToldSoFar}
+use Rattle.drc_run.specs.Endings.{Whole, Front, Ends, number_of}
+use Rattle.drc_run.specs.Running.{found_of, IsTaken, IsBroken, AreTaken, AreBroken, IsAnswered, wanting, line, SoFar}
+use Rattle.drc_run.proofs.TurnLists.{one_more}
+use Rattle.drc_run.proofs.Written.{reporting}
+
+-- ---- one turn
+
+-- its text was written, or a front part of that
+module _ (short : Bool) (number : ℕ) (s : State) (command : PlainCommand) (next : State) (old new : Option (List ℕ)) (m n : ℕ) (text : List ℕ) (turn : IsTurn short number s command next text) where
+  pub taken_by : (r : Result (Unit {0}) Failed) (b : Result (Unit {0}) Break) → MatchResult r (λ u. b ≡ Ok u) (λ _. b ≡ Err Unwritten) → Writes {T = Unit {0}} {E = Failed} old new m n text r
+      → IfOk b (λ _. IsTaken short number s command next old new)
+  taken_by (Ok u) b e w = subst (λ (x : Result (Unit {0}) Break). IfOk x (λ _. IsTaken short number s command next old new)) (sym e) (record { text = text; turn = turn; written = w.bytes })
+  taken_by (Err f) b e w = subst (λ (x : Result (Unit {0}) Break). IfOk x (λ _. IsTaken short number s command next old new)) (sym e) tt
+
+  pub broken_by : (r : Result (Unit {0}) Failed) (b : Result (Unit {0}) Break) → MatchResult r (λ u. b ≡ Ok u) (λ _. b ≡ Err Unwritten) → Writes {T = Unit {0}} {E = Failed} old new m n text r
+      → IfErr b (λ _. Keeps old new ⊎ IsBroken short number s command old new)
+  broken_by (Ok u) b e w = subst (λ (x : Result (Unit {0}) Break). IfErr x (λ _. Keeps old new ⊎ IsBroken short number s command old new)) (sym e) tt
+  broken_by (Err f) b e w =
+      subst (λ (x : Result (Unit {0}) Break). IfErr x (λ _. Keeps old new ⊎ IsBroken short number s command old new)) (sym e) (inr (record { next = next; text = text; turn = turn; written = w.bytes }))
+
+-- what is refused but for want of memory
+refused_is : (old new : PlainSession) (command : PlainCommand) (why : EditError) → old.stopped ≡ false → (why ≡ NoMemory → ⊥) → IsRefusedBy old new command why → Answers old.state command (Err why) × (new ≡ old)
+refused_is old new command NoSuchItem runs n h = (h.1, h.2)
+refused_is old new command SharedName runs n h = (h.1, h.2)
+refused_is old new command PartOfFootprint runs n h = (h.1, h.2)
+refused_is old new command (Item e) runs n h = (h.1, h.2)
+refused_is old new command (Rules e) runs n h = (h.1, h.2)
+refused_is old new command Stopped runs n h = let both : true ≡ false = sym h.0 ∙ runs in absurd (cc)
+refused_is old new command NoMemory runs n h = absurd (n refl)
+
+module _ (short : Bool) (number : ℕ) (was is : PlainSession) (command : PlainCommand) (why : EditError) (old new : Option (List ℕ)) (m n : ℕ) (b : Result (Unit {0}) Break)
+    (runs : was.stopped ≡ false) (by : IsRefusedBy was is command why) where
+  its_turn : (why ≡ NoMemory → ⊥) → IsTurn short number was.state command is.state (refused_line number (why_edit why))
+  its_turn other = let h = refused_is was is command why runs other by in refused why h.0 (ap (λ (x : PlainSession). x.state) h.1) refl
+
+  pub refused_taken : IsAnswered number why old new m n b → IfOk b (λ _. IsTaken short number was.state command is.state old new)
+  refused_taken (wanting w e k f) = subst (λ (x : Result (Unit {0}) Break). IfOk x (λ _. IsTaken short number was.state command is.state old new)) (sym e) tt
+  refused_taken (line other r w e) = taken_by short number was.state command is.state old new m n (refused_line number (why_edit why)) (its_turn other) r b e w
+
+  pub refused_runs : IsAnswered number why old new m n b → IfOk b (λ _. is.stopped ≡ false)
+  refused_runs (wanting w e k f) = subst (λ (x : Result (Unit {0}) Break). IfOk x (λ _. is.stopped ≡ false)) (sym e) tt
+  refused_runs (line other r w e) = always b (ap (λ (x : PlainSession). x.stopped) (refused_is was is command why runs other by).1 ∙ runs)
+    where
+      always : (x : Result (Unit {0}) Break) → is.stopped ≡ false → IfOk x (λ _. is.stopped ≡ false)
+      always (Ok u) h = h
+      always (Err e) h = tt
+
+  pub refused_broken : IsAnswered number why old new m n b → IfErr b (λ _. Keeps old new ⊎ IsBroken short number was.state command old new)
+  refused_broken (wanting w e k f) = subst (λ (x : Result (Unit {0}) Break). IfErr x (λ _. Keeps old new ⊎ IsBroken short number was.state command old new)) (sym e) (inl k)
+  refused_broken (line other r w e) = broken_by short number was.state command is.state old new m n (refused_line number (why_edit why)) (its_turn other) r b e w
+
+-- a write failed where its fault rose
+pub fault_by : (old new : Option (List ℕ)) (m n : ℕ) (text : List ℕ) (r : Result (Unit {0}) Failed) (b : Result (Unit {0}) Break) → MatchResult r (λ u. b ≡ Ok u) (λ _. b ≡ Err Unwritten)
+    → Writes {T = Unit {0}} {E = Failed} old new m n text r → b ≡ Err Unwritten → Rose m n
+fault_by old new m n text (Ok u) b e w f = absurd (cc)
+fault_by old new m n text (Err x) b e w f = w.failed
+
+pub refused_fault : (number : ℕ) (why : EditError) (old new : Option (List ℕ)) (m n : ℕ) (b : Result (Unit {0}) Break) → IsAnswered number why old new m n b → b ≡ Err Unwritten → Rose m n
+refused_fault number why old new m n b (wanting w e k f) g = absurd (cc)
+refused_fault number why old new m n b (line other r w e) g = fault_by old new m n (refused_line number (why_edit why)) r b e w g
+
+pub refused_later : (number : ℕ) (why : EditError) (old new : Option (List ℕ)) (m n : ℕ) (b : Result (Unit {0}) Break) → IsAnswered number why old new m n b → m ≤ n
+refused_later number why old new m n b (wanting w e k f) = omega (arith, f)
+refused_later number why old new m n b (line other r w e) = w.later
+
+-- ---- one turn after another
+
+module _ {X : Type 0} (f : X → PlainCommand) where
+  -- commands are those that were carried out, and those that are left
+  pub split_at : (xs : List X) (k : ℕ) → map f xs ≡ map f (take k xs) ++ map f (drop k xs)
+  split_at xs k = ap (map f) (sym (take-append-drop k xs)) ∙ map-append f (take k xs) (drop k xs)
+
+  -- what all commands have, each has
+  pub each_has : (P : PlainCommand → Type 0) (xs : List X) (k : ℕ) (x : X) → All P (map f xs) → k < length xs → x ≡ get_or xs k x → P (f x)
+  each_has P xs k x all h e =
+      let long = length-map xs f in
+      subst P (get_or-map f xs k x (f x) h ∙ ap f (sym e)) (all k (f x) (omega (arith, long)))
+
+  -- the commands up to one and that one
+  pub more_at : (xs : List X) (k : ℕ) (x : X) → k < length xs → x ≡ get_or xs k x → map f (take (k + 1) xs) ≡ map f (take k xs) ++ f x ∷ []
+  more_at xs k x h e = map_more f xs k x h ∙ ap (λ y. map f (take k xs) ++ f y ∷ []) (sym e)
+
+pub one_longer : (done : List PlainCommand) (command : PlainCommand) (k : ℕ) → length done ≡ k → length (done ++ command ∷ []) ≡ k + 1
+one_longer done command k e = let long = length-append done (command ∷ []) in omega (arith, long, e)
+
+module _ (short : Bool) (s : State) where
+  -- before the first
+  pub none_taken : (session : PlainSession) (old : Option (List ℕ)) (n : ℕ) → session.state ≡ s → session.stopped ≡ false → SoFar short s [] 0 0 session old old n n
+  none_taken session old n same runs = record { counted = refl; reached = refl; running = runs; text = []; turns = (same, refl); written = Appends-nil old; later = omega arith }
+
+  module _ (done : List PlainCommand) (k number : ℕ) (session : PlainSession) (old mid now : Option (List ℕ)) (before faults : ℕ) (so : SoFar short s done k number session old mid before faults) where
+    next_number : (turn : ℕ) → turn ≡ number + 1 → turn ≡ 1 + length done
+    next_number turn e = let a = so.counted in let b = so.reached in omega (arith, a, b)
+
+    pub more_taken : (next : PlainSession) (turn : ℕ) (later : ℕ) (command : PlainCommand) → turn ≡ number + 1 → IsTaken short turn session.state command next.state mid now → next.stopped ≡ false → faults ≤ later
+        → length (done ++ command ∷ []) ≡ k + 1 → SoFar short s (done ++ command ∷ []) (k + 1) turn next old now before later
+    more_taken next turn later command e taken runs up long = record {
+      counted = (let a = so.counted in omega (arith, a));
+      reached = long;
+      running = runs;
+      text = so.text ++ taken.text;
+      turns = one_more (IsTurn short) 1 s done session.state so.text command next.state taken.text so.turns
+          (subst (λ (m : ℕ). IsTurn short m session.state command next.state taken.text) (next_number turn e) taken.turn);
+      written = Appends-trans old mid now so.text taken.text so.written taken.written;
+      later = (let a = so.later in omega (arith, a));
+    }
+
+    pub stopped_before : (commands left : List PlainCommand) → commands ≡ done ++ left → Keeps mid now → AreBroken short s commands old now
+    stopped_before commands left split keeps = record {
+      text = so.text;
+      turns = record { done = done; left = left; split = split; last = session.state; turns = so.turns };
+      written = record { front = so.text; rest = []; whole = sym (append-nil so.text); appended = Appends-kept old mid now so.text so.written keeps };
+    }
+
+    pub stopped_inside : (commands left : List PlainCommand) (turn : ℕ) (command : PlainCommand) → commands ≡ (done ++ command ∷ []) ++ left → turn ≡ number + 1 → IsBroken short turn session.state command mid now
+        → AreBroken short s commands old now
+    stopped_inside commands left turn command split e broken = record {
+      text = so.text ++ broken.text;
+      turns = record {
+        done = done ++ command ∷ [];
+        left = left;
+        split = split;
+        last = broken.next;
+        turns = one_more (IsTurn short) 1 s done session.state so.text command broken.next broken.text so.turns
+            (subst (λ (m : ℕ). IsTurn short m session.state command broken.next broken.text) (next_number turn e) broken.turn);
+      };
+      written = AppendsFront-after old mid now so.text broken.text so.written broken.written;
+    }
+
+  pub all_taken : (done commands : List PlainCommand) (k number : ℕ) (session : PlainSession) (old now : Option (List ℕ)) (before faults : ℕ) → SoFar short s done k number session old now before faults → done ≡ commands
+      → AreTaken short s commands session.state old now
+  all_taken done commands k number session old now before faults so same = record {
+    text = so.text;
+    turns = subst (λ (cs : List PlainCommand). AreTurns (IsTurn short) 1 s cs session.state so.text) same so.turns;
+    written = so.written;
+  }
+
+-- a turn broke off, or nothing of it was written
+pub stopped_at : (short : Bool) (s : State) {X : Type 0} (f : X → PlainCommand) (xs : List X) (k : ℕ) (x : X) → k < length xs → x ≡ get_or xs k x → (number : ℕ) (session : PlainSession) (old mid now : Option (List ℕ)) (before faults : ℕ)
+    → SoFar short s (map f (take k xs)) k number session old mid before faults → Keeps mid now ⊎ IsBroken short (number + 1) session.state (f x) mid now → AreBroken short s (map f xs) old now
+stopped_at short s f xs k x h e number session old mid now before faults so (inl keeps) =
+    stopped_before short s (map f (take k xs)) k number session old mid now before faults so (map f xs) (map f (drop k xs)) (split_at f xs k) keeps
+stopped_at short s f xs k x h e number session old mid now before faults so (inr broken) =
+    let split = split_at f xs (k + 1) ∙ ap (λ (l : List PlainCommand). l ++ map f (drop (k + 1) xs)) (more_at f xs k x h e) in
+    stopped_inside short s (map f (take k xs)) k number session old mid now before faults so (map f xs) (map f (drop (k + 1) xs)) (number + 1) (f x) split refl broken
+
+-- a later count rose
+pub rose_since : (m n k : ℕ) → m ≤ n → Rose n k → Rose m k
+rose_since m n k h (inl r) = inl (omega arith)
+rose_since m n k h (inr r) = inr r
+
+-- ---- the end
+
+-- the report of a session is that of the opening, where all tiles that hold an item were gone through
+pub opening_is : (short : Bool) (session : PlainSession) (done held : ℕ) → AreFindings session.state (found_of session held) → done ≡ held
+    → IsOpening short session.state (report_text short 0 session.state (found_of session held) done)
+opening_is short session done held are whole = record {
+  found = found_of session held;
+  are_findings = are;
+  text_is = ap (λ (n : ℕ). report_text short 0 session.state (found_of session held) n) whole;
+}
+
+module _ (short : Bool) (opening : State) (commands : List PlainCommand) (old mid new : Option (List ℕ)) (first : List ℕ) (is : IsOpening short opening first) where
+  -- all was written
+  pub told_whole : (last : State) (status : Status) → Appends old mid first → AreTaken short opening commands last mid new → IsStatusOf last (number_of status)
+      → Ends (IsTold short opening commands) (IsToldSoFar short opening commands) (λ _. ⊥) old new status
+  told_whole last status w taken is_status =
+      let out : Output = record { text = first ++ taken.text; status = number_of status } in
+      let told : IsTold short opening commands out = record { first = first; first_is = is; rest = taken.text; last = last; turns = taken.turns; text_is = refl; status = is_status } in
+      let whole : Whole (IsTold short opening commands) old new (number_of status) = (out, told, refl, Appends-trans old mid new first taken.text w taken.written) in
+      reporting (IsTold short opening commands) (IsToldSoFar short opening commands) (λ _. ⊥) old new is_status.rows status is_status.status_is
+      (subst (Whole (IsTold short opening commands) old new) is_status.status_is whole)
+
+  -- it broke off behind the opening
+  pub told_front : Appends old mid first → AreBroken short opening commands mid new → Front (IsToldSoFar short opening commands) old new
+  told_front w broken = inr (
+    first ++ broken.text,
+    record { first = first; first_is = is; rest = broken.text; turns = broken.turns; text_is = refl },
+    AppendsFront-after old mid new first broken.text w broken.written,
+  )
+
+  -- it broke off in the opening
+  pub first_front : AppendsFront old new first → Front (IsToldSoFar short opening commands) old new
+  first_front w = inr (
+    first,
+    record {
+      first = first;
+      first_is = is;
+      rest = [];
+      turns = record { done = []; left = commands; split = refl; last = opening; turns = (refl, refl) };
+      text_is = sym (append-nil first);
+    },
+    w,
+  )
+
+-- a status of rows is no write fault
+pub no_fault : (s : State) (status : Status) → IsStatusOf s (number_of status) → status ≡ WriteFault → ⊥
+no_fault s status is e = by_rows is.rows (sym (ap number_of e) ∙ is.status_is)
+  where
+    by_rows : (rows : List PlainRow) → 5 ≡ status_of rows → ⊥
+    by_rows [] h = omega (arith, h)
+    by_rows (row ∷ rows) h = omega (arith, h)

@@ -1,0 +1,107 @@
+-- What the words of the command line ask for: what `clap` makes of them, by the program's command. A further thing that they may ask
+-- for is one entry more in each table here.
+use Rattle.std.specs.Prelude.{ℕ, List, [], ◌∷◌, Option, None, Some, Result, Ok, Err, true, ◌&&◌, nat_le, if◌then◌else◌, map, codes}
+use Rattle.std.specs.Option.{option_map}
+use Rattle.std.proofs.Common.{Bor}
+use Rattle.exact_dec.specs.declared.DecError.{DecError}
+use Rattle.exact_dec.specs.Computed.{count_answer}
+use Rattle.clap.specs.Words.{App, Rule, Row, Kinds, new_app, new_rule, with_rule, fault_of, matches_of, first_of}
+use Rattle.clap.specs.Simple.{Shape, on_top}
+
+-- ---- the command
+
+-- the words do not begin with the program's name, and none of them asks for help or for the version
+abbrev pub settings_of : Shape → Shape
+settings_of shape = record shape { no_binary_name = true; disable_help_flag = true; disable_version_flag = true }
+
+-- an option that has a value, as `--NAME VALUE`
+abbrev pub option_rule : List ℕ → Rule
+option_rule name = record (new_rule name) { long = Some name }
+
+-- the program without its arguments
+abbrev pub bare_app : App
+bare_app = on_top settings_of (new_app (codes "drc"))
+
+-- the board's file, and after `--project`, `--rules` and `--script` the other files
+abbrev pub app_with_files : App
+app_with_files =
+    with_rule (with_rule (with_rule (with_rule bare_app (new_rule (codes "BOARD"))) (option_rule (codes "project"))) (option_rule (codes "rules"))) (option_rule (codes "script"))
+
+-- and after `--workers` and `--make` a number; none of the six must be there
+abbrev pub drc_app : App
+drc_app = with_rule (with_rule app_with_files (option_rule (codes "workers"))) (option_rule (codes "make"))
+
+-- ---- the reading
+
+-- where a board comes from: a file, or the generated board of so many
+pub data Source : Type 0 where
+  file : List ℕ → Source
+  made : ℕ → Source
+
+-- what is checked, and by how many workers
+pub record Reading : Type 0 where
+  pub board : Source
+  pub project : Option (List ℕ)
+  pub rules : Option (List ℕ)
+  pub script : Option (List ℕ)
+  pub workers : ℕ
+
+-- a number from `low` to `high`
+abbrev pub in_range : ℕ → ℕ → Result ℕ DecError → Option ℕ
+in_range low high (Ok n) = if nat_le low n && nat_le n high then Some n else None
+in_range low high (Err e) = None
+
+abbrev pub number_in : ℕ → ℕ → List ℕ → Option ℕ
+number_in low high text = in_range low high (count_answer text)
+
+-- one worker, where no number is given
+abbrev pub workers_of : Option (List ℕ) → Option ℕ
+workers_of None = Some 1
+workers_of (Some text) = number_in 1 64 text
+
+-- exactly one of a file and a generated board
+abbrev pub source_of : Option (List ℕ) → Option (List ℕ) → Option Source
+source_of (Some name) None = Some (file name)
+source_of None (Some text) = option_map made (number_in 1 90000 text)
+source_of (Some name) (Some text) = None
+source_of None None = None
+
+abbrev pub reading_with : Option Source → Option ℕ → (project rules script : Option (List ℕ)) → Option Reading
+reading_with (Some board) (Some workers) project rules script = Some (record { board = board; project = project; rules = rules; script = script; workers = workers })
+reading_with (Some board) None project rules script = None
+reading_with None workers project rules script = None
+
+-- what the matches give, each the value of its argument
+abbrev pub reading_by : (List ℕ → Option (List ℕ)) → Option Reading
+reading_by value =
+    reading_with (source_of (value (codes "BOARD")) (value (codes "make"))) (workers_of (value (codes "workers"))) (value (codes "project")) (value (codes "rules")) (value (codes "script"))
+
+-- where the words have no fault
+abbrev pub reading_if : Kinds → List Row → Option Reading
+reading_if [] rows = reading_by (λ name. first_of name rows)
+reading_if (fault ∷ faults) rows = None
+
+-- the reading of the words, which have none where `clap` refuses them
+unfoldable pub reading_of : List (List ℕ) → Option Reading
+reading_of words = reading_if (fault_of drc_app words) (matches_of drc_app words)
+
+-- ---- calls
+
+-- what is asked for: nothing, and then this line says how the program is called, or a check
+pub data Call : Type 0 where
+  nothing : (usage : List ℕ) → Call
+  check : Reading → Call
+
+abbrev pub usage_line : List ℕ
+usage_line = codes "usage: drc [BOARD] [--project FILE] [--rules FILE] [--script FILE] [--workers N] [--make N]\n"
+
+abbrev pub check_if : Option Reading → Call
+check_if None = nothing usage_line
+check_if (Some reading) = check reading
+
+abbrev pub call_of : List (List ℕ) → Call
+call_of words = check_if (reading_of words)
+
+-- the words as lists of bytes
+abbrev pub words_of : List (Bor (List ℕ)) → List (List ℕ)
+words_of words = map (λ word. word.now) words
