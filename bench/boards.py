@@ -1,5 +1,5 @@
 #!/usr/bin/env python3
-"""Writes boards and rule files to time the program with: boards.py KIND NUMBER > FILE.
+"""Writes boards, rule files and scripts to time the program with: boards.py KIND NUMBER > FILE.
 
 made N       N vias on a grid, each with a short track; every seventh track comes near its neighbour
 crowd N      N short tracks of as many nets within 8 mm by 8 mm
@@ -10,8 +10,17 @@ routes N     N nets of 200 vias each without a track
 piece N      one net of N vias in a row, each touching the next
 loose N      one net of N vias, none touching another
 areas N      N rule areas of 920 mm by 920 mm that forbid footprints alone, and one track
+ground N     N footprints with courtyards, on no net, under a rule area and a fill that each cover the whole board
+beside N     N equal tracks in one tile, and a via alone in another
 rules N      a rule file of N rules with conditions; of none it asks for a clearance of a thousandth of a millimetre
+
+Scripts, each of N commands:
+edits N      for `made 90000`: of each twenty commands twelve moves, three deletions and five additions of single tracks and vias
+places N     for `ground 10000`: footprints that are moved
+steps N      for `beside N`: the lone via, to and fro
+turns N      for any board: rules that replace the rules, with one reach and then with another
 """
+import random
 import sys
 
 HEAD = '(kicad_pcb (version 20221018) (generator pcbnew)\n(layers (0 "F.Cu" signal) (31 "B.Cu" signal))\n(net 0 "")\n'
@@ -110,6 +119,62 @@ def areas(count):
     yield track(0, 0, 1, 0, 1, "t")
 
 
+def footprint(k, x, y):
+    return '(footprint "L:F" (layer "F.Cu") (tstamp f%d) (at %d %d) (fp_text reference "U%d" (at 0 0) (layer "F.SilkS")) (fp_rect (start -2 -2) (end 2 2) (width 0.05) (layer "F.CrtYd")) (pad "1" smd rect (at 0 0) (size 0.6 0.6) (layers "F.Cu") (tstamp p%d)))\n' % (k, x, y, k, k)
+
+
+def ground(count):
+    yield nets(1)
+    corners = [(-460, -460), (460, -460), (460, 460), (-460, 460)]
+    spots = " ".join("(xy %d %d)" % corner for corner in corners)
+    yield '(zone (net 0) (net_name "") (layer "F.Cu") (tstamp area) (name "all") (keepout (tracks allowed) (vias allowed) (pads allowed) (copperpour allowed) (footprints allowed)) (polygon (pts %s)))\n' % spots
+    yield '(zone (net 1) (layer "B.Cu") (tstamp pour) (filled_areas_thickness no) (filled_polygon (layer "B.Cu") (pts %s)))\n' % spots
+    for k in range(count):
+        yield footprint(k, -450 + 9 * (k % 100), -450 + 9 * (k // 100))
+
+
+def beside(count):
+    yield nets(2)
+    for k in range(count):
+        yield track(104, 104, 105, 104, 1, "s", "0.2")
+    yield via(304, 304, 2, "a")
+
+
+def edits(count):
+    """the names that stand on the board `made 90000`, less those that were deleted, with those that were added"""
+    dice = random.Random(7)
+    names = ["%s%d" % (word, k) for k in range(90000) for word in ("v", "s")]
+    for k in range(count):
+        place = dice.randrange(len(names))
+        if k % 20 < 12:
+            print('(move "%s" %s %s)' % (names[place], mm(dice.randrange(-2000000, 2000001)), mm(dice.randrange(-2000000, 2000001))))
+        elif k % 20 < 15:
+            print('(delete "%s")' % names[place])
+            names[place] = names[-1]
+            names.pop()
+        else:
+            x, y, net, name = dice.randrange(-450, 450), dice.randrange(-450, 450), dice.randrange(1, 1001), "e%d" % k
+            names.append(name)
+            item = via(x, y, net, name) if k % 2 else track(x, y, x + 2, y, net, name)
+            print("(add %s)" % item.strip())
+
+
+def places(count):
+    dice = random.Random(7)
+    for k in range(count):
+        print('(move "f%d" %s %s)' % (dice.randrange(10000), mm(dice.randrange(-3000000, 3000001)), mm(dice.randrange(-3000000, 3000001))))
+
+
+def steps(count):
+    for k in range(count):
+        print('(move "a" %d 0)' % (1 - 2 * (k % 2)))
+
+
+def turns(count):
+    for k in range(count):
+        print('(rules (version 1) (rule r (constraint clearance (min 0.%dmm))))' % (1 + k % 2))
+
+
 def rules(count):
     print("(version 1)")
     if count == 0:
@@ -120,10 +185,11 @@ def rules(count):
 
 def main():
     kind, number = sys.argv[1], int(sys.argv[2])
-    if kind == "rules":
-        rules(number)
+    printed = {"rules": rules, "edits": edits, "places": places, "steps": steps, "turns": turns}
+    if kind in printed:
+        printed[kind](number)
         return
-    makers = {"made": made, "crowd": crowd, "fill": fill, "combs": combs, "parts": parts, "routes": routes, "areas": areas,
+    makers = {"made": made, "crowd": crowd, "fill": fill, "combs": combs, "parts": parts, "routes": routes, "areas": areas, "ground": ground, "beside": beside,
               "piece": lambda n: row(n, 700000), "loose": lambda n: row(n, 2000000)}
     sys.stdout.write(HEAD)
     for line in makers[kind](number):
