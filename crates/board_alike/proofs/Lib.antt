@@ -1,0 +1,14 @@
+pub mod Roots
+pub mod Ledger
+pub mod Turning
+pub mod Commands
+pub mod Following
+pub mod Starting
+pub mod Plain
+pub mod Grouping
+pub mod Adding
+pub mod Staging
+pub mod Together
+pub mod Fitting
+pub mod Appending
+pub mod Heading

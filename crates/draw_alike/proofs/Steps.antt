@@ -1,0 +1,47 @@
+-- Single steps of chains of answers.
+use Rattle.std.proofs.Common.{◌≡◌, refl, sym, subst, ℕ, Bool, true, false, List, [], ◌∷◌, Option, None, Some, Result, Ok, Err}
+use Rattle.sexpr_read.specs.declared.place.Span.{Span}
+use Rattle.sexpr_read.specs.Tree.{Forest, none, atom, list, Tree, leaf, branch, trees, parts}
+use Rattle.board_items.specs.declared.errors.BoardError.{BoardError}
+use Rattle.part_read.specs.Elements.{◌>>=◌, needed, check, has_head, element}
+use Rattle.read_alike.specs.Alike.{Shift, Alike}
+use Rattle.read_alike.specs.Agreeing.{Agrees, AlikeParts, FoundAlike, forest_in}
+use Rattle.read_alike.specs.Carried.{Leads}
+use Rattle.read_alike.proofs.Elements.{heads_alike, find_alike}
+
+-- what is known of the first answer too
+pub agrees_with : {A B : Type 0} (R : A → B → Type 0) (P : A → Type 0) (a : Result A BoardError) (b : Result B BoardError) → ((x : A) → a ≡ Ok x → P x) → Agrees R a b → Agrees (λ x y. R x y × P x) a b
+agrees_with R P (Ok x) (Ok y) known h = (h, known x refl)
+agrees_with R P (Ok x) (Err e) known h = absurd h
+agrees_with R P (Err e) b known h = tt
+
+-- a test that has the same answer in both
+pub agrees_check : {A B : Type 0} (R : A → B → Type 0) (a b : Bool) (d e : BoardError) (f : Unit {0} → Result A BoardError) (g : Unit {0} → Result B BoardError) → b ≡ a → (a ≡ true → Agrees R (f tt) (g tt))
+    → Agrees R (check d a >>= f) (check e b >>= g)
+agrees_check R true true d e f g same h = h refl
+agrees_check R true false d e f g same h = absurd cc
+agrees_check R false b d e f g same h = tt
+
+pub leads_check : {A B : Type 0} (Q : A → Result B BoardError → Type 0) (a b : Bool) (d e : BoardError) (f : Unit {0} → Result A BoardError) (g : Unit {0} → Result B BoardError) → b ≡ a → (a ≡ true → Leads Q (f tt) (g tt))
+    → Leads Q (check d a >>= f) (check e b >>= g)
+leads_check Q true true d e f g same h = h refl
+leads_check Q true false d e f g same h = absurd cc
+leads_check Q false b d e f g same h = tt
+
+pub leads_needed : {A B C : Type 0} (Q : C → Result B BoardError → Type 0) (e : BoardError) (o : Option A) (f : A → Result C BoardError) (answer : Result B BoardError) → ((x : A) → o ≡ Some x → Leads Q (f x) answer)
+    → Leads Q (needed e o >>= f) answer
+leads_needed Q e None f answer h = tt
+leads_needed Q e (Some x) f answer h = h x refl
+
+-- ---- elements of lists whose parts are alike
+
+pub parts_are : (t : Tree) → parts t ≡ trees (forest_in t)
+parts_are (leaf s q c) = refl
+parts_are (branch s inside) = refl
+
+pub element_in : (d : Option Shift) (word : List ℕ) (t u : Tree) → AlikeParts d t u → FoundAlike d (has_head word) (element word t) (element word u)
+unfolding element
+element_in d word (leaf s q c) (leaf r p e) h = tt
+element_in d word (leaf s q c) (branch r j) h = find_alike d (has_head word) (λ t u k. heads_alike d t u word k) none j h
+element_in d word (branch s i) (leaf r p e) h = find_alike d (has_head word) (λ t u k. heads_alike d t u word k) i none h
+element_in d word (branch s i) (branch r j) h = find_alike d (has_head word) (λ t u k. heads_alike d t u word k) i j h

@@ -1,0 +1,5 @@
+pub mod Tracks
+pub mod Given
+pub mod Vias
+pub mod Units
+pub mod Zones

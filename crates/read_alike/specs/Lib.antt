@@ -1,0 +1,6 @@
+pub mod Alike
+pub mod Agreeing
+pub mod Moved
+pub mod Carried
+pub mod Moving
+pub mod Standing

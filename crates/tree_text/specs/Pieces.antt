@@ -1,0 +1,61 @@
+-- Which trees a piece of text spells, by its bytes alone: places play no part in it.
+use Rattle.std.specs.Prelude.{◌≡◌, ℕ, Bool, true, false, List, [], ◌∷◌, ◌++◌, ⊤}
+use Rattle.sexpr_read.specs.declared.bytes.Class.TheVariants.{Space, Backslash}
+use Rattle.sexpr_read.specs.Bytes.{class_of, is_word, is_itself}
+use Rattle.sexpr_read.specs.Tree.{Forest, none, atom, list}
+
+-- nothing but space
+abbrev pub IsBlank : List ℕ → Type 0
+IsBlank [] = ⊤
+IsBlank (b ∷ bytes) = (class_of b ≡ Space) × IsBlank bytes
+
+-- nothing but what words are made of
+abbrev pub AreOfWord : List ℕ → Type 0
+AreOfWord [] = ⊤
+AreOfWord (b ∷ bytes) = (is_word (class_of b) ≡ true) × AreOfWord bytes
+
+-- what may stand between two quotes
+pub data IsInside : List ℕ → Type 0 where
+  empty : IsInside []
+  itself : {b : ℕ} {bytes : List ℕ} → is_itself (class_of b) ≡ true → IsInside bytes → IsInside (b ∷ bytes)
+  escape : {b c : ℕ} {bytes : List ℕ} → class_of b ≡ Backslash → IsInside bytes → IsInside (b ∷ c ∷ bytes)
+
+-- an atom's content is that of some word, or of some string
+abbrev pub IsContentOf : Bool → List ℕ → Type 0
+IsContentOf false [] = ⊥
+IsContentOf false (b ∷ bytes) = AreOfWord (b ∷ bytes)
+IsContentOf true bytes = IsInside bytes
+
+-- the atom as it stands in a text: a string has its quotes
+abbrev pub written : Bool → List ℕ → List ℕ
+written false content = content
+written true content = 34 ∷ (content ++ 34 ∷ [])
+
+-- what follows a word is no further byte of it
+abbrev pub IsApart : List ℕ → Type 0
+IsApart [] = ⊤
+IsApart (b ∷ bytes) = is_word (class_of b) ≡ false
+
+abbrev pub MayFollow : Bool → List ℕ → Type 0
+MayFollow false rest = IsApart rest
+MayFollow true rest = ⊤
+
+-- the bytes spell these trees, whatever spans these have
+abbrev pub Writes : List ℕ → Forest → Type 0
+Writes bytes none = IsBlank bytes
+Writes bytes (atom s q content others) =
+    (gap : List ℕ) × (rest : List ℕ) × (bytes ≡ gap ++ (written q content ++ rest)) × IsBlank gap × IsContentOf q content × MayFollow q rest × Writes rest others
+Writes bytes (list s inside others) =
+    (gap : List ℕ) × (within : List ℕ) × (rest : List ℕ) × (bytes ≡ gap ++ (40 ∷ (within ++ (41 ∷ rest)))) × IsBlank gap × Writes within inside × Writes rest others
+
+-- the same trees, but for their spans
+abbrev pub SameTrees : Forest → Forest → Type 0
+SameTrees none none = ⊤
+SameTrees none (atom t r d rest) = ⊥
+SameTrees none (list t within rest) = ⊥
+SameTrees (atom s q c others) none = ⊥
+SameTrees (atom s q c others) (atom t r d rest) = (q ≡ r) × (c ≡ d) × SameTrees others rest
+SameTrees (atom s q c others) (list t within rest) = ⊥
+SameTrees (list s inside others) none = ⊥
+SameTrees (list s inside others) (atom t r d rest) = ⊥
+SameTrees (list s inside others) (list t within rest) = SameTrees inside within × SameTrees others rest
