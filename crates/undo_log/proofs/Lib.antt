@@ -1,0 +1,6 @@
+pub mod Ways
+pub mod Answers
+pub mod Back
+pub mod Reports
+pub mod Kept
+pub mod Stepped

@@ -1,0 +1,136 @@
+-- The calls of a history, by what was kept of them.
+use Rattle.std.proofs.Common.{◌≡◌, refl, sym, ap, subst, ◌∙◌, ℕ, Bool, true, false, List, [], ◌∷◌, Result, Ok, Err, if◌then◌else◌}
+use Rattle.edit_script.specs.Commands.{PlainCommand, edit, undo, redo}
+use Rattle.drc_state.specs.declared.error.EditError.{EditError}
+use Rattle.drc_state.specs.States.{State}
+use Rattle.drc_state.specs.Steps.{is_rules, Answers}
+use Rattle.drc_state.specs.Changes.{PlainChange, is_replace, Makes, ChangeFits}
+use Rattle.drc_session.specs.declared.applied.Applied.{Applied}
+use Rattle.drc_session.specs.Sessions.{IsApplied, IsCarriedOut}
+use Rattle.undo_log.specs.declared.error.HistoryError.{HistoryError}
+use Rattle.undo_log.specs.declared.error.HistoryError.TheVariants.{Edit, NothingToUndo, NothingToRedo}
+use Rattle.undo_log.specs.Past.{Past, Passed, is_again, edited, undone, undone_to, redone, redone_to, StepAnswers, nearest_replaced}
+use Rattle.undo_log.specs.Ways.{PlainHistory, Leads, DoLead, AreWays, IsPastOf}
+use Rattle.undo_log.specs.Keeping.{IsNoted, IsSwitched}
+use Rattle.undo_log.specs.Taking.{IsStepFrom, IsTaken}
+use Rattle.undo_log.proofs.Answers.{more_answered, one_again}
+use Rattle.undo_log.proofs.Ways.{one_edit}
+
+ways_on : (s t : State) (back back_now on on_now : List PlainChange) (past : Past) → t ≡ s → back_now ≡ back → on_now ≡ on → AreWays s back on past → AreWays t back_now on_now past
+ways_on s t back back_now on on_now past same b o ways =
+    subst (λ (x : State). AreWays x back_now on_now past) (sym same)
+    (subst (λ (cs : List PlainChange). AreWays s cs on_now past) (sym b)
+    (subst (λ (cs : List PlainChange). AreWays s back cs past) (sym o) ways))
+
+applied_on : (s t was is : State) (replaced does : Bool) (applied : Applied) → was ≡ s → is ≡ t → does ≡ replaced → IsApplied s t replaced applied → IsApplied was is does applied
+applied_on s t was is replaced does applied w i d h =
+    subst (λ (x : State). IsApplied x is does applied) (sym w)
+    (subst (λ (x : State). IsApplied s x does applied) (sym i)
+    (subst (λ (b : Bool). IsApplied s t b applied) (sym d) h))
+
+-- ---- edits
+
+module _ (old new : PlainHistory) (command : PlainCommand) (applied : Applied) (carried : IsCarriedOut old.session new.session command applied)
+    (noted : IsNoted old.session.state new.session.state command old.back new.back old.on new.on) where
+  abbrev s : State
+  s = old.session.state
+
+  abbrev t : State
+  t = new.session.state
+
+  ways_edited : (past : Past) → IsPastOf old past → Answers s command (Ok t) → (b : Bool) → is_again command ≡ b → AreWays t new.back new.on (edited past command t)
+  ways_edited past ways says true is =
+      let same = noted.again is in
+      subst (λ (b : Bool). AreWays t new.back new.on (if b then past else record { earlier = record { state = past.now; replaced = is_rules command } ∷ past.earlier; now = t; later = [] })) (sym is)
+      (ways_on s t old.back new.back old.on new.on past (one_again s t command is says) same.0 same.1 ways)
+  ways_edited past ways says false is =
+      let kept = noted.other is in
+      let more = more_answered s t command says in
+      ways_on t t (kept.0 ∷ old.back) new.back [] new.on (edited past command t) refl kept.2 kept.3
+      (one_edit s t command kept.0 old.back old.on past ways is more.ids more.units kept.1)
+
+  step_edited : (past : Past) → IsPastOf old past → IsStepFrom past new (edit command) applied
+  step_edited past ways =
+      let after = ways_edited past ways carried.answer (is_again command) refl in
+      record {
+        next = edited past command t;
+        answer = (Ok t, subst (λ (x : State). Answers x command (Ok t)) (sym ways.present) carried.answer, refl);
+        is_past = after;
+        applied_is = applied_on s t past.now (edited past command t).now (is_rules command) (is_rules command) applied ways.present after.present refl carried.applied_is;
+      }
+
+  pub edit_taken : old.stopped ≡ false → new.stopped ≡ false → IsTaken old new (edit command) applied
+  edit_taken was runs = record { running = (was, runs); steps = step_edited }
+
+-- a refused command is a refused step
+pub edit_refused : (old : PlainHistory) (command : PlainCommand) (why : EditError) → Answers old.session.state command (Err why) → (past : Past) → IsPastOf old past → StepAnswers past (edit command) (Err (Edit why))
+edit_refused old command why says past ways = (Err why, subst (λ (x : State). Answers x command (Err why)) (sym ways.present) says, refl)
+
+-- ---- steps back and on
+
+-- the nearest change fits
+pub nearest_fits : (now : State) (changes : List PlainChange) (passed : List Passed) → DoLead now changes passed → (change : PlainChange) (others : List PlainChange) → changes ≡ change ∷ others → ChangeFits now change
+nearest_fits now changes passed lead change others is = by passed (subst (λ (cs : List PlainChange). DoLead now cs passed) is lead)
+  where
+    by : (passed : List Passed) → DoLead now (change ∷ others) passed → ChangeFits now change
+    by [] h = absurd h
+    by (one ∷ far) h = h.0.back.fits
+
+nearest_kind : (now : State) (change : PlainChange) (others : List PlainChange) (passed : List Passed) → DoLead now (change ∷ others) passed → nearest_replaced passed ≡ is_replace change
+nearest_kind now change others [] h = absurd h
+nearest_kind now change others (one ∷ far) h = sym h.0.kind
+
+-- where no change leads on, nothing was passed
+none_passed : (now : State) (changes : List PlainChange) (passed : List Passed) → changes ≡ [] → DoLead now changes passed → passed ≡ []
+none_passed now changes passed is lead = by passed (subst (λ (cs : List PlainChange). DoLead now cs passed) is lead)
+  where
+    by : (passed : List Passed) → DoLead now [] passed → passed ≡ []
+    by [] h = refl
+    by (one ∷ far) h = absurd h
+
+pub none_to_undo : (old : PlainHistory) (at : ℕ) → old.back ≡ [] → (past : Past) → IsPastOf old past → StepAnswers past (undo at) (Err NothingToUndo)
+none_to_undo old at is past ways = ap (λ (passed : List Passed). undone_to past passed) (sym (none_passed old.session.state old.back past.earlier is ways.earlier))
+
+pub none_to_redo : (old : PlainHistory) (at : ℕ) → old.on ≡ [] → (past : Past) → IsPastOf old past → StepAnswers past (redo at) (Err NothingToRedo)
+none_to_redo old at is past ways = ap (λ (passed : List Passed). redone_to past passed) (sym (none_passed old.session.state old.on past.later is ways.later))
+
+module _ (old new : PlainHistory) (applied : Applied) where
+  abbrev was : State
+  was = old.session.state
+
+  abbrev is : State
+  is = new.session.state
+
+  module _ (one_undo : (s t : State) (change other : PlainChange) (back on : List PlainChange) (past : Past) → AreWays s (change ∷ back) on past → Makes change s t → Leads other t (record { state = s; replaced = is_replace change })
+      → (next : Past) × (undone past ≡ Ok next) × AreWays t back (other ∷ on) next)
+      (switched : IsSwitched old.session new.session old.back new.back old.on new.on applied) where
+    step_undone : (at : ℕ) (past : Past) → IsPastOf old past → IsStepFrom past new (undo at) applied
+    step_undone at past ways =
+        let here = ways_on was was old.back (switched.change ∷ new.back) old.on old.on past refl (sym switched.from_is) refl ways in
+        let found = one_undo was is switched.change switched.back new.back old.on past here switched.turned.makes switched.leads in
+        record {
+          next = found.0;
+          answer = sym found.1;
+          is_past = ways_on is is new.back new.back (switched.back ∷ old.on) new.on found.0 refl refl switched.to_is found.2;
+          applied_is = applied_on was is past.now found.0.now (is_replace switched.change) (nearest_replaced past.earlier) applied ways.present found.2.present (nearest_kind was switched.change new.back past.earlier here.earlier) switched.turned.applied_is;
+        }
+
+    pub undo_taken : old.stopped ≡ false → new.stopped ≡ false → (at : ℕ) → IsTaken old new (undo at) applied
+    undo_taken w r at = record { running = (w, r); steps = step_undone at }
+
+  module _ (one_redo : (s t : State) (change other : PlainChange) (back on : List PlainChange) (past : Past) → AreWays s back (change ∷ on) past → Makes change s t → Leads other t (record { state = s; replaced = is_replace change })
+      → (next : Past) × (redone past ≡ Ok next) × AreWays t (other ∷ back) on next)
+      (switched : IsSwitched old.session new.session old.on new.on old.back new.back applied) where
+    step_redone : (at : ℕ) (past : Past) → IsPastOf old past → IsStepFrom past new (redo at) applied
+    step_redone at past ways =
+        let here = ways_on was was old.back old.back old.on (switched.change ∷ new.on) past refl refl (sym switched.from_is) ways in
+        let found = one_redo was is switched.change switched.back old.back new.on past here switched.turned.makes switched.leads in
+        record {
+          next = found.0;
+          answer = sym found.1;
+          is_past = ways_on is is (switched.back ∷ old.back) new.back new.on new.on found.0 refl switched.to_is refl found.2;
+          applied_is = applied_on was is past.now found.0.now (is_replace switched.change) (nearest_replaced past.later) applied ways.present found.2.present (nearest_kind was switched.change new.on past.later here.later) switched.turned.applied_is;
+        }
+
+    pub redo_taken : old.stopped ≡ false → new.stopped ≡ false → (at : ℕ) → IsTaken old new (redo at) applied
+    redo_taken w r at = record { running = (w, r); steps = step_redone at }

@@ -1,0 +1,5 @@
+pub mod Past
+pub mod Ways
+pub mod Taking
+pub mod Keeping
+pub mod Reasons

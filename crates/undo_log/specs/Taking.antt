@@ -1,0 +1,27 @@
+-- What the calls of a history do. The first two are of every past that the history may be said to have.
+use Rattle.std.specs.Prelude.{◌≡◌, true, false, Result, Ok, Err}
+use Rattle.edit_script.specs.Commands.{PlainStep}
+use Rattle.drc_session.specs.declared.applied.Applied.{Applied}
+use Rattle.drc_session.specs.Sessions.{IsApplied}
+use Rattle.undo_log.specs.declared.error.HistoryError.{HistoryError}
+use Rattle.undo_log.specs.declared.error.HistoryError.TheVariants.{Stopped, OutOfMemory}
+use Rattle.undo_log.specs.Past.{Past, StepAnswers, does_replace}
+use Rattle.undo_log.specs.Ways.{PlainHistory, IsPastOf}
+
+-- the step leads from this past to the one that the history then has
+pub record IsStepFrom (past : Past) (new : PlainHistory) (step : PlainStep) (applied : Applied) : Type 0 where
+  pub next : Past
+  pub answer : StepAnswers past step (Ok next)
+  pub is_past : IsPastOf new next
+  pub applied_is : IsApplied past.now next.now (does_replace past step) applied
+
+-- the step was taken
+pub record IsTaken (old new : PlainHistory) (step : PlainStep) (applied : Applied) : Type 0 where
+  pub running : (old.stopped ≡ false) × (new.stopped ≡ false)
+  pub steps : (past : Past) → IsPastOf old past → IsStepFrom past new step applied
+
+-- why it was not: the history is stopped, or memory ran out, or the step is refused and all is as it was
+abbrev pub IsRefused : PlainHistory → PlainHistory → PlainStep → HistoryError → Type 0
+IsRefused old new step Stopped = (old.stopped ≡ true) × (new ≡ old)
+IsRefused old new step OutOfMemory = (old.stopped ≡ false) × (new.stopped ≡ true)
+IsRefused old new step why = (old.stopped ≡ false) × ((past : Past) → IsPastOf old past → StepAnswers past step (Err why)) × (new ≡ old)

@@ -1,0 +1,47 @@
+-- The changes that a history keeps, and the past that they lead through.
+use Rattle.std.specs.Prelude.{◌≡◌, Bool, List, [], ◌∷◌, map, reverse}
+use Rattle.board_edits.specs.Fitting.{AddsNone}
+use Rattle.drc_state.specs.declared.change.Change.{Change}
+use Rattle.drc_state.specs.States.{State}
+use Rattle.drc_state.specs.Changes.{PlainChange, edit, replace, plain_change, is_replace, returned, LeadsBack}
+use Rattle.drc_session.specs.Sessions.{PlainSession}
+use Rattle.undo_log.specs.Past.{Past, Passed}
+
+-- the changes that lead back and those that lead on, the nearest first on both sides; want of memory stops a history
+pub record PlainHistory : Type 0 where
+  pub session : PlainSession
+  pub back : List PlainChange
+  pub on : List PlainChange
+  pub stopped : Bool
+
+-- as the code has them, the nearest last
+abbrev pub nearest_first : List Change → List PlainChange
+nearest_first changes = reverse (map plain_change changes)
+
+-- the change adds no items that are new
+abbrev pub AddsNoItems : PlainChange → Type 0
+AddsNoItems (edit deed) = AddsNone deed
+AddsNoItems (replace rules) = Unit {0}
+
+-- the change leads from the state to the one that was passed
+pub record Leads (change : PlainChange) (state : State) (passed : Passed) : Type 0 where
+  pub back : LeadsBack change state passed.state
+  pub adds_none : AddsNoItems change
+  pub kind : is_replace change ≡ passed.replaced
+
+-- the changes lead from the state through those that were passed, one after another, and to no others
+abbrev pub DoLead : State → List PlainChange → List Passed → Type 0
+DoLead state [] [] = Unit {0}
+DoLead state [] (passed ∷ others) = ⊥
+DoLead state (change ∷ changes) [] = ⊥
+DoLead state (change ∷ changes) (passed ∷ others) = Leads change state passed × DoLead (returned passed.state state) changes others
+
+-- the changes lead back through what was before the present, and on through what was undone
+pub record AreWays (now : State) (back on : List PlainChange) (past : Past) : Type 0 where
+  pub present : past.now ≡ now
+  pub earlier : DoLead now back past.earlier
+  pub later : DoLead now on past.later
+
+-- the history is one of this past
+abbrev pub IsPastOf : PlainHistory → Past → Type 0
+IsPastOf history past = AreWays history.session.state history.back history.on past

@@ -1,0 +1,8 @@
+//! The past of what is edited: the states before the present one and those that were undone, which steps lead through them, and that the
+//! changes which are kept do. What a history keeps are changes that lead back and such that lead on, and no copies of the board.
+#![tactic(auto)]
+
+mod error;
+pub mod laws;
+
+pub use error::{HistoryError, InThree};
