@@ -1,0 +1,3 @@
+pub mod Trials
+pub mod Tried
+pub mod Reasons

@@ -1,0 +1,31 @@
+-- What a trial gives, and why there is none.
+use Rattle.std.specs.Prelude.{◌≡◌, ◌≢◌, ℕ, false, List, Err}
+use Rattle.edit_script.specs.Commands.{PlainCommand}
+use Rattle.drc_state.specs.declared.error.EditError.TheVariants.{Stopped, OutOfMemory as NoMemory}
+use Rattle.drc_state.specs.States.{State}
+use Rattle.drc_state.specs.Steps.{Answers}
+use Rattle.drc_session.specs.Sessions.{IsChecked}
+use Rattle.what_if.specs.declared.error.TrialError.{TrialError}
+use Rattle.what_if.specs.declared.error.TrialError.TheVariants.{Refused, OutOfMemory}
+use Rattle.what_if.specs.declared.outcome.Trial.{Trial}
+use Rattle.what_if.specs.Trials.{LeadTo, StopsAt, IsDifference}
+
+-- the session of the trial took the commands: it runs, its rows and nets are those of its state, and beside it stand those that come
+-- and go
+pub record IsTrial (before : State) (commands : List PlainCommand) (trial : Trial) : Type 0 where
+  pub running : trial.session.stopped ≡ false
+  pub led : LeadTo before commands trial.session.state
+  pub checked : IsChecked trial.session
+  pub differ : IsDifference before trial.session.state trial.come.items trial.gone.items
+
+-- there is none: a command is the first that is refused, by the rules of what is edited, or memory ran out
+abbrev pub IsRefusal : State → List PlainCommand → TrialError → Type 0
+IsRefusal s commands (Refused step inner) = StopsAt s commands step inner × (inner ≢ Stopped) × (inner ≢ NoMemory)
+IsRefusal s commands OutOfMemory = Unit {0}
+
+-- ---- private
+
+-- the same of the command of this place
+abbrev pub IsRefusedAt : State → PlainCommand → ℕ → TrialError → Type 0
+IsRefusedAt s command place (Refused step inner) = (step ≡ place) × Answers s command (Err inner) × (inner ≢ Stopped) × (inner ≢ NoMemory)
+IsRefusedAt s command place OutOfMemory = Unit {0}
