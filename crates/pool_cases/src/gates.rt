@@ -4,8 +4,18 @@ use std::sync::atomic::Ordering::SeqCst;
 use std::sync::atomic::{AtomicBool, AtomicU32};
 use tile_pool::Gate;
 
-/// So often number 0 looks whether number 1 is done.
+/// So often number 0 looks whether another is done.
 const TURNS: u32 = 200_000_000;
+
+// Whether the other is done before so many turns are over.
+fn is_done_in_time(done: &AtomicBool) -> bool {
+    for _ in 0..TURNS {
+        if done.load(SeqCst) {
+            return true;
+        }
+    }
+    false
+}
 
 /// Keeps number 0 from its test until number 1 is done, and gives up after so many turns: workers that run one after another do.
 #[derive(Drop)]
@@ -30,20 +40,65 @@ impl Turns {
 
 impl Gate for Turns {
     fn before(&self, number: u32) {
-        if number != 0 {
-            return;
+        if number == 0 && !is_done_in_time(&self.done) {
+            self.gave_up.store(true, SeqCst);
         }
-        for _ in 0..TURNS {
-            if self.done.load(SeqCst) {
-                return;
-            }
-        }
-        self.gave_up.store(true, SeqCst);
     }
 
     fn after(&self, number: u32) {
         if number == 1 {
             self.done.store(true, SeqCst);
+        }
+    }
+}
+
+/// Keeps number 0 from its test until number 2 is done, and gives up after so many turns: of two workers that leave each other's
+/// numbers alone one has both. It also notes whether number 2 began before number 3 was done, as it does where all draw from one counter.
+#[derive(Drop)]
+pub struct Theft {
+    two: AtomicBool,
+    three: AtomicBool,
+    gave_up: AtomicBool,
+    early: AtomicBool,
+}
+
+impl Theft {
+    pub fn new() -> Theft {
+        Theft {
+            two: AtomicBool::new(false),
+            three: AtomicBool::new(false),
+            gave_up: AtomicBool::new(false),
+            early: AtomicBool::new(false),
+        }
+    }
+
+    /// Whether it gave up.
+    pub fn gave_up(&self) -> bool {
+        self.gave_up.load(SeqCst)
+    }
+
+    /// Whether number 2 began before number 3 was done.
+    pub fn was_early(&self) -> bool {
+        self.early.load(SeqCst)
+    }
+}
+
+impl Gate for Theft {
+    fn before(&self, number: u32) {
+        if number == 2 && !self.three.load(SeqCst) {
+            self.early.store(true, SeqCst);
+        }
+        if number == 0 && !is_done_in_time(&self.two) {
+            self.gave_up.store(true, SeqCst);
+        }
+    }
+
+    fn after(&self, number: u32) {
+        if number == 2 {
+            self.two.store(true, SeqCst);
+        }
+        if number == 3 {
+            self.three.store(true, SeqCst);
         }
     }
 }

@@ -1,28 +1,19 @@
 //! Runs numbered works by workers and prints what comes of it: whether two workers run side by side, the answers of 1, 2 and 64 workers,
-//! and what is tested after a test that wants for memory.
+//! and what is tested after a test that wants for memory. The same by workers that steal, and whether one does.
 #![tactic(auto)]
 
 ghost use Rattle.std.specs.Prelude.{◌<◌, ◌≤◌};
 
 mod gates;
+mod stealing;
 mod works;
 
 use crate::gates::{Calls, Turns};
-use crate::works::{Failing, Squares};
-use std::alloc::{AllocError, Global};
+use crate::works::{Failing, Squares, numbers, weighed};
 use std::io;
 use std::io::Print;
 use std::thread::Threads;
 use tile_pool::{NoGate, run_tiles};
-
-/// The numbers from 0 on, so many.
-fn numbers(alloc: Global, count: u32) -> Result<Vec<u32>, AllocError> {
-    let mut numbers = Vec::new(alloc);
-    for number in 0..count {
-        numbers.push(number)?;
-    }
-    Ok(numbers)
-}
 
 /// Two workers, of which the one that has number 0 needs the other to go on.
 fn side_by_side<R: AllocGlobal + Print + Threads + Sync>(rt: &R) -> io::Result<()> {
@@ -48,10 +39,7 @@ fn by_workers<R: AllocGlobal + Print + Threads + Sync>(rt: &R, workers: u32) -> 
     let work = Squares { numbers: &numbers };
     let count = numbers.len().min(100) as u32;
     let (answers, dealt) = run_tiles(rt, rt.alloc(), workers, count, &work, &NoGate)?;
-    let mut sum = 0u64;
-    for answer in &answers {
-        sum = sum.wrapping_mul(31).wrapping_add(*answer) % 1_000_003;
-    }
+    let sum = weighed(answers.as_slice());
     let mut held = 0usize;
     for seat in 0..dealt.seats() {
         held = held.wrapping_add(dealt.hand(seat).len());
@@ -76,5 +64,10 @@ fn main(rt: HostRuntime) -> io::Result<()> {
     by_workers(&rt, 1)?;
     by_workers(&rt, 2)?;
     by_workers(&rt, 64)?;
-    out_of_memory(&rt)
+    out_of_memory(&rt)?;
+    stealing::side_by_side(&rt)?;
+    stealing::by_workers(&rt, 1)?;
+    stealing::by_workers(&rt, 2)?;
+    stealing::by_workers(&rt, 64)?;
+    stealing::out_of_memory(&rt)
 }

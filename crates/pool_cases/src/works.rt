@@ -49,3 +49,21 @@ impl TileWork for Failing {
         Ok(number)
     }
 }
+
+/// The numbers from 0 on, so many.
+pub fn numbers(alloc: Global, count: u32) -> Result<Vec<u32>, AllocError> {
+    let mut numbers = Vec::new(alloc);
+    for number in 0..count {
+        numbers.push(number)?;
+    }
+    Ok(numbers)
+}
+
+/// The sum of answers with their places as weights.
+pub fn weighed(answers: &[u64]) -> u64 {
+    let mut sum = 0u64;
+    for answer in answers {
+        sum = sum.wrapping_mul(31).wrapping_add(*answer) % 1_000_003;
+    }
+    sum
+}
