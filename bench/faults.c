@@ -3,6 +3,7 @@
  * NO_MEMORY=N    the allocation of that number, from 1, is refused
  * NO_MORE=N      and so are all behind it
  * BAD_READ=N, BAD_WRITE=N     the read or the write of that number fails
+ * NO_WRITE=N     and so do all writes behind it
  * BUSY_READ=N, BUSY_WRITE=N   each one whose number N divides is interrupted
  * MOST=N         a read and a write take N bytes at most
  *
@@ -20,7 +21,7 @@ void *__libc_calloc(size_t count, size_t size);
 void *__libc_realloc(void *old, size_t size);
 void *__libc_memalign(size_t align, size_t size);
 
-static unsigned long no_memory, no_more, bad_read, bad_write, busy_read, busy_write, most;
+static unsigned long no_memory, no_more, bad_read, bad_write, no_write, busy_read, busy_write, most;
 static long tell = -1;
 static atomic_ulong allocations, reads, writes;
 
@@ -36,6 +37,7 @@ __attribute__((constructor)) static void begin(void)
     no_more = number("NO_MORE", 0);
     bad_read = number("BAD_READ", 0);
     bad_write = number("BAD_WRITE", 0);
+    no_write = number("NO_WRITE", 0);
     busy_read = number("BUSY_READ", 0);
     busy_write = number("BUSY_WRITE", 0);
     most = number("MOST", 0);
@@ -69,21 +71,21 @@ int posix_memalign(void **out, size_t align, size_t size)
     return *out ? 0 : ENOMEM;
 }
 
-static int stopped(unsigned long call, unsigned long bad, unsigned long busy)
+static int stopped(unsigned long call, unsigned long bad, unsigned long end, unsigned long busy)
 {
-    return call == bad ? fault(EIO) : busy && call % busy == 0 && fault(EINTR);
+    return call == bad || (end && call >= end) ? fault(EIO) : busy && call % busy == 0 && fault(EINTR);
 }
 
 static size_t piece(size_t size) { return most && size > most ? most : size; }
 
 ssize_t read(int file, void *bytes, size_t size)
 {
-    return stopped(++reads, bad_read, busy_read) ? -1 : syscall(SYS_read, file, bytes, piece(size));
+    return stopped(++reads, bad_read, 0, busy_read) ? -1 : syscall(SYS_read, file, bytes, piece(size));
 }
 
 ssize_t write(int file, const void *bytes, size_t size)
 {
-    return stopped(++writes, bad_write, busy_write) ? -1 : syscall(SYS_write, file, bytes, piece(size));
+    return stopped(++writes, bad_write, no_write, busy_write) ? -1 : syscall(SYS_write, file, bytes, piece(size));
 }
 
 ssize_t __write(int file, const void *bytes, size_t size) { return write(file, bytes, size); }
