@@ -11,6 +11,7 @@ mod Walking
 mod SlotLists
 mod Adding
 mod UnitRows
+mod Named
 mod Moving
 mod OneMove
 mod Resting

@@ -30,6 +30,10 @@ abbrev pub is_body : What → Bool
 is_body (Body reference front back on_back) = true
 is_body _ = false
 
+-- one of these is a body with another name
+abbrev pub has_body_named_otherwise : List ℕ → List (ℕ × Item) → Bool
+has_body_named_otherwise name items = list_any (λ entry. is_body entry.1.what && not (bytes_eq entry.1.name name)) items
+
 -- the unit is a footprint that has another name itself
 abbrev pub is_footprint_named_otherwise : ℕ → List ℕ → List (ℕ × Item) → Bool
 is_footprint_named_otherwise unit name items =

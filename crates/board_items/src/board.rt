@@ -278,7 +278,7 @@ impl Board {
     pub fn find(&self, name: &Name) -> Found
         ensures { result ≡ found_of name.now self.now.items }
     {
-        found_of(self.iter(), name)
+        found_of(self, name)
     }
 
     /// The ids of all items of the net, rising; none where the net was not declared.

@@ -1,12 +1,13 @@
 //! Units: the items that came from one list of the board file.
 
-ghost use Rattle.std.specs.Prelude.{◌≡◌};
-ghost use Rattle.board_items.specs.Walks.{items_left};
-ghost use Rattle.board_items.specs.Units.{found_of, is_body, first_named, is_shared, is_footprint_named_otherwise};
+ghost use Rattle.std.specs.Prelude.{◌≡◌, Some, None, MatchOption};
+ghost use Rattle.board_items.specs.Walks.{items_left, unit_left};
+ghost use Rattle.board_items.specs.Units.{found_of, is_body, first_named, is_shared, has_body_named_otherwise, is_footprint_named_otherwise};
 
+use crate::board::Board;
 use crate::errors::Found;
 use crate::item::{Item, What};
-use crate::walk::BoardIter;
+use crate::walk::{BoardIter, UnitIter};
 use drc_io::Name;
 
 // ---- names
@@ -19,13 +20,14 @@ impl What {
     }
 }
 
-// The unit of the first item of that name.
-fn first_named(items: BoardIter<'_>, name: &Name) -> Option<u32>
-    ensures { result ≡ first_named name.now (items_left items.entry) }
+// The first item of that name: its unit, and the items behind it, among which all other units of the name are.
+fn first_named<'a>(items: BoardIter<'a>, name: &Name) -> Option<(u32, BoardIter<'a>)>
+    ensures { MatchOption result (first_named name.now (items_left items.entry) ≡ None) (λ r. (first_named name.now (items_left items.entry) ≡ Some r.0) × (is_shared r.0 name.now (items_left items.entry) ≡ is_shared r.0 name.now (items_left r.1))) }
 {
-    for (_, item) in items {
+    let mut left = items;
+    'walk: while let Some((_, item)) = left.next() {
         if item.name == *name {
-            return Some(item.unit);
+            return Some((item.unit, left));
         }
     }
     None
@@ -43,31 +45,38 @@ fn is_shared(items: BoardIter<'_>, unit: u32, name: &Name) -> bool
     false
 }
 
-// Whether the unit is a footprint with another name.
-fn is_footprint_named_otherwise(items: BoardIter<'_>, unit: u32, name: &Name) -> bool
-    ensures { result ≡ is_footprint_named_otherwise unit name.now (items_left items.entry) }
+// Whether one of these is a body with another name.
+fn has_body_named_otherwise(items: UnitIter<'_>, name: &Name) -> bool
+    ensures { result ≡ has_body_named_otherwise name.now (unit_left items.entry) }
 {
     for (_, item) in items {
-        if item.unit == unit && item.what.is_body() && !(item.name == *name) {
+        if item.what.is_body() && !(item.name == *name) {
             return true;
         }
     }
     false
 }
 
-// What the name stands for.
-pub(crate) fn found_of(items: BoardIter<'_>, name: &Name) -> Found
-    ensures { result ≡ found_of name.now (items_left items.entry) }
+// Whether the unit is a footprint with another name.
+fn is_footprint_named_otherwise(board: &Board, unit: u32, name: &Name) -> bool
+    ensures { result ≡ is_footprint_named_otherwise unit name.now board.now.items }
+{
+    has_body_named_otherwise(board.of_unit(unit), name)
+}
+
+// What the name stands for. All items are gone through once, and those of its unit once more.
+pub(crate) fn found_of(board: &Board, name: &Name) -> Found
+    ensures { result ≡ found_of name.now board.now.items }
 {
     if name.bytes().is_empty() {
         return Found::None;
     }
-    let Some(unit) = first_named(items, name) else {
+    let Some((unit, behind)) = first_named(board.iter(), name) else {
         return Found::None;
     };
-    if is_shared(items, unit, name) {
+    if is_shared(behind, unit, name) {
         Found::Shared
-    } else if is_footprint_named_otherwise(items, unit, name) {
+    } else if is_footprint_named_otherwise(board, unit, name) {
         Found::Inside
     } else {
         Found::Unit(unit)

@@ -4,10 +4,11 @@ use Rattle.std.specs.declared.alloc.Global.{Global}
 use Rattle.drc_io.specs.Causes.{next_count}
 use Rattle.drc_io.specs.Files.{file_of}
 
--- a shelf: its files, the numbers of the reads that fail, how many reads there were, and its count of faults
+-- a shelf: its files, the numbers of the reads that fail, the most that one read gives, how many reads there were, and its count of faults
 pub record ShelfState : Type 0 where
   pub files : List (List ℕ × List ℕ)
   pub fails : List ℕ
+  pub most : ℕ
   pub calls : ℕ
   pub faults : ℕ
 
@@ -24,6 +25,7 @@ abbrev pub after_read : ShelfState → Bool → ShelfState
 after_read shelf failed = record {
   files = shelf.files;
   fails = shelf.fails;
+  most = shelf.most;
   calls = next_count shelf.calls;
   faults = if failed then next_count shelf.faults else shelf.faults;
 }

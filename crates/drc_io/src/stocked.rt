@@ -6,13 +6,14 @@ ghost use Rattle.drc_io.specs.Memory.{ShelfState, Misses, shown, after_read, byt
 use crate::{Failed, Name, Shelf};
 use std::marker::Model;
 
-/// Files in memory, of which the first of a name counts. Those reads fail that it is told, by their numbers from 1,
-/// and each read of a name that is not there. The number of a read stays at the last value of a counter. One count
-/// of faults serves every name.
+/// Files in memory, of which the first of a name counts. A read gives at most so many bytes. Those reads fail that it
+/// is told, by their numbers from 1, and each read of a name that is not there. The number of a read stays at the last
+/// value of a counter. One count of faults serves every name.
 #[derive(Drop)]
 pub struct MemShelf {
     files: Vec<(Name, Vec<u8>)>,
     fails: Vec<u64>,
+    most: usize,
     calls: u64,
     faults: u64,
 }
@@ -20,17 +21,28 @@ pub struct MemShelf {
 impl Model for MemShelf {
     ghost Value = { ShelfState };
 
-    ghost view = { λ s. record { files = shown s.files.items; fails = s.fails.items; calls = s.calls; faults = s.faults } };
+    ghost view = { λ s. record { files = shown s.files.items; fails = s.fails.items; most = s.most; calls = s.calls; faults = s.faults } };
+
+    ghost invariant = { λ s. 1 ≤ s.most };
 }
 
 impl MemShelf {
     /// The shelf with these files. `fails` lists the numbers of the reads that fail.
     pub fn new(files: Vec<(Name, Vec<u8>)>, fails: Vec<u64>) -> MemShelf
-        ensures { result ≡ record { files = shown files.items; fails = fails.items; calls = 0; faults = 0 } }
+        ensures { result ≡ record { files = shown files.items; fails = fails.items; most = 18446744073709551615; calls = 0; faults = 0 } }
+    {
+        MemShelf::in_pieces(files, fails, usize::MAX)
+    }
+
+    /// The same, of which a read gives at most `most` bytes. That is at least 1.
+    pub fn in_pieces(files: Vec<(Name, Vec<u8>)>, fails: Vec<u64>, most: usize) -> MemShelf
+        requires { 1 ≤ most }
+        ensures { result ≡ record { files = shown files.items; fails = fails.items; most = most; calls = 0; faults = 0 } }
     {
         MemShelf {
             files,
             fails,
+            most,
             calls: 0,
             faults: 0,
         }
@@ -49,16 +61,16 @@ fn find<'a>(files: &'a [(Name, Vec<u8>)], name: &str) -> Option<&'a [u8]>
     None
 }
 
-// Copies the bytes from a place on, as many as there is room for.
-fn copy_from(bytes: &[u8], at: u64, buf: &mut [u8]) -> usize
-    ensures count { result ≡ min (length buf.old) (length (drop at bytes.now)) }
+// Copies the bytes from a place on, as many as there is room for, and at most so many.
+fn copy_from(bytes: &[u8], at: u64, most: usize, buf: &mut [u8]) -> usize
+    ensures count { result ≡ min most (min (length buf.old) (length (drop at bytes.now))) }
     ensures copied { buf.new ≡ take result (drop at bytes.now) ++ drop result buf.old }
 {
     if at >= bytes.len() as u64 {
         return 0;
     }
     let rest = &bytes[at as usize..];
-    let n = rest.len().min(buf.len());
+    let n = most.min(buf.len().min(rest.len()));
     buf[..n].copy_from_slice(&rest[..n]);
     n
 }
@@ -68,7 +80,7 @@ impl Shelf for MemShelf {
 
     ghost faults = { λ s _. s.faults };
 
-    /// Gives as many bytes as there are and the buffer has room for. `Failed` comes exactly where the number of the
+    /// Gives as many bytes as there are, the buffer has room for, and a read of this shelf gives at most. `Failed` comes exactly where the number of the
     /// read is listed, or the name is not there; the buffer then stays as it was.
     fn read(&mut self, name: &str, at: u64, buf: &mut [u8]) -> Result<usize, Failed>
         ensures bound { IfOk result (λ n. n ≤ length buf.old) }
@@ -77,7 +89,7 @@ impl Shelf for MemShelf {
         ensures counts { (other : List ℕ) → self.old.faults ≤ self.new.faults }
         ensures cause { OnErr result (Rose self.old.faults self.new.faults) }
         ensures refused { IsErr result ↔ Misses self.old name.now }
-        ensures given { let rest = bytes_from (file_of self.old.files name.now) at in MatchResult result (λ n. (n ≡ min (length buf.old) (length rest)) × (buf.new ≡ take n rest ++ drop n buf.old)) (λ _. buf.new ≡ buf.old) }
+        ensures given { let rest = bytes_from (file_of self.old.files name.now) at in MatchResult result (λ n. (n ≡ min self.old.most (min (length buf.old) (length rest))) × (buf.new ≡ take n rest ++ drop n buf.old)) (λ _. buf.new ≡ buf.old) }
         ensures state { self.new ≡ after_read self.old (is_err result) }
     {
         self.calls = self.calls.saturating_add(1);
@@ -89,6 +101,6 @@ impl Shelf for MemShelf {
             self.faults = self.faults.saturating_add(1);
             return Err(Failed);
         };
-        Ok(copy_from(bytes, at, buf))
+        Ok(copy_from(bytes, at, self.most, buf))
     }
 }
