@@ -5,9 +5,6 @@ pub mod Stirring
 pub mod Enough
 pub mod Known
 pub mod Settled
-pub mod AllTiles
-pub mod Answered
-pub mod Crossing
 pub mod Kept
 pub mod Rechecked
 pub mod Opened

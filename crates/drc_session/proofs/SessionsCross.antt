@@ -18,7 +18,7 @@ use Rattle.kept_nets.proofs.part.NetPart.TheSendSync as part
 use Rattle.drc_session.specs.contracts.parts.Parts as Parts
 use Rattle.drc_session.specs.contracts.session.Session as Session
 use Rattle.drc_session.specs.contracts.session.Session.TheInside as Inside
-use Rattle.drc_session.proofs.Crossing.{rule_crosses}
+use Rattle.tile_rows.proofs.Crossing.{rule_crosses}
 
 rule_send : IsSend Rule.the_row
 rule_send =

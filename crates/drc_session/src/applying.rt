@@ -3,6 +3,7 @@
 ghost use Rattle.std.specs.Prelude.{◌≡◌, ◌<◌, ◌≤◌, true, false, OnOk, IfOk, IfErr, OnErr};
 ghost use Rattle.edit_script.specs.Commands.{plain_command};
 ghost use Rattle.edit_script.specs.Fits.{Fits};
+ghost use Rattle.drc_state.specs.Steps.{is_rules};
 ghost use Rattle.drc_state.specs.Changes.{plain_change, plain_edit, is_replace, Makes, ChangeFits, LeadsBack};
 ghost use Rattle.drc_session.specs.Sessions.{IsApplied, IsDealt, IsCarriedOut, IsTurned, IsRefusedBy};
 ghost use Rattle.drc_session.specs.Holding.{state_of, IsKept};
@@ -34,6 +35,7 @@ fn carry_out<R: Threads + Sync, G: Gate>(
     ensures makes { OnOk result (Makes (plain_edit edit) (state_of parts.old) (state_of parts.new)) }
     ensures applied { IfOk result (λ r. IsApplied (state_of parts.old) (state_of parts.new) (is_replace (plain_edit edit)) r.0 × IsDealt workers r.0) }
     ensures back { IfOk result (λ r. LeadsBack (plain_change r.1) (state_of parts.new) (state_of parts.old)) }
+    ensures kind { IfOk result (λ r. is_replace (plain_change r.1) ≡ is_replace (plain_edit edit)) }
 {
     match edit {
         Edit::Board(deed) => {
@@ -61,6 +63,7 @@ impl Session {
         requires fits { ChangeFits self.old.state (plain_edit edit) }
         ensures made { IfOk result (λ r. IsTurned self.old self.new (plain_edit edit) r.0 × IsDealt workers r.0) }
         ensures back { IfOk result (λ r. LeadsBack (plain_change r.1) self.new.state self.old.state) }
+        ensures kind { IfOk result (λ r. is_replace (plain_change r.1) ≡ is_replace (plain_edit edit)) }
         ensures stopped { OnErr result (self.new.stopped ≡ true) }
     {
         self.stopped = true;
@@ -87,7 +90,7 @@ impl Session {
         Ok(applied)
     }
 
-    /// The same, and the change that leads back.
+    /// The same, and the change that leads back. It replaces the rules exactly where the command does.
     pub fn apply_kept<R: Threads + Sync + AllocGlobal, G: Gate>(
         &mut self,
         rt: &R,
@@ -99,6 +102,7 @@ impl Session {
         requires fits { Fits (plain_command command.now) }
         ensures carried { IfOk result (λ r. IsCarriedOut self.old self.new (plain_command command.now) r.0 × IsDealt workers r.0) }
         ensures back { IfOk result (λ r. LeadsBack (plain_change r.1) self.new.state self.old.state) }
+        ensures kind { IfOk result (λ r. is_replace (plain_change r.1) ≡ is_rules (plain_command command.now)) }
         ensures refused { IfErr result (IsRefusedBy self.old self.new (plain_command command.now)) }
     {
         if self.stopped {
@@ -117,7 +121,8 @@ impl Session {
         }
     }
 
-    /// Makes a change that fits, and gives the one that leads back. After want of memory the session is stopped.
+    /// Makes a change that fits, and gives the one that leads back, which replaces the rules exactly where this one does. After want of
+    /// memory the session is stopped.
     pub fn turn<R: Threads + Sync + AllocGlobal, G: Gate>(
         &mut self,
         rt: &R,
@@ -130,6 +135,7 @@ impl Session {
         requires fits { ChangeFits self.old.state (plain_change change) }
         ensures made { IfOk result (λ r. IsTurned self.old self.new (plain_change change) r.0 × IsDealt workers r.0) }
         ensures back { IfOk result (λ r. LeadsBack (plain_change r.1) self.new.state self.old.state) }
+        ensures kind { IfOk result (λ r. is_replace (plain_change r.1) ≡ is_replace (plain_change change)) }
         ensures stopped { OnErr result (self.new.stopped ≡ true) }
     {
         self.make(rt, workers, edit_in(change), gate)

@@ -8,14 +8,11 @@ ghost use Rattle.box_index.specs.Tiles.{dirty_of, held_of};
 ghost use Rattle.pair_check.specs.Views.{checked_by, IsWhole};
 ghost use Rattle.pair_check.specs.Rows.{Checked, AreRows};
 ghost use Rattle.row_check.specs.Tiles.{IsIndexOf};
-ghost use Rattle.row_check.specs.Whole.{AreEnough, ids_of};
+ghost use Rattle.row_check.specs.Whole.{AreEnough};
 ghost use Rattle.kept_rows.specs.Steps.{IsStep};
 ghost use Rattle.drc_session.specs.Sessions.{IsDealt};
 
 use crate::applied::Applied;
-use crate::testing::test_tiles;
-use crate::work::Tiles;
-use board_items::Board;
 use box_index::TileIndex;
 use geo_seg::Bounds;
 use kept_rows::{renew_rows, rows_anew};
@@ -23,18 +20,7 @@ use row_check::{CheckView, Row};
 use std::alloc::{AllocError, Global};
 use std::thread::Threads;
 use tile_pool::Gate;
-
-// The ids of all items, which rise.
-fn ids_of(alloc: Global, board: &Board) -> Result<Vec<u32>, AllocError>
-    ensures ids { IfOk result (λ ids. ids.items ≡ ids_of board.now) }
-    ensures rise { IfOk result (λ ids. IsStrictlyIncreasing ids.items) }
-{
-    let mut ids = Vec::new(alloc);
-    for (id, _) in board.iter() {
-        ids.push(id)?;
-    }
-    Ok(ids)
-}
+use tile_rows::{Tiles, ids_of, test_tiles};
 
 /// All rows of what is checked: all tiles that hold an item are gone through.
 pub(crate) fn check_all<R: Threads + Sync, G: Gate>(

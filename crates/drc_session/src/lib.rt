@@ -15,8 +15,6 @@ mod parts;
 mod reaching;
 mod replacing;
 mod session;
-mod testing;
-mod work;
 
 pub use applied::Applied;
 pub use session::Session;

@@ -1,8 +1,8 @@
 use Rattle.std.proofs.Common.{◌∙◌, [], true, sym}
 use Rattle.pair_check.specs.Views.{checked_by}
 use Rattle.row_check.specs.Tiles.{AreRowsOfTile}
-use Rattle.drc_session.proofs.AllTiles.{few_tiles, all_enough}
-use Rattle.drc_session.proofs.Answered.{zip_alike}
+use Rattle.tile_rows.proofs.AllTiles.{few_tiles, all_enough}
+use Rattle.tile_rows.proofs.Answered.{zip_alike}
 use Rattle.drc_session.proofs.checking.check_all.Goals as goal
 
 pub test_tiles-requires-clause-few : goal.test_tiles-requires-clause-few

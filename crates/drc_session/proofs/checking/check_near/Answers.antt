@@ -1,5 +1,5 @@
 use Rattle.std.proofs.Common.{◌∙◌, false}
-use Rattle.drc_session.proofs.AllTiles.{few_tiles}
+use Rattle.tile_rows.proofs.AllTiles.{few_tiles}
 use Rattle.drc_session.proofs.checking.check_near.Goals as goal
 
 pub test_tiles-requires-clause-few : goal.test_tiles-requires-clause-few

@@ -6,8 +6,8 @@ use Rattle.pair_check.specs.Rows.{IsRowOfTwo}
 use Rattle.pair_check.specs.Views.{checked_by}
 use Rattle.row_check.specs.Tiles.{IsAskedIn}
 use Rattle.row_check.proofs.OneList.{one_list_where}
-use Rattle.drc_session.proofs.Crossing.{tiles_cross}
-use Rattle.drc_session.proofs.work.one_value.Goals as goal
+use Rattle.tile_rows.proofs.Crossing.{tiles_cross}
+use Rattle.tile_rows.proofs.laws.one_value.Goals as goal
 
 pub one_list_of_answers-requires-sync-T : goal.one_list_of_answers-requires-sync-T
 one_list_of_answers-requires-sync-T c κs = param_sync 0 _ (arg_sync _ no _ (tiles_cross _))

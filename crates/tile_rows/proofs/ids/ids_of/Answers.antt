@@ -4,7 +4,7 @@ use Rattle.board_items.specs.declared.item.Item.{Item}
 use Rattle.board_items.specs.Boards.{PlainBoard}
 use Rattle.row_check.specs.Whole.{ids_of}
 use Rattle.row_check.proofs.WholeRows.{ids_rise}
-use Rattle.drc_session.proofs.checking.ids_of.Goals as goal
+use Rattle.tile_rows.proofs.ids.ids_of.Goals as goal
 
 none_left : (board : PlainBoard) (ids : List ℕ) (left : List (ℕ × Item)) → left ≡ [] → ids ++ map (λ e. e.0) left ≡ ids_of board → ids ≡ ids_of board
 none_left board ids left e h = sym (append-nil ids) ∙ ap (λ (es : List (ℕ × Item)). ids ++ map (λ x. x.0) es) (sym e) ∙ h

@@ -16,7 +16,7 @@ use Rattle.drc_io.proofs.name.Name.TheSendSync as name
 use Rattle.net_class.proofs.classes.Classes.TheSendSync as classes
 use Rattle.rule_pick.proofs.facts_by_id.FactsById.TheSendSync as facts
 use Rattle.pair_check.specs.contracts.view.CheckView as CheckView
-use Rattle.drc_session.specs.contracts.work.Tiles as Tiles
+use Rattle.tile_rows.specs.contracts.work.Tiles as Tiles
 
 pub rule_crosses : IsSync Rule.the_row
 rule_crosses =

@@ -3,9 +3,9 @@ use denote.Param.Send.{arg_sync, param_sync}
 use Rattle.std.proofs.lemmas.Result.{IfOk-weaker}
 use Rattle.pair_check.specs.Views.{checked_by}
 use Rattle.row_check.specs.Tiles.{AreRowsOfTile}
-use Rattle.drc_session.proofs.Answered.{zip_answers}
-use Rattle.drc_session.proofs.Crossing.{tiles_cross}
-use Rattle.drc_session.proofs.testing.test_tiles.Goals as goal
+use Rattle.tile_rows.proofs.Answered.{zip_answers}
+use Rattle.tile_rows.proofs.Crossing.{tiles_cross}
+use Rattle.tile_rows.proofs.testing.test_tiles.Goals as goal
 
 pub run_tiles-requires-sync-T : goal.run_tiles-requires-sync-T
 run_tiles-requires-sync-T g c κs within = param_sync 1 _ (arg_sync _ no _ (tiles_cross _))

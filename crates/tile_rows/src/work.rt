@@ -1,11 +1,9 @@
-//! The tiles of a session as the work of workers.
+//! Tiles as the work of workers.
 
-ghost use Rattle.std.specs.Prelude.{◌≡◌, ◌<◌, ℕ, List, IfOk, slice_index};
+ghost use Rattle.std.specs.Prelude.{◌≡◌, ◌<◌, IfOk};
 ghost use Rattle.std.specs.List.Sorted.{IsStrictlyIncreasing};
-ghost use Rattle.pair_check.specs.PlainRow.{PlainRow};
 ghost use Rattle.pair_check.specs.Views.{checked_by, IsWhole};
 ghost use Rattle.row_check.specs.Tiles.{IsIndexOf, AreRowsOfTile};
-ghost use Rattle.tile_pool.specs.Answers.{AreAnswers};
 
 use box_index::TileIndex;
 use kept_rows::TileRows;
@@ -14,15 +12,16 @@ use std::alloc::{AllocError, Global};
 use std::marker::Brand;
 use std::sync::ledger::{Blank, Ledger};
 use tile_pool::TileWork;
-use tile_pool::laws::one_list_of_answers;
 
-/// Tiles of which the rows with an id that changed are wanted. The number k of the work is `tiles[k]`.
+/// Tiles of which the rows with an id that changed are wanted. The number k of the work is `tiles[k]`, and gives the rows of all pairs
+/// with an id that changed for which this tile answers. The index is that of what is checked through the view, and the ids that
+/// changed rise.
 #[derive(Drop)]
-pub(crate) struct Tiles<'a> {
-    pub(crate) view: CheckView<'a>,
-    pub(crate) index: &'a TileIndex,
-    pub(crate) tiles: &'a [u32],
-    pub(crate) changed: &'a [u32],
+pub struct Tiles<'a> {
+    pub view: CheckView<'a>,
+    pub index: &'a TileIndex,
+    pub tiles: &'a [u32],
+    pub changed: &'a [u32],
 }
 
 // The rows of a tile, on a counter of its own.
@@ -47,7 +46,7 @@ fn rows_counted<L: Ledger>(
 }
 
 // The rows of a tile.
-fn tile_rows(
+fn rows_of_tile(
     alloc: Global,
     view: &CheckView,
     index: &TileIndex,
@@ -78,7 +77,7 @@ impl<'a> TileWork for Tiles<'a> {
     ghost gives = { λ work number rows. AreRowsOfTile (checked_by work.view) work.index.now (slice_index work.tiles.now number) work.changed.now rows };
 
     fn test(&self, alloc: Global, number: u32) -> Result<TileRows, AllocError> {
-        tile_rows(
+        rows_of_tile(
             alloc,
             &self.view,
             self.index,
@@ -86,11 +85,4 @@ impl<'a> TileWork for Tiles<'a> {
             self.changed,
         )
     }
-}
-
-/// The work has one list of answers: so workers make the same, however many they are. The function does nothing.
-pub(crate) fn one_value(work: &Tiles<'_>)
-    ensures { (count : ℕ) (answers others : List (List PlainRow)) → AreAnswers (λ number rows. AreRowsOfTile (checked_by work.now.view) work.now.index.now (slice_index work.now.tiles.now number) work.now.changed.now rows) count answers → AreAnswers (λ number rows. AreRowsOfTile (checked_by work.now.view) work.now.index.now (slice_index work.now.tiles.now number) work.now.changed.now rows) count others → answers ≡ others }
-{
-    one_list_of_answers(work);
 }

@@ -1,0 +1,71 @@
+//! All rows of a board.
+
+ghost use Rattle.std.specs.Prelude.{◌≡◌, ◌<◌, ◌≤◌, IfOk};
+ghost use Rattle.pair_check.specs.Views.{checked_by, IsWhole};
+ghost use Rattle.pair_check.specs.Rows.{AreRows};
+ghost use Rattle.row_check.specs.Tiles.{IsIndexOf};
+ghost use Rattle.stolen_rows.specs.Unruled.{unruled};
+
+use crate::stealing::steal_tiles;
+use board_index::index_of;
+use board_items::Board;
+use box_index::TileIndex;
+use item_facts::{all_facts, reach};
+use kept_rows::rows_anew;
+use net_class::Classes;
+use row_check::{CheckView, Row};
+use std::alloc::{AllocError, Global};
+use std::thread::Threads;
+use tile_pool::Gate;
+use tile_rows::{Tiles, ids_of};
+
+// All rows of what is checked: all tiles that hold an item are gone through.
+fn steal_all<R: Threads + Sync, G: Gate>(
+    rt: &R,
+    alloc: Global,
+    workers: u32,
+    view: CheckView<'_>,
+    index: &TileIndex,
+    gate: &G,
+) -> Result<Vec<Row>, AllocError>
+    requires workers { (0 < workers) × (workers ≤ 64) }
+    requires view { IsWhole view }
+    requires index { IsIndexOf (checked_by view) index.now }
+    ensures { IfOk result (λ rows. AreRows (checked_by view.entry) rows.items) }
+{
+    let tiles = index.dirty(&[], true)?;
+    let ids = ids_of(alloc, view.board)?;
+    let work = Tiles {
+        view,
+        index,
+        tiles: &tiles,
+        changed: &ids,
+    };
+    let batches = steal_tiles(rt, alloc, workers, work, gate)?;
+    rows_anew(alloc, &view, index, &ids, &tiles, &batches)
+}
+
+/// All rows of the board under these classes and no rules, in order. Each tile that holds an item is tested by one of `workers` workers,
+/// from 1 to 64, who have deques of their own and steal from each other's; the gate is called before and after each test. What they
+/// steal changes no row. Only want of memory refuses it.
+pub fn rows_by_stealing<R: Threads + Sync, G: Gate>(
+    rt: &R,
+    alloc: Global,
+    workers: u32,
+    board: &Board,
+    classes: &Classes,
+    gate: &G,
+) -> Result<Vec<Row>, AllocError>
+    requires { (0 < workers) × (workers ≤ 64) }
+    ensures { IfOk result (λ rows. AreRows (unruled board.now classes.now) rows.items) }
+{
+    let facts = all_facts(alloc, board, classes)?;
+    let index = index_of(alloc, board, reach(board, classes, &[]))?;
+    let view = CheckView {
+        board,
+        facts: &facts,
+        rules: &[],
+        classes,
+    };
+    steal_all(rt, alloc, workers, view, &index, gate)
+}

@@ -1,0 +1,3 @@
+pub mod AllTiles
+pub mod Answered
+pub mod Crossing
