@@ -1,5 +1,5 @@
 -- Steps have one answer, and numbers that come next never fall.
-use Rattle.std.proofs.Common.{◌≡◌, refl, sym, ap, subst, ◌∙◌, ℕ, ◌≤◌, max, Bool, true, false, List, [], ◌∷◌, Result, Ok, Err, if◌then◌else◌, arith}
+use Rattle.std.proofs.Common.{◌≡◌, sym, ap, subst, ◌∙◌, ℕ, ◌≤◌, Bool, true, false, List, [], ◌∷◌, Result, Ok, Err, if◌then◌else◌, arith}
 use Rattle.board_items.specs.declared.item.Item.{Item}
 use Rattle.board_items.specs.Boards.{PlainBoard, with_item}
 use Rattle.pcb_read.specs.BoardOf.{with_items}
@@ -10,10 +10,10 @@ use Rattle.rule_text.specs.RulesOf.{PlainRules}
 use Rattle.edit_script.specs.Commands.{PlainCommand, add, delete, move, rules, again, PlainStep, edit, undo, redo}
 use Rattle.drc_state.specs.declared.error.EditError.{EditError}
 use Rattle.drc_state.specs.States.{State}
-use Rattle.drc_state.specs.Steps.{is_rules, with_board, edit_error, IsAfterDeed, with_rules, Answers}
+use Rattle.drc_state.specs.Steps.{is_rules, with_board, IsAfterDeed, with_rules, Answers}
 use Rattle.drc_state.specs.Changes.{returned}
 use Rattle.undo_log.specs.declared.error.HistoryError.{HistoryError}
-use Rattle.undo_log.specs.Past.{Past, Passed, is_again, edited, undone, undone_to, redone, redone_to, edit_answer, StepAnswers, left_by, AreStepsTo}
+use Rattle.undo_log.specs.Past.{Past, Passed, is_again, undone, undone_to, redone, redone_to, edit_answer, StepAnswers, left_by, AreStepsTo}
 
 -- ---- one answer
 

@@ -1,6 +1,6 @@
 -- A unit that was taken out and is put back.
 use Rattle.std.proofs.Common.{◌≡◌, ◌⊎◌, inl, inr, refl, ap, ◌∙◌, ℕ, Bool, true, false, not, nat_eq, List, filter}
-use Rattle.std.specs.List.{All, Contains}
+use Rattle.std.specs.List.{Contains}
 use Rattle.std.proofs.lemmas.List.Elements.{All-contains}
 use Rattle.board_items.specs.declared.item.Item.{Item}
 use Rattle.board_items.specs.Back.{IsPutBack, entries_of}

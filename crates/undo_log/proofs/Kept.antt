@@ -7,11 +7,9 @@ use Rattle.drc_state.specs.declared.change.Change.TheVariants.{Nothing, PutBack,
 use Rattle.drc_state.specs.States.{State}
 use Rattle.drc_state.specs.Steps.{is_rules}
 use Rattle.drc_state.specs.Changes.{PlainChange, plain_change, is_replace, ChangeFits, LeadsBack}
-use Rattle.drc_session.specs.declared.applied.Applied.{Applied}
-use Rattle.drc_session.specs.Sessions.{PlainSession, IsTurned}
 use Rattle.undo_log.specs.Past.{begun, is_again}
-use Rattle.undo_log.specs.Ways.{nearest_first, AddsNoItems, Leads, AreWays}
-use Rattle.undo_log.specs.Keeping.{IsNoted, IsSwitched}
+use Rattle.undo_log.specs.Ways.{nearest_first, AddsNoItems, AreWays}
+use Rattle.undo_log.specs.Keeping.{IsNoted}
 
 -- what is pushed is the nearest
 pub nearest_pushed : (changes : List Change) (change : Change) → nearest_first (changes ++ change ∷ []) ≡ plain_change change ∷ nearest_first changes
@@ -43,18 +41,6 @@ noted old new command back back_now on on_now change kind leads again other = re
 pub nearest_fits : (s : State) (from from_now : List Change) (change : Change) → from ≡ from_now ++ change ∷ []
     → ((nearest : PlainChange) (others : List PlainChange) → nearest_first from ≡ nearest ∷ others → ChangeFits s nearest) → ChangeFits s (plain_change change)
 nearest_fits s from from_now change is fits = fits (plain_change change) (nearest_first from_now) (ap nearest_first is ∙ nearest_pushed from_now change)
-
-pub switched : (old new : PlainSession) (from from_now to room to_now : List Change) (change back : Change) (applied : Applied) → from ≡ from_now ++ change ∷ [] → room ≡ to → to_now ≡ room ++ back ∷ []
-    → IsTurned old new (plain_change change) applied → LeadsBack (plain_change back) new.state old.state → is_replace (plain_change back) ≡ is_replace (plain_change change)
-    → IsSwitched old new (nearest_first from) (nearest_first from_now) (nearest_first to) (nearest_first to_now) applied
-switched old new from from_now to room to_now change back applied taken same pushed turned leads kind = record {
-  change = plain_change change;
-  back = plain_change back;
-  from_is = ap nearest_first taken ∙ nearest_pushed from_now change;
-  to_is = ap nearest_first pushed ∙ nearest_pushed room back ∙ ap (λ (cs : List Change). plain_change back ∷ nearest_first cs) same;
-  turned = turned;
-  leads = record { back = leads; adds_none = adds_none back; kind = kind };
-}
 
 -- at the opening nothing leads anywhere
 pub begun_ways : (s : State) (back on : List Change) → back ≡ [] → on ≡ [] → AreWays s (nearest_first back) (nearest_first on) (begun s)

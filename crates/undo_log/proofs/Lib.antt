@@ -4,3 +4,5 @@ pub mod Back
 pub mod Reports
 pub mod Kept
 pub mod Stepped
+pub mod Running
+pub mod Calls

@@ -1,6 +1,6 @@
 -- What is found of a board depends on no number that comes next.
-use Rattle.std.proofs.Common.{◌≡◌, ◌⊎◌, inl, inr, refl, sym, ap, subst, ◌∙◌, ℕ, Bool, List, [], ◌∷◌}
-use Rattle.std.specs.List.{All, AllZip, Contains}
+use Rattle.std.proofs.Common.{◌≡◌, inl, inr, refl, sym, ap, subst, ◌∙◌, ℕ, List, [], ◌∷◌}
+use Rattle.std.specs.List.{AllZip}
 use Rattle.std.proofs.lemmas.List.Elements.{All-weaker}
 use Rattle.board_items.specs.declared.item.Item.{Item}
 use Rattle.board_items.specs.Boards.{PlainBoard}
@@ -9,7 +9,7 @@ use Rattle.cond_lang.specs.Rules.{PlainRule}
 use Rattle.rule_pick.specs.declared.facts.Facts.{Facts}
 use Rattle.rule_pick.specs.FactsOf.{class_of_net, AreFactsOf}
 use Rattle.pair_check.specs.PlainRow.{PlainRow}
-use Rattle.pair_check.specs.Rows.{Checked, Stands, IsRowOfTwo, IsRowOfOne, IsRow, AreRows}
+use Rattle.pair_check.specs.Rows.{Checked, Stands, IsRow, AreRows}
 use Rattle.net_groups.specs.NetParts.{NetPart, IsPartOf, AreParts, real_nets}
 use Rattle.drc_state.specs.States.{State, checked_in}
 use Rattle.drc_state.specs.Changes.{returned}

@@ -1,15 +1,12 @@
 -- The calls of a history, by what was kept of them.
-use Rattle.std.proofs.Common.{◌≡◌, refl, sym, ap, subst, ◌∙◌, ℕ, Bool, true, false, List, [], ◌∷◌, Result, Ok, Err, if◌then◌else◌}
+use Rattle.std.proofs.Common.{◌≡◌, refl, sym, subst, ℕ, Bool, true, false, List, [], ◌∷◌, Ok, if◌then◌else◌}
 use Rattle.edit_script.specs.Commands.{PlainCommand, edit, undo, redo}
-use Rattle.drc_state.specs.declared.error.EditError.{EditError}
 use Rattle.drc_state.specs.States.{State}
 use Rattle.drc_state.specs.Steps.{is_rules, Answers}
-use Rattle.drc_state.specs.Changes.{PlainChange, is_replace, Makes, ChangeFits}
+use Rattle.drc_state.specs.Changes.{PlainChange, is_replace, Makes}
 use Rattle.drc_session.specs.declared.applied.Applied.{Applied}
 use Rattle.drc_session.specs.Sessions.{IsApplied, IsCarriedOut}
-use Rattle.undo_log.specs.declared.error.HistoryError.{HistoryError}
-use Rattle.undo_log.specs.declared.error.HistoryError.TheVariants.{Edit, NothingToUndo, NothingToRedo}
-use Rattle.undo_log.specs.Past.{Past, Passed, is_again, edited, undone, undone_to, redone, redone_to, StepAnswers, nearest_replaced}
+use Rattle.undo_log.specs.Past.{Past, Passed, is_again, edited, undone, redone, nearest_replaced}
 use Rattle.undo_log.specs.Ways.{PlainHistory, Leads, DoLead, AreWays, IsPastOf}
 use Rattle.undo_log.specs.Keeping.{IsNoted, IsSwitched}
 use Rattle.undo_log.specs.Taking.{IsStepFrom, IsTaken}
@@ -62,37 +59,12 @@ module _ (old new : PlainHistory) (command : PlainCommand) (applied : Applied) (
   pub edit_taken : old.stopped ≡ false → new.stopped ≡ false → IsTaken old new (edit command) applied
   edit_taken was runs = record { running = (was, runs); steps = step_edited }
 
--- a refused command is a refused step
-pub edit_refused : (old : PlainHistory) (command : PlainCommand) (why : EditError) → Answers old.session.state command (Err why) → (past : Past) → IsPastOf old past → StepAnswers past (edit command) (Err (Edit why))
-edit_refused old command why says past ways = (Err why, subst (λ (x : State). Answers x command (Err why)) (sym ways.present) says, refl)
-
 -- ---- steps back and on
 
--- the nearest change fits
-pub nearest_fits : (now : State) (changes : List PlainChange) (passed : List Passed) → DoLead now changes passed → (change : PlainChange) (others : List PlainChange) → changes ≡ change ∷ others → ChangeFits now change
-nearest_fits now changes passed lead change others is = by passed (subst (λ (cs : List PlainChange). DoLead now cs passed) is lead)
-  where
-    by : (passed : List Passed) → DoLead now (change ∷ others) passed → ChangeFits now change
-    by [] h = absurd h
-    by (one ∷ far) h = h.0.back.fits
-
+-- the nearest change replaces the rules exactly where they were replaced before the nearest state
 nearest_kind : (now : State) (change : PlainChange) (others : List PlainChange) (passed : List Passed) → DoLead now (change ∷ others) passed → nearest_replaced passed ≡ is_replace change
 nearest_kind now change others [] h = absurd h
 nearest_kind now change others (one ∷ far) h = sym h.0.kind
-
--- where no change leads on, nothing was passed
-none_passed : (now : State) (changes : List PlainChange) (passed : List Passed) → changes ≡ [] → DoLead now changes passed → passed ≡ []
-none_passed now changes passed is lead = by passed (subst (λ (cs : List PlainChange). DoLead now cs passed) is lead)
-  where
-    by : (passed : List Passed) → DoLead now [] passed → passed ≡ []
-    by [] h = refl
-    by (one ∷ far) h = absurd h
-
-pub none_to_undo : (old : PlainHistory) (at : ℕ) → old.back ≡ [] → (past : Past) → IsPastOf old past → StepAnswers past (undo at) (Err NothingToUndo)
-none_to_undo old at is past ways = ap (λ (passed : List Passed). undone_to past passed) (sym (none_passed old.session.state old.back past.earlier is ways.earlier))
-
-pub none_to_redo : (old : PlainHistory) (at : ℕ) → old.on ≡ [] → (past : Past) → IsPastOf old past → StepAnswers past (redo at) (Err NothingToRedo)
-none_to_redo old at is past ways = ap (λ (passed : List Passed). redone_to past passed) (sym (none_passed old.session.state old.on past.later is ways.later))
 
 module _ (old new : PlainHistory) (applied : Applied) where
   abbrev was : State

@@ -1,16 +1,13 @@
 -- What a history keeps leads through its past.
-use Rattle.std.proofs.Common.{◌≡◌, refl, sym, ap, subst, ◌∙◌, ℕ, ◌+◌, ◌<◌, ◌≤◌, Bool, true, false, List, [], ◌∷◌, Result, Ok, Err, if◌then◌else◌, arith}
-use Rattle.std.specs.List.{All}
+use Rattle.std.proofs.Common.{◌≡◌, refl, sym, ap, subst, ◌∙◌, ℕ, ◌+◌, ◌<◌, ◌≤◌, Bool, false, List, [], ◌∷◌, Ok, if◌then◌else◌, arith}
 use Rattle.std.proofs.lemmas.List.Elements.{All-weaker}
 use Rattle.board_items.specs.declared.item.Item.{Item}
-use Rattle.board_items.specs.Back.{FitsBack}
 use Rattle.board_items.specs.Boards.{PlainBoard, Rise}
 use Rattle.board_edits.specs.Deeds.{PlainDeed, nothing, append, put_back, take_out, shift, After}
-use Rattle.board_edits.specs.Fitting.{DeedFits}
 use Rattle.edit_script.specs.Commands.{PlainCommand}
 use Rattle.drc_state.specs.States.{State}
 use Rattle.drc_state.specs.Steps.{is_rules}
-use Rattle.drc_state.specs.Changes.{PlainChange, edit, replace, is_replace, Makes, ChangeFits, returned, LeadsBack}
+use Rattle.drc_state.specs.Changes.{PlainChange, edit, replace, is_replace, Makes, ChangeFits, returned}
 use Rattle.undo_log.specs.Past.{Past, Passed, is_again, edited, undone, undone_to, redone, redone_to}
 use Rattle.undo_log.specs.Ways.{AddsNoItems, Leads, DoLead, AreWays}
 

@@ -1,5 +1,5 @@
 -- What the calls of a history do. The first two are of every past that the history may be said to have.
-use Rattle.std.specs.Prelude.{◌≡◌, true, false, Result, Ok, Err}
+use Rattle.std.specs.Prelude.{◌≡◌, ◌⊎◌, true, false, List, [], ◌∷◌, Ok, Err}
 use Rattle.edit_script.specs.Commands.{PlainStep}
 use Rattle.drc_session.specs.declared.applied.Applied.{Applied}
 use Rattle.drc_session.specs.Sessions.{IsApplied}
@@ -25,3 +25,14 @@ abbrev pub IsRefused : PlainHistory → PlainHistory → PlainStep → HistoryEr
 IsRefused old new step Stopped = (old.stopped ≡ true) × (new ≡ old)
 IsRefused old new step OutOfMemory = (old.stopped ≡ false) × (new.stopped ≡ true)
 IsRefused old new step why = (old.stopped ≡ false) × ((past : Past) → IsPastOf old past → StepAnswers past step (Err why)) × (new ≡ old)
+
+-- ---- one call after another
+
+-- the call for the step was made, and the step was taken or refused
+abbrev pub IsCall : PlainHistory → PlainHistory → PlainStep → Type 0
+IsCall old new step = ((applied : Applied) × IsTaken old new step applied) ⊎ ((why : HistoryError) × IsRefused old new step why)
+
+-- so it was for each of the steps
+abbrev pub AreCalls : PlainHistory → List PlainStep → PlainHistory → Type 0
+AreCalls old [] new = new ≡ old
+AreCalls old (step ∷ steps) new = (next : PlainHistory) × IsCall old next step × AreCalls next steps new

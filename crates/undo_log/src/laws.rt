@@ -12,7 +12,8 @@ ghost use Rattle.drc_state.specs.Changes.{PlainChange, is_replace, Makes, return
 ghost use Rattle.drc_session.specs.Sessions.{PlainSession, IsChecked};
 ghost use Rattle.undo_log.specs.declared.error.HistoryError.{HistoryError};
 ghost use Rattle.undo_log.specs.Past.{Past, is_again, edited, undone, redone, StepAnswers, AreStepsTo};
-ghost use Rattle.undo_log.specs.Ways.{Leads, AreWays};
+ghost use Rattle.undo_log.specs.Ways.{PlainHistory, Leads, AreWays, IsPastOf};
+ghost use Rattle.undo_log.specs.Taking.{AreCalls};
 
 use drc_state::laws::{one_answer, one_state};
 use kept_nets::laws::one_list_of_parts;
@@ -84,3 +85,11 @@ pub fn one_redo()
 {
     one_state();
 }
+
+// ---- calls
+
+/// After any calls of a history that has not stopped, its session is at the state to which the steps lead from the past that it had,
+/// and what it keeps leads through the past that it then has.
+pub fn all_calls()
+    ensures { (old new : PlainHistory) (steps : List PlainStep) (past : Past) → IsPastOf old past → AreCalls old steps new → new.stopped ≡ false → (last : Past) × AreStepsTo past steps last × IsPastOf new last }
+{}

@@ -3,6 +3,10 @@
 #![tactic(auto)]
 
 mod error;
+mod history;
+mod keeping;
 pub mod laws;
+mod stepping;
 
 pub use error::{HistoryError, InThree};
+pub use history::History;

@@ -1,0 +1,119 @@
+//! Steps of a history.
+
+ghost use Rattle.std.specs.Prelude.{◌≡◌, ◌<◌, ◌≤◌, ℕ, IfOk, IfErr};
+ghost use Rattle.edit_script.specs.Commands.{plain_command, edit, undo, redo};
+ghost use Rattle.edit_script.specs.Fits.{Fits};
+ghost use Rattle.drc_session.specs.Sessions.{IsDealt};
+ghost use Rattle.undo_log.specs.Taking.{IsTaken, IsRefused};
+
+use crate::error::HistoryError;
+use crate::history::History;
+use crate::keeping::{carry_out, switch};
+use crate::laws::{one_redo, one_undo};
+use drc_session::Applied;
+use drc_state::EditError;
+use edit_script::Command;
+use std::alloc::AllocGlobal;
+use std::thread::Threads;
+use tile_pool::Gate;
+
+impl History {
+    /// Carries the command out, or says why it is not carried out. What was undone before is forgotten, but for a report again, which is
+    /// no step. The tiles that it stirs are dealt to so many workers, from 1 to 64. After each refusal but want of memory all is as it
+    /// was. After want of memory the history is stopped.
+    pub fn apply<R: Threads + Sync + AllocGlobal, G: Gate>(
+        &mut self,
+        rt: &R,
+        workers: u32,
+        command: &Command<'_>,
+        gate: &G,
+    ) -> Result<Applied, HistoryError>
+        requires workers { (0 < workers) × (workers ≤ 64) }
+        requires fits { Fits (plain_command command.now) }
+        ensures taken { IfOk result (λ applied. IsTaken self.old self.new (edit (plain_command command.now)) applied × IsDealt workers applied) }
+        ensures refused { IfErr result (IsRefused self.old self.new (edit (plain_command command.now))) }
+    {
+        if self.stopped {
+            return Err(HistoryError::Stopped);
+        }
+        match carry_out(
+            rt,
+            workers,
+            &mut self.session,
+            &mut self.back,
+            &mut self.on,
+            command,
+            gate,
+        ) {
+            Ok(applied) => Ok(applied),
+            Err(EditError::OutOfMemory) => {
+                self.stopped = true;
+                Err(HistoryError::OutOfMemory)
+            }
+            Err(why) => Err(HistoryError::Edit(why)),
+        }
+    }
+
+    /// Goes back by one step, or says that there is none, or that memory is wanting. After want of memory the history is stopped.
+    pub fn undo<R: Threads + Sync + AllocGlobal, G: Gate>(
+        &mut self,
+        rt: &R,
+        workers: u32,
+        gate: &G,
+    ) -> Result<Applied, HistoryError>
+        requires workers { (0 < workers) × (workers ≤ 64) }
+        ensures taken { (at : ℕ) → IfOk result (λ applied. IsTaken self.old self.new (undo at) applied × IsDealt workers applied) }
+        ensures refused { (at : ℕ) → IfErr result (IsRefused self.old self.new (undo at)) }
+    {
+        one_undo();
+        if self.stopped {
+            return Err(HistoryError::Stopped);
+        }
+        if self.back.is_empty() {
+            return Err(HistoryError::NothingToUndo);
+        }
+        self.stopped = true;
+        let applied = switch(
+            rt,
+            workers,
+            &mut self.session,
+            &mut self.back,
+            &mut self.on,
+            gate,
+        )?;
+        self.stopped = false;
+        Ok(applied)
+    }
+
+    /// Goes on by one step that was undone, or says that there is none, or that memory is wanting. After want of memory the history is
+    /// stopped.
+    pub fn redo<R: Threads + Sync + AllocGlobal, G: Gate>(
+        &mut self,
+        rt: &R,
+        workers: u32,
+        gate: &G,
+    ) -> Result<Applied, HistoryError>
+        requires workers { (0 < workers) × (workers ≤ 64) }
+        ensures taken { (at : ℕ) → IfOk result (λ applied. IsTaken self.old self.new (redo at) applied × IsDealt workers applied) }
+        ensures refused { (at : ℕ) → IfErr result (IsRefused self.old self.new (redo at)) }
+    {
+        one_redo();
+        if self.stopped {
+            return Err(HistoryError::Stopped);
+        }
+        if self.on.is_empty() {
+            return Err(HistoryError::NothingToRedo);
+        }
+        self.stopped = true;
+        let applied = switch(
+            rt,
+            workers,
+            &mut self.session,
+            &mut self.on,
+            &mut self.back,
+            gate,
+        )?;
+        self.stopped = false;
+        Ok(applied)
+    }
+}
