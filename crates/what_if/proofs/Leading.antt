@@ -1,5 +1,5 @@
 -- Commands that lead from state to state.
-use Rattle.std.proofs.Common.{◌≡◌, ◌≢◌, ℕ, suc, ◌+◌, ◌<◌, ◌≤◌, List, [], ◌∷◌, ◌++◌, length, get_or, take, drop, map, Ok, Err, refl, sym, subst, ap, ◌∙◌, arith, add-one, drop-cons}
+use Rattle.std.proofs.Common.{◌≡◌, ℕ, suc, ◌+◌, ◌<◌, ◌≤◌, List, [], ◌∷◌, ◌++◌, length, get_or, take, drop, map, Ok, refl, sym, subst, ap, ◌∙◌, arith, drop-cons}
 use Rattle.std.specs.List.{All}
 use Rattle.std.proofs.lemmas.List.{map-append, map_push, take_more, take-append-drop, length-map, length-take-le, get_or-map}
 use Rattle.edit_script.specs.declared.command.Command.{Command}
@@ -9,7 +9,7 @@ use Rattle.drc_state.specs.States.{State}
 use Rattle.drc_state.specs.Steps.{Answers}
 use Rattle.what_if.specs.declared.error.TrialError.{TrialError}
 use Rattle.what_if.specs.declared.error.TrialError.TheVariants.{Refused, OutOfMemory}
-use Rattle.what_if.specs.Trials.{LeadTo, StopsAt}
+use Rattle.what_if.specs.Trials.{LeadTo}
 use Rattle.what_if.specs.Tried.{IsRefusal, IsRefusedAt}
 
 -- one command more

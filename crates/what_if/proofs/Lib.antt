@@ -1,2 +1,7 @@
 pub mod Missing
 pub mod Leading
+pub mod Stopping
+pub mod Alone
+pub mod Crossing
+pub mod Each
+pub mod OneOutcome

@@ -1,9 +1,9 @@
 -- Rows of one list that do not stand in another.
 use Rattle.std.proofs.Common.{◌≡◌, ◌≢◌, ◌⊎◌, ℕ, ◌+◌, ◌<◌, ◌≤◌, List, [], ◌∷◌, ◌++◌, length, get_or, Bool, true, false, not, cond, Some, take, append-nil, inl, inr, refl, sym, subst, ap, ◌∙◌, arith, rules, true≢false, IsTrue}
-use Rattle.std.specs.List.{AllPairs, Contains, list_any, slice_get, filter}
-use Rattle.std.proofs.lemmas.Bool.{cases_order, not-true, not_from_true, not_from_false}
+use Rattle.std.specs.List.{AllPairs, list_any, slice_get, filter}
+use Rattle.std.proofs.lemmas.Bool.{cases_order, not-true, not_from_false}
 use Rattle.std.proofs.lemmas.List.{get_or_default}
-use Rattle.std.proofs.lemmas.List.Elements.{All-filter, All-get_or, filter_passes, filter_more}
+use Rattle.std.proofs.lemmas.List.Elements.{All-filter, filter_passes, filter_more}
 use Rattle.std.proofs.lemmas.List.Folds.{list_any_none, list_any_at}
 use Rattle.std.proofs.lemmas.List.Kept.{AllPairs-filter}
 use Rattle.std.proofs.lemmas.Option.{slice_get-get_or, slice_get_within, get_or_from_slice_get}

@@ -1,3 +1,4 @@
 pub mod Trials
 pub mod Tried
+pub mod Fewest
 pub mod Reasons

@@ -1,5 +1,5 @@
 -- What commands would do to a state, one after another or each alone.
-use Rattle.std.specs.Prelude.{◌≡◌, ◌≢◌, ℕ, ◌<◌, ◌≤◌, ◌==◌, Bool, not, List, [], ◌∷◌, ◌++◌, length, filter, Option, None, Some, Result, Ok, Err, slice_get}
+use Rattle.std.specs.Prelude.{◌≡◌, ◌≢◌, ℕ, ◌<◌, ◌≤◌, not, List, [], ◌∷◌, ◌++◌, length, filter, Option, None, Some, Ok, Err, slice_get}
 use Rattle.std.specs.List.{AllZip, list_any}
 use Rattle.edit_script.specs.Commands.{PlainCommand}
 use Rattle.pair_check.specs.PlainRow.{PlainRow}

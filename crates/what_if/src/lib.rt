@@ -4,9 +4,14 @@
 
 mod difference;
 mod error;
+pub mod laws;
+mod least;
 mod outcome;
+mod surveying;
 mod trying;
+mod work;
 
 pub use error::TrialError;
-pub use outcome::Trial;
+pub use outcome::{Survey, Trial};
+pub use surveying::survey;
 pub use trying::trial;

@@ -1,4 +1,4 @@
-//! What a trial gives.
+//! What a trial and a survey give.
 
 use drc_session::Session;
 use row_check::Row;
@@ -12,4 +12,13 @@ pub struct Trial {
     pub come: Vec<Row>,
     /// The rows that the lent session has and it has not, in order.
     pub gone: Vec<Row>,
+}
+
+/// What each of the commands would leave if it were the only one.
+#[derive(Drop)]
+pub struct Survey {
+    /// How many rows there are after each command alone, in the order of the commands. There is none where the command is refused.
+    pub counts: Vec<Option<u64>>,
+    /// The first place of the least count, from 0. There is none where every command is refused.
+    pub least: Option<u32>,
 }

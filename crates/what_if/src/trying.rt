@@ -79,8 +79,8 @@ fn difference(
     Ok((come, gone))
 }
 
-// A copy of the session that took the commands.
-fn taken<R: Threads + Sync + AllocGlobal, G: Gate>(
+/// A copy of the session that took the commands.
+pub(crate) fn taken<R: Threads + Sync + AllocGlobal, G: Gate>(
     session: &Session,
     rt: &R,
     workers: u32,

@@ -1,4 +1,4 @@
-use Rattle.std.proofs.Common.{sym, subst, true, rules, refl}
+use Rattle.std.proofs.Common.{refl}
 use Rattle.pair_check.specs.PlainRow.{PlainRow}
 use Rattle.pair_check.specs.Rows.{Before}
 use Rattle.what_if.proofs.Missing.{before_more, same_at}

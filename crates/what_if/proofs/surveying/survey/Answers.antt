@@ -1,0 +1,9 @@
+use Rattle.std.proofs.Common.{length, arith, ap}
+use Rattle.what_if.specs.Trials.{IsCount}
+use Rattle.what_if.proofs.Each.{as_many}
+use Rattle.what_if.proofs.surveying.survey.Goals as goal
+
+pub first_least-least-requires : goal.first_least-least-requires
+first_least-least-requires g c =
+    let many = as_many (IsCount c.args.session.now.state) c.args.commands.now c.in_ok-counts.counts.items c.in_ok-counts.ensures in
+    omega (arith, many, c.requires.few, ap length c.deref.ensures.value)

@@ -1,0 +1,61 @@
+//! Commands that are tried each alone.
+
+ghost use Rattle.std.specs.Prelude.{◌≡◌, ◌<◌, ◌≤◌, false, All, map, length, IfOk};
+ghost use Rattle.std.specs.List.{AllZip};
+ghost use Rattle.edit_script.specs.Commands.{plain_command};
+ghost use Rattle.edit_script.specs.Fits.{Fits};
+ghost use Rattle.what_if.specs.Trials.{IsCount, IsSurvey};
+
+use crate::least::first_least;
+use crate::outcome::Survey;
+use crate::work::Trials;
+use drc_session::Session;
+use edit_script::Command;
+use std::alloc::{AllocError, AllocGlobal};
+use std::thread::Threads;
+use tile_pool::{Gate, run_tiles};
+
+// How many rows there are after each command alone.
+fn counts_of<R: Threads + Sync + AllocGlobal, G: Gate>(
+    session: &Session,
+    rt: &R,
+    workers: u32,
+    commands: &[Command<'_>],
+    gate: &G,
+) -> Result<Vec<Option<u64>>, AllocError>
+    requires workers { (0 < workers) × (workers ≤ 64) }
+    requires running { session.now.stopped ≡ false }
+    requires few { length commands.now ≤ 15625 }
+    requires fit { All Fits (map plain_command commands.now) }
+    ensures { IfOk result (λ counts. AllZip (IsCount session.now.state) (map plain_command commands.now) counts.items) }
+{
+    let work = Trials {
+        session,
+        rt,
+        commands,
+    };
+    let count = commands.len() as u32;
+    let (counts, _) = run_tiles(rt, rt.alloc(), workers, count, &work, gate)?;
+    Ok(counts)
+}
+
+/// Tries each of at most 15,625 commands alone, on a copy of the session. They are dealt to so many workers, from 1 to 64, and the gate
+/// is called before and after each command with its place. The session that is lent must not be stopped, and it stays as it is. Only
+/// want of memory refuses the call.
+pub fn survey<R: Threads + Sync + AllocGlobal, G: Gate>(
+    session: &Session,
+    rt: &R,
+    workers: u32,
+    commands: &[Command<'_>],
+    gate: &G,
+) -> Result<Survey, AllocError>
+    requires workers { (0 < workers) × (workers ≤ 64) }
+    requires running { session.now.stopped ≡ false }
+    requires few { length commands.now ≤ 15625 }
+    requires fit { All Fits (map plain_command commands.now) }
+    ensures { IfOk result (λ s. IsSurvey session.now.state (map plain_command commands.now) s.counts.items s.least) }
+{
+    let counts = counts_of(session, rt, workers, commands, gate)?;
+    let least = first_least(&counts);
+    Ok(Survey { counts, least })
+}
