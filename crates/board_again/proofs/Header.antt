@@ -1,15 +1,15 @@
 -- The header of an edited board's root is accepted, because its first list, the version, stays.
-use Rattle.std.proofs.Common.{◌≡◌, ◌∙◌, refl, sym, ap, subst, ℕ, Bool, true, false, ◌||◌, List, [], ◌∷◌, ◌++◌, codes, find, Option, None, Some, Result, Ok, Err}
-use Rattle.std.specs.Prelude.{nat_eq, ⊤}
+use Rattle.std.proofs.Common.{◌≡◌, ◌∙◌, refl, sym, ap, subst, ℕ, Bool, true, false, ◌||◌, List, ◌∷◌, codes, find, Option, None, Some, Result, Ok, Err}
+use Rattle.std.specs.Prelude.{⊤}
 use Rattle.sexpr_read.specs.declared.place.Span.{Span}
-use Rattle.sexpr_read.specs.Tree.{Forest, none, atom, list, Tree, leaf, branch, trees, parts, is_list, value}
+use Rattle.sexpr_read.specs.Tree.{Forest, none, atom, list, Tree, leaf, branch, trees, is_list}
 use Rattle.board_items.specs.declared.errors.BoardError.{BoardError}
 use Rattle.board_items.specs.declared.errors.BoardError.TheVariants.{NotABoard, Version, Missing}
 use Rattle.part_read.specs.Elements.{◌>>=◌, needed, check, place, is_value, is_text, has_head, atom_of}
 use Rattle.tree_text.specs.Pieces.{SameTrees}
 use Rattle.tree_text.specs.Anew.{insides}
 use Rattle.pcb_read.specs.BoardOf.{is_version, version_in, header_in}
-use Rattle.read_alike.specs.Alike.{Alike, AlikeTrees}
+use Rattle.read_alike.specs.Alike.{Alike}
 use Rattle.read_alike.specs.Agreeing.{Agrees, SameAtom}
 use Rattle.read_alike.proofs.Elements.{agrees_bind, agrees_both, heads_alike, same_value, atom_alike}
 use Rattle.read_alike.proofs.Moving.{alike_itself, alike_same}

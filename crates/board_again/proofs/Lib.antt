@@ -1,2 +1,10 @@
 pub mod Parts
 pub mod Header
+pub mod Lists
+pub mod Levels
+pub mod Version
+pub mod Root
+pub mod Back
+pub mod Feet
+pub mod Unchanged
+pub mod Counting

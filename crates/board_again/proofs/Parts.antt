@@ -2,15 +2,13 @@
 use Rattle.std.proofs.Common.{◌≡◌, ◌∙◌, refl, sym, ap, subst, ℕ, Bool, true, false, cond, List, [], ◌∷◌, ◌++◌, codes, Option, None, Some, Result, Ok, Err, is_some}
 use Rattle.std.specs.Prelude.{unwrap_or}
 use Rattle.sexpr_read.specs.declared.place.Span.{Span}
-use Rattle.sexpr_read.specs.Tree.{Forest, none, atom, list, Tree, leaf, branch, trees, value}
+use Rattle.sexpr_read.specs.Tree.{Forest, none, atom, list, Tree, leaf, branch, trees}
 use Rattle.board_items.specs.declared.errors.BoardError.{BoardError}
-use Rattle.board_items.specs.declared.layers.LayerSet.{LayerSet}
-use Rattle.board_items.specs.Boards.{PlainBoard, name_of, with_net}
+use Rattle.board_items.specs.Boards.{name_of, with_net}
 use Rattle.part_read.specs.Elements.{◌>>=◌, first_is, has_head, text_of, atom_of}
 use Rattle.part_read.specs.Numbers.{number_in}
 use Rattle.part_read.specs.LayersOf.{layers_listed}
 use Rattle.tree_text.specs.Pieces.{SameTrees}
-use Rattle.pcb_read.specs.declared.sorts.Sort.{Sort}
 use Rattle.pcb_read.specs.Nets.{with_net_of}
 use Rattle.pcb_read.specs.Sorts.{sort_by, sort_of}
 use Rattle.pcb_read.specs.BoardOf.{Reading, with_layers, with_board, with_other}

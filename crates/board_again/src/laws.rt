@@ -1,15 +1,28 @@
 //! Laws. The functions do nothing: each clause holds for all boards and lists.
 
-ghost use Rattle.std.specs.Prelude.{◌≡◌, ◌∷◌, ℕ, Bool, List, find, Option, None, Some, Ok};
+ghost use Rattle.std.specs.Prelude.{◌≡◌, [], ◌∷◌, ℕ, suc, Bool, true, false, List, map, length, find, All, Option, None, Some, Ok};
 ghost use Rattle.sexpr_read.specs.declared.place.Span.{Span};
 ghost use Rattle.sexpr_read.specs.Tree.{Forest, atom, Tree, branch, trees, is_list};
+ghost use Rattle.board_items.specs.declared.item.Item.{Item};
+ghost use Rattle.board_items.specs.Boards.{PlainBoard};
 ghost use Rattle.tree_text.specs.Pieces.{SameTrees};
 ghost use Rattle.tree_text.specs.Anew.{insides};
+ghost use Rattle.pcb_read.specs.declared.sorts.Sort.{Sort};
+ghost use Rattle.pcb_read.specs.declared.sorts.Sort.TheVariants.{Footprint};
 ghost use Rattle.pcb_read.specs.Sorts.{sort_of};
+ghost use Rattle.pcb_read.specs.ItemsOf.{SaysItems, has_room};
 ghost use Rattle.pcb_read.specs.BoardOf.{Reading, with_other, header_in};
-ghost use Rattle.read_alike.specs.Alike.{Shift, AlikeTrees};
+ghost use Rattle.read_alike.specs.Alike.{Shift, Alike, AlikeTrees};
+ghost use Rattle.read_alike.specs.Carried.{shift_of, of_unit, ItemsOf};
+ghost use Rattle.list_alike.specs.Footprints.{is_footprint};
 ghost use Rattle.board_alike.specs.Roots.{SameGround};
-ghost use Rattle.board_alike.specs.Written.{moved_if};
+ghost use Rattle.board_alike.specs.Written.{moved_if, IsWritten};
+ghost use Rattle.board_alike.specs.Ledger.{Entry, AreNow};
+ghost use Rattle.board_alike.specs.Reads.{IsUnit};
+ghost use Rattle.edit_script.specs.Commands.{PlainCommand};
+ghost use Rattle.edit_script.specs.Fits.{Fits};
+ghost use Rattle.board_alike.specs.Same.{AreShallow, IsReadBack};
+ghost use Rattle.board_again.specs.Carries.{Carries};
 
 /// A list is of the same sort when it is written anew, and parts that give no items leave those of the board. Read on boards with the
 /// same layers and nets, they leave those the same.
@@ -25,4 +38,32 @@ pub fn parts()
 pub fn header()
     ensures { (s p h t : Span) (q : Bool) (c : List ℕ) (f kept forest i : Forest) (others : List Forest) (r : Span) (u : Unit {0}) → header_in (branch s (atom t q c f)) ≡ Ok u → find is_list (trees f) ≡ Some (branch r i)
         → SameTrees (atom h q c kept) forest → insides kept ≡ i ∷ others → header_in (branch p forest) ≡ Ok tt }
+{}
+
+/// The list of a unit, written anew, carries the items that the unit has become, and gives them where the board has room, whatever it
+/// is but a footprint. A unit takes one number.
+pub fn lists()
+    ensures carries { (sort : Sort) (s r : Span) (i j : Forest) (o : Option Shift) (e : Entry) → sort_of (branch s i) ≡ Some sort → SameTrees (moved_if o i) j → AreNow (shift_of o) e
+        → Carries sort (branch s i) (branch r j) e.read (map (λ (x : ℕ × Item). x.1) e.now) }
+    ensures without { (sort : Sort) (s r : Span) (i j : Forest) → sort_of (branch s i) ≡ Some sort → Alike None i j → Carries sort (branch s i) (branch r j) [] [] }
+    ensures long { (sort : Sort) (t u : Tree) (items now : List Item) → Carries sort t u items now → length now ≡ length items }
+    ensures carried { (sort : Sort) (board other : PlainBoard) (unit own : ℕ) (t u : Tree) (items now : List Item) → is_footprint sort ≡ false → SameGround board other → SaysItems board unit t sort (Ok items) → Carries sort t u items now
+        → has_room other own now ≡ true → SaysItems other own u sort (Ok (of_unit own now)) }
+    ensures grows { (a next : Reading) (t : Tree) (i : Item) (items : List Item) → IsUnit a next t (i ∷ items) → ItemsOf a.board.next_unit (i ∷ items) → next.board.next_unit ≡ suc a.board.next_unit }
+{}
+
+/// The same of a footprint.
+pub fn footprints()
+    ensures carried { (board other : PlainBoard) (unit own : ℕ) (t u : Tree) (items now : List Item) → SameGround board other → SaysItems board unit t Footprint (Ok items) → Carries Footprint t u items now → has_room other own now ≡ true
+        → SaysItems other own u Footprint (Ok (of_unit own now)) }
+    ensures stand { (board : PlainBoard) (unit : ℕ) (t : Tree) (items : List Item) → SaysItems board unit t Footprint (Ok items) → ItemsOf unit items }
+{}
+
+/// The written text of an edited board is read again as the board that the commands left: with its layers, its nets and its items in
+/// their order, which differ in nothing but ids and in how units are numbered. No added list may be too deep, which those of commands
+/// that may be carried out are not. Where there is no command, the written text is the text itself.
+pub fn read_back()
+    ensures again { IsReadBack }
+    ensures fit { (commands : List PlainCommand) → All Fits commands → AreShallow commands }
+    ensures unchanged { (text out : List ℕ) (last : PlainBoard) → IsWritten text [] out last → out ≡ text }
 {}

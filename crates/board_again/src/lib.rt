@@ -1,4 +1,4 @@
-//! The parts of an edited board's text are read like those of the board that it was. Laws alone: no function here does anything.
+//! The text of an edited board is read as the board that the commands left. Laws alone: no function here does anything.
 #![tactic(auto)]
 
 pub mod laws;

@@ -5,11 +5,12 @@ use Rattle.board_items.specs.declared.errors.Found.TheVariants.{Shared, Inside, 
 use Rattle.board_items.specs.declared.item.Item.{Item}
 use Rattle.board_items.specs.Boards.{PlainBoard}
 use Rattle.board_items.specs.Units.{first_named, is_shared, is_footprint_named_otherwise, found_by, found_of}
+use Rattle.read_alike.specs.Carried.{ItemsOf}
 use Rattle.pcb_read.specs.ItemText.{SaysList}
 use Rattle.board_alike.specs.Changes.{Change, unchanged, takes_out, shifts, appends, IsNamed, Changes, ChangeAll}
 use Rattle.board_alike.specs.Written.{Draft, with_change, with_changes}
 use Rattle.board_alike.specs.Ledger.{Entry, all_now, IsLedger, SameReads}
-use Rattle.board_alike.proofs.Ledger.{taken_out, moved_unit, appended, entries_with, ItemsOf, kept_low, named_low}
+use Rattle.board_alike.proofs.Ledger.{taken_out, moved_unit, appended, entries_with, kept_low, named_low}
 
 -- the entries begin with ones of which the same was read
 abbrev pub ReadsFrom : List Entry → List Entry → Type 0

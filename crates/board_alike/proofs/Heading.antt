@@ -20,7 +20,7 @@ clash e = let c = e in cc
 no_version : false ≡ true → ⊥
 no_version e = let c = e in cc
 
-holds : {A : Type 0} (e : BoardError) (b : Bool) (next : Unit {0} → Result A BoardError) (x : A) → (check e b >>= next) ≡ Ok x → (b ≡ true) × (next tt ≡ Ok x)
+pub holds : {A : Type 0} (e : BoardError) (b : Bool) (next : Unit {0} → Result A BoardError) (x : A) → (check e b >>= next) ≡ Ok x → (b ≡ true) × (next tt ≡ Ok x)
 holds e true next x h = (refl, h)
 holds e false next x h = absurd (clash h)
 
@@ -41,7 +41,7 @@ said before after tree t v h other says =
     let same : ok_of after ≡ ok_of before = k ∙ (other ∙ m) in
     cc
 
-version_part : (before after : Reading) (s : Span) (f : Forest) → has_head (codes "version") (branch s f) ≡ true → SaysPart before (branch s f) (Ok after) → after ≡ before
+pub version_part : (before after : Reading) (s : Span) (f : Forest) → has_head (codes "version") (branch s f) ≡ true → SaysPart before (branch s f) (Ok after) → after ≡ before
 unfolding has_head sort_of with_other
 version_part before after s none h says = absurd (no_version h)
 version_part before after s (list t i others) h says = absurd (no_version h)

@@ -22,7 +22,7 @@ use Rattle.pcb_read.specs.BoardOf.{with_items}
 use Rattle.board_items.specs.Units.{without_unit, first_named}
 use Rattle.board_items.specs.Moves.{IsShiftedPart, AreShifted, HoleIsShifted, KindIsShifted, IsShiftedItem, is_note, moves, item_stays, unit_stays as units_stay, IsMovedEntry, IsMoved}
 use Rattle.read_alike.specs.Alike.{Shift}
-use Rattle.read_alike.specs.Carried.{shift_of, IsCarried}
+use Rattle.read_alike.specs.Carried.{shift_of, IsCarried, ItemsOf}
 use Rattle.read_alike.proofs.Composing.{carried_both}
 use Rattle.board_alike.specs.Changes.{takes_out, shifts, appends}
 use Rattle.board_alike.specs.Written.{Draft, with_change, is_gone, plus, summed, shift_of_unit}
@@ -291,11 +291,6 @@ numbered id (item ∷ items) = (id, item) ∷ numbered (suc id) items
 abbrev pub UnitsOf : ℕ → List Item → Type 0
 UnitsOf unit [] = Unit {0}
 UnitsOf unit (item ∷ items) = (item.unit ≡ unit) × UnitsOf unit items
-
--- what a list gives is of this unit, and lies on the board
-abbrev pub ItemsOf : ℕ → List Item → Type 0
-ItemsOf unit [] = Unit {0}
-ItemsOf unit (item ∷ items) = (item.unit ≡ unit) × (is_on_board item ≡ true) × ItemsOf unit items
 
 pub units_of : (unit : ℕ) (items : List Item) → ItemsOf unit items → UnitsOf unit items
 units_of unit [] h = tt

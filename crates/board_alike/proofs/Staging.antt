@@ -3,6 +3,7 @@ use Rattle.std.proofs.Common.{◌≡◌, ◌∙◌, refl, sym, ap, subst, ℕ, s
 use Rattle.sexpr_read.specs.Tree.{Tree}
 use Rattle.board_items.specs.declared.item.Item.{Item}
 use Rattle.board_items.specs.Boards.{PlainBoard}
+use Rattle.read_alike.specs.Carried.{ItemsOf}
 use Rattle.pcb_read.specs.ItemText.{SaysList}
 use Rattle.board_alike.specs.Roots.{SameGround}
 use Rattle.board_alike.specs.Changes.{Change, unchanged, takes_out, shifts, appends, Changes, ChangeAll}
@@ -10,7 +11,7 @@ use Rattle.board_alike.specs.Written.{Draft, Added, with_change, with_changes}
 use Rattle.board_alike.specs.Ledger.{Entry, AreKept, IsLedger, SameReads}
 use Rattle.board_alike.specs.AddedReads.{WasRead, AddedRead, ends, nothing as without_items, unit as with_unit}
 use Rattle.board_alike.proofs.Roots.{same_with}
-use Rattle.board_alike.proofs.Ledger.{entries_with, ItemsOf, numbered}
+use Rattle.board_alike.proofs.Ledger.{entries_with, numbered}
 use Rattle.board_alike.proofs.Commands.{after_change, change_keeps}
 use Rattle.board_alike.proofs.Adding.{same_reads}
 

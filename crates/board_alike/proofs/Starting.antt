@@ -5,6 +5,7 @@ use Rattle.board_items.specs.declared.errors.BoardError.{BoardError}
 use Rattle.board_items.specs.declared.item.Item.{Item}
 use Rattle.board_items.specs.Boards.{PlainBoard}
 use Rattle.part_read.specs.Elements.{◌>>=◌}
+use Rattle.read_alike.specs.Carried.{ItemsOf}
 use Rattle.pcb_read.specs.declared.sorts.Sort.{Sort}
 use Rattle.pcb_read.specs.Sorts.{sort_of}
 use Rattle.pcb_read.specs.ItemsOf.{SaysItems}
@@ -13,7 +14,7 @@ use Rattle.board_alike.specs.Changes.{appends}
 use Rattle.board_alike.specs.Written.{Draft, untouched, with_change, is_gone, shift_of_unit}
 use Rattle.board_alike.specs.Ledger.{Entry, AreKept, IsLedger}
 use Rattle.board_alike.specs.Reads.{Takes, IsUnit, TextReads}
-use Rattle.board_alike.proofs.Ledger.{same_kept, appended, entries_with, numbered, ItemsOf}
+use Rattle.board_alike.proofs.Ledger.{same_kept, appended, entries_with, numbered}
 
 -- a draft with the same units that are gone and moved has the same ledger
 same_ledger : (draft new : Draft) (es : List Entry) (board : PlainBoard) → new.next_unit ≡ draft.next_unit → ((k : ℕ) → is_gone new k ≡ is_gone draft k) → ((k : ℕ) → shift_of_unit new k ≡ shift_of_unit draft k)

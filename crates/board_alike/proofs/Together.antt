@@ -11,7 +11,7 @@ use Rattle.tree_text.specs.Pieces.{SameTrees}
 use Rattle.tree_text.specs.Anew.{Fate, insides, insides_after}
 use Rattle.tree_text.specs.Edited.{SpellsEdited}
 use Rattle.read_alike.specs.Alike.{Shift, Alike, AlikeTrees}
-use Rattle.read_alike.specs.Carried.{shift_of, of_unit}
+use Rattle.read_alike.specs.Carried.{shift_of, of_unit, ItemsOf}
 use Rattle.pcb_read.specs.declared.sorts.Sort.{Sort}
 use Rattle.pcb_read.specs.Sorts.{sort_of}
 use Rattle.pcb_read.specs.ItemsOf.{SaysItems, has_room}
@@ -25,7 +25,6 @@ use Rattle.board_alike.specs.Reads.{IsUnit, TextReads}
 use Rattle.board_alike.specs.AddedReads.{AddedRead, ends}
 use Rattle.board_alike.specs.Same.{IsSameItem}
 use Rattle.board_alike.proofs.Roots.{SameItems, same_units, count_with, transfer}
-use Rattle.board_alike.proofs.Ledger.{ItemsOf}
 use Rattle.board_alike.proofs.Commands.{ReadsFrom, same_itself, reads_same}
 use Rattle.board_alike.proofs.Following.{branches, HaveInsides, items_now, follows}
 use Rattle.board_alike.proofs.Starting.{starts}

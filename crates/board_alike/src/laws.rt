@@ -1,6 +1,6 @@
 //! Laws. The functions do nothing: each clause holds for all boards and texts.
 
-ghost use Rattle.std.specs.Prelude.{◌≡◌, ℕ, Bool, List, Option, Result, Ok};
+ghost use Rattle.std.specs.Prelude.{◌≡◌, ℕ, Bool, List, Result, Ok};
 ghost use Rattle.sexpr_read.specs.declared.place.Span.{Span};
 ghost use Rattle.sexpr_read.specs.Tree.{Forest, atom, branch, trees};
 ghost use Rattle.board_items.specs.Boards.{PlainBoard};

@@ -17,13 +17,13 @@ pub eq_moved : (a b d : ℤ) → int_eq (a +ℤ d) (b +ℤ d) ≡ int_eq a b
 eq_moved a b d = grind (arith, ints)
 
 module _ (dx dy : ℤ) where
-  abbrev beyond : ℤ × ℤ → ℤ × ℤ
+  abbrev pub beyond : ℤ × ℤ → ℤ × ℤ
   beyond k = (k.0 +ℤ dx, k.1 +ℤ dy)
 
   point_moved : (p q : Point) → IsShiftedPoint dx dy p q → place q ≡ beyond (place p)
   point_moved p q h = ap (λ (x : ℤ). (x, q.y)) h.x ∙ ap (λ (y : ℤ). (p.x +ℤ dx, y)) h.y
 
-  same_moved : (k m : ℤ × ℤ) → is_same (beyond k) (beyond m) ≡ is_same k m
+  pub same_moved : (k m : ℤ × ℤ) → is_same (beyond k) (beyond m) ≡ is_same k m
   same_moved k m = ap (λ b. b && int_eq (k.1 +ℤ dy) (m.1 +ℤ dy)) (eq_moved k.0 m.0 dx) ∙ ap (λ b. int_eq k.0 m.0 && b) (eq_moved k.1 m.1 dy)
 
   short_moved : (l m : Seg) → IsShiftedSeg dx dy l m → is_short m ≡ is_short l

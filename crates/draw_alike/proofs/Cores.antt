@@ -7,11 +7,10 @@ use Rattle.geo_seg.specs.declared.points.Point.{Point}
 use Rattle.geo_seg.specs.declared.points.Seg.{Seg}
 use Rattle.geo_seg.specs.declared.shapes.Core.{Core}
 use Rattle.geo_seg.specs.declared.shapes.Core.TheVariants.{Line as LineCore, Area}
-use Rattle.geo_seg.specs.Shifts.{IsShiftedPoint, IsShiftedCore}
 use Rattle.part_read.specs.declared.numbers.Spot.{Spot}
 use Rattle.part_read.specs.declared.stances.Stance.{Stance}
 use Rattle.part_read.specs.Stances.{point_stood, points_stood}
-use Rattle.part_read.specs.Figures.{sides_from, sides, box_corners, box_core, line_cores, cores_between, box_between, cores_around}
+use Rattle.part_read.specs.Figures.{sides_from, sides, box_corners, line_cores, cores_between, box_between, cores_around}
 use Rattle.part_read.proofs.Shapes.{one_point}
 use Rattle.read_alike.specs.Alike.{Shift}
 use Rattle.read_alike.specs.Standing.{StandsMoved}
@@ -25,10 +24,10 @@ eq_after : (a b c e d : ℤ) → c ≡ a +ℤ d → e ≡ b +ℤ d → int_eq c 
 eq_after a b c e d h k = ap (λ (z : ℤ). int_eq z e) h ∙ ap (λ (z : ℤ). int_eq (a +ℤ d) z) k ∙ eq_moved a b d
 
 module _ (d : Shift) (stance new : Stance) where
-  abbrev Moved : Point → Point → Type 0
+  abbrev pub Moved : Point → Point → Type 0
   Moved p q = moved_point d stance new p q
 
-  abbrev AreMoved : List Core → List Core → Type 0
+  abbrev pub AreMoved : List Core → List Core → Type 0
   AreMoved cores others = AllZip (moved_core d stance new) cores others
 
   -- ---- the sides of an outline
@@ -121,12 +120,12 @@ module _ (d : Shift) (stance new : Stance) where
   flat_moved p q a b h k =
       ap (λ (t : Bool). t || int_eq a.y b.y) (eq_after p.x q.x a.x b.x (pos 2 *ℤ d.dx) h.x k.x) ∙ ap (λ (t : Bool). int_eq p.x q.x || t) (eq_after p.y q.y a.y b.y (pos 2 *ℤ d.dy) h.y k.y)
 
-  record BoxMoved (filled : Bool) (p q : Point) (others : List Core) : Type 0 where
-    one : Point
-    two : Point
-    is_one : Moved p one
-    is_two : Moved q two
-    are : others ≡ box_between filled one two
+  pub record BoxMoved (filled : Bool) (p q : Point) (others : List Core) : Type 0 where
+    pub one : Point
+    pub two : Point
+    pub is_one : Moved p one
+    pub is_two : Moved q two
+    pub are : others ≡ box_between filled one two
 
   abbrev core_by : Bool → Point → Point → Core
   core_by flat p q = cond flat (LineCore (record { a = p; b = q })) (Area (box_corners p q))
@@ -151,7 +150,7 @@ module _ (d : Shift) (stance new : Stance) where
         are = ap (λ (l : List Point). Area l ∷ []) k.are ∙ ap (λ (b : Bool). core_by b k.one k.two ∷ []) (sym (flat_moved p q k.one k.two k.is_one k.is_two ∙ e));
       }
 
-  box_moved : (filled : Bool) (p q : Point) (others : List Core) → AreMoved (box_between filled p q) others → BoxMoved filled p q others
+  pub box_moved : (filled : Bool) (p q : Point) (others : List Core) → AreMoved (box_between filled p q) others → BoxMoved filled p q others
   box_moved true p q [] h = absurd h
   box_moved true p q (x ∷ y ∷ others) h = absurd h.1
   box_moved true p q (x ∷ []) h = solid_moved p q (is_flat p q) x refl h.0

@@ -1,13 +1,13 @@
 -- The corners of alike lists are moved.
-use Rattle.std.proofs.Common.{◌≡◌, ◌∙◌, refl, sym, ap, subst, ℕ, suc, Bool, true, false, not, ◌&&◌, cond, List, [], ◌∷◌, length, codes, Option, None, Some, Result, Ok, Err}
+use Rattle.std.proofs.Common.{◌≡◌, refl, sym, ap, subst, suc, Bool, true, false, not, ◌&&◌, cond, List, [], ◌∷◌, length, codes, Option, Result, Ok, Err}
 use Rattle.std.specs.Prelude.{nat_le}
 use Rattle.std.specs.List.{AllZip}
 use Rattle.sexpr_read.specs.declared.place.Span.{Span}
-use Rattle.sexpr_read.specs.Tree.{Forest, none, atom, list, Tree, leaf, branch, trees, parts}
+use Rattle.sexpr_read.specs.Tree.{Forest, none, atom, list, Tree, branch, trees, parts}
 use Rattle.board_items.specs.declared.errors.BoardError.{BoardError}
 use Rattle.board_items.specs.declared.errors.BoardError.TheVariants.{Missing, Arc}
 use Rattle.part_read.specs.declared.numbers.Spot.{Spot}
-use Rattle.part_read.specs.Elements.{◌>>=◌, check, place, has_head, element}
+use Rattle.part_read.specs.Elements.{◌>>=◌, place, has_head}
 use Rattle.part_read.specs.Numbers.{spot_at}
 use Rattle.part_read.specs.Drawings.{spots_among, enough, corners_in, corners_of}
 use Rattle.read_alike.specs.Alike.{Shift, Alike, AlikeTrees}

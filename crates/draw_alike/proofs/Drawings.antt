@@ -1,15 +1,12 @@
 -- The drawings of alike lists.
-use Rattle.std.proofs.Common.{◌≡◌, ◌∙◌, refl, sym, ap, subst, ℤ, pos, Bool, true, false, List, codes, Option, Result, Ok, Err}
-use Rattle.std.specs.Prelude.{int_le}
+use Rattle.std.proofs.Common.{◌≡◌, ◌∙◌, refl, ap, ℤ, Bool, true, false, codes, Option}
 use Rattle.sexpr_read.specs.declared.place.Span.{Span}
 use Rattle.sexpr_read.specs.Tree.{Forest, Tree, branch}
-use Rattle.part_read.specs.declared.numbers.Spot.{Spot}
 use Rattle.part_read.specs.declared.figures.Figure.{Figure}
 use Rattle.part_read.specs.declared.figures.Figure.TheVariants.{Line, Rect, Circle, Outline}
 use Rattle.part_read.specs.declared.figures.Drawing.{Drawing}
 use Rattle.part_read.specs.declared.drawings.Kind.{Kind}
 use Rattle.part_read.specs.declared.drawings.Kind.TheVariants.{Line as LineKind, Rect as RectKind, Circle as CircleKind, Outline as OutlineKind}
-use Rattle.part_read.specs.Elements.{◌>>=◌}
 use Rattle.part_read.specs.Numbers.{spot_of}
 use Rattle.part_read.specs.Circles.{radius_between}
 use Rattle.part_read.specs.Drawings.{corners_of, width_of, fill_of, line_drawing, rect_drawing, circle_drawing, outline_drawing, drawing_of}

@@ -1,10 +1,8 @@
 -- What is drawn elsewhere is what was drawn, moved.
-use Rattle.std.proofs.Common.{◌≡◌, ◌∙◌, refl, sym, ap, subst, ℕ, ◌+◌, ◌≤◌, ℤ, pos, ◌+ℤ◌, ◌-ℤ◌, ◌*ℤ◌, ◌≤ℤ◌, unsigned_abs, Bool, true, false, cond, List, [], ◌∷◌, map, Option, None, Some, ◌⊎◌, inl, inr, arith}
-use Rattle.std.specs.Prelude.{int_le, nat_le, length}
+use Rattle.std.proofs.Common.{◌≡◌, ◌∙◌, refl, sym, ap, subst, ℕ, ◌+◌, ◌≤◌, ℤ, pos, ◌+ℤ◌, ◌-ℤ◌, ◌*ℤ◌, ◌≤ℤ◌, unsigned_abs, Bool, true, false, cond, List, [], ◌∷◌, map, Option, None, Some, inl, inr, arith}
 use Rattle.std.specs.List.{AllZip}
-use Rattle.std.specs.Int.Signed.{le_z}
 use Rattle.std.proofs.lemmas.Int.{ints}
-use Rattle.int_algebra.proofs.Tested.{front, back, le_by_test}
+use Rattle.int_algebra.proofs.Tested.{back, le_by_test}
 use Rattle.exact_dec.specs.Reading.{is_far}
 use Rattle.geo_seg.specs.declared.points.Point.{Point}
 use Rattle.geo_seg.specs.declared.shapes.Core.{Core}
@@ -20,7 +18,7 @@ use Rattle.part_read.specs.declared.figures.Figure.{Figure}
 use Rattle.part_read.specs.declared.figures.Figure.TheVariants.{Line, Rect, Circle, Outline}
 use Rattle.part_read.specs.declared.figures.Drawing.{Drawing}
 use Rattle.part_read.specs.Circles.{squared, square_between, root, radius_between}
-use Rattle.part_read.specs.OnBoard.{tested, is_length, fits_board, point_at}
+use Rattle.part_read.specs.OnBoard.{is_length, fits_board, point_at}
 use Rattle.part_read.specs.Stances.{stood, point_stood}
 use Rattle.part_read.specs.Figures.{line_between, cores_between, cores_of, radius_at, radius_of, around, parts_around, radius_with, drawn, drawn_edge}
 use Rattle.read_alike.specs.Alike.{Shift}
@@ -28,9 +26,9 @@ use Rattle.read_alike.specs.Carried.{shift_of}
 use Rattle.read_alike.specs.Moved.{moved_spot, IsMovedSpot}
 use Rattle.read_alike.specs.Standing.{StandsMoved}
 use Rattle.read_alike.proofs.Circles.{end_within}
-use Rattle.read_alike.proofs.Figures.{moved_point, moved_core, line_carried, filled_carried, parts_carried, between_some, some_same, tested_some}
+use Rattle.read_alike.proofs.Figures.{moved_point, moved_core, line_carried, filled_carried, parts_carried, some_same, tested_some}
 use Rattle.read_alike.proofs.Shapes.{near_within, half_near, settled}
-use Rattle.draw_alike.specs.Drawn.{AreCorners, AreCircles, FigureRead, DrawingRead}
+use Rattle.draw_alike.specs.Drawn.{FigureRead}
 use Rattle.draw_alike.proofs.Cores.{box_carried, open_carried}
 
 -- ---- radii

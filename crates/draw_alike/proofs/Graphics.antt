@@ -4,14 +4,13 @@ use Rattle.std.specs.Prelude.{int_le, MatchBool, unwrap_or}
 use Rattle.std.specs.List.{AllZip}
 use Rattle.int_algebra.proofs.Tested.{front, back, le_by_test}
 use Rattle.sexpr_read.specs.declared.place.Span.{Span}
-use Rattle.sexpr_read.specs.Tree.{Forest, Tree, branch, value}
+use Rattle.sexpr_read.specs.Tree.{Forest, Tree, branch}
 use Rattle.board_items.specs.declared.errors.BoardError.{BoardError}
 use Rattle.board_items.specs.declared.errors.BoardError.TheVariants.{OutOfBoard, Ring}
 use Rattle.board_items.specs.declared.layers.LayerSet.{LayerSet}
 use Rattle.board_items.specs.declared.parts.Part.{Part}
 use Rattle.board_items.specs.declared.item.About.{About}
 use Rattle.board_items.specs.declared.item.Hole.{Hole}
-use Rattle.board_items.specs.declared.item.What.{What}
 use Rattle.board_items.specs.declared.item.What.TheVariants.{Graphic, Edge}
 use Rattle.board_items.specs.declared.item.Item.{Item}
 use Rattle.board_items.specs.Boards.{PlainBoard, name_of, is_near, is_on_board}
@@ -30,24 +29,24 @@ use Rattle.part_read.specs.PlainItems.{plain_item}
 use Rattle.part_read.specs.LayersOf.{is_all_copper, is_outer, layer_in, drawn_on}
 use Rattle.part_read.specs.NetsOf.{net_of}
 use Rattle.part_read.specs.Stances.{stood}
-use Rattle.part_read.specs.Figures.{drawn, drawn_edge, first_of, first_spot, is_ring, is_circle}
+use Rattle.part_read.specs.Figures.{drawn, drawn_edge, first_spot, is_ring, is_circle}
 use Rattle.part_read.specs.Drawings.{drawing_of}
 use Rattle.part_read.specs.Graphics.{ground_by, ground_among, ground_of, copper_graphic, edge_graphic, note_of, one_item, graphic_by, curve_by, text_by}
-use Rattle.read_alike.specs.Alike.{Shift, Alike, AlikeTrees}
-use Rattle.read_alike.specs.Agreeing.{Agrees, BothAgree, Same, SameAtom, AlikeParts, FoundAlike}
+use Rattle.read_alike.specs.Alike.{Shift, Alike}
+use Rattle.read_alike.specs.Agreeing.{Agrees, BothAgree, Same, SameAtom, FoundAlike}
 use Rattle.read_alike.specs.Carried.{IsCarried, Becomes, of_unit, Leads, ReadsCarried, ReadsItems}
 use Rattle.read_alike.specs.Moved.{moved_spot, IsMovedSpot}
 use Rattle.read_alike.proofs.Elements.{agrees_bind, agrees_both, element_alike, inside_by_head, same_value, atom_alike}
 use Rattle.read_alike.proofs.Numbers.{layer_in_alike, name_alike, net_alike}
 use Rattle.read_alike.proofs.Shapes.{one_item as same_item, leads_bind}
-use Rattle.draw_alike.specs.Drawn.{AreCorners, FigureRead, DrawingRead}
+use Rattle.draw_alike.specs.Drawn.{FigureRead, DrawingRead}
 use Rattle.draw_alike.proofs.Drawings.{drawing_alike}
 use Rattle.draw_alike.proofs.Drawn.{Stances, drawn_carried, edge_carried}
-use Rattle.draw_alike.proofs.Steps.{agrees_with, leads_check, leads_needed}
+use Rattle.draw_alike.proofs.Steps.{leads_check, leads_needed}
 
 -- ---- tests on figures
 
-ring_same : (o : Option Shift) (figure other : Figure) (w : ℤ) (filled : Bool) → FigureRead o figure other
+pub ring_same : (o : Option Shift) (figure other : Figure) (w : ℤ) (filled : Bool) → FigureRead o figure other
     → is_ring (record { figure = other; width = w; filled = filled }) ≡ is_ring (record { figure = figure; width = w; filled = filled })
 ring_same o (Line a b) (Line c e) w filled h = refl
 ring_same o (Line a b) (Rect c e) w filled h = absurd h
@@ -106,17 +105,17 @@ first_moved o (Outline (s ∷ ss)) (Outline (t ∷ ts)) h = h.each.0
 
 -- ---- parts that are none
 
-no_parts : (dx dy : ℤ) (parts : List Part) → AreShifted dx dy [] parts → parts ≡ []
+pub no_parts : (dx dy : ℤ) (parts : List Part) → AreShifted dx dy [] parts → parts ≡ []
 no_parts dx dy [] h = refl
 no_parts dx dy (p ∷ ps) h = absurd h
 
-no_hole : (dx dy : ℤ) (hole : Option Hole) → HoleIsShifted dx dy None hole → hole ≡ None
+pub no_hole : (dx dy : ℤ) (hole : Option Hole) → HoleIsShifted dx dy None hole → hole ≡ None
 no_hole dx dy None h = refl
 no_hole dx dy (Some x) h = absurd h
 
 -- ---- grounds
 
-text_same : (t u : Tree) (word : List ℕ) → SameAtom t u → is_text u word ≡ is_text t word
+pub text_same : (t u : Tree) (word : List ℕ) → SameAtom t u → is_text u word ≡ is_text t word
 text_same t u word h = ap (λ (v : Option (List ℕ)). is_value v word) (sym (same_value t u h))
 
 drawn_on_alike : (copper : LayerSet) (t u : Tree) → SameAtom t u → Agrees Same (drawn_on copper t) (drawn_on copper u)
@@ -175,7 +174,7 @@ layer_name d i j s r h = by_found (element (codes "layer") (branch s i)) (elemen
 zero_from : (w : ℤ) → int_le (pos 0) w ≡ true → pos 0 ≤ℤ w
 zero_from w h = le_by_test (pos 0) w h
 
-carried_by : (d : Shift) (i c : Item) → is_note i.what ≡ false → Becomes d i c → IsCarried d i c × (is_on_board c ≡ true)
+pub carried_by : (d : Shift) (i c : Item) → is_note i.what ≡ false → Becomes d i c → IsCarried d i c × (is_on_board c ≡ true)
 carried_by d i c e h = subst (λ (b : Bool). MatchBool b (c ≡ i) (IsCarried d i c × (is_on_board c ≡ true))) e h
 
 in_unit : (own : ℕ) (d : Shift) (i c : Item) → IsCarried d i c → IsCarried d i (record c { unit = own })
@@ -283,7 +282,7 @@ curve_carried d own t u Back = none_at d own
 curve_carried d own t u Elsewhere = none_at d own
 
 -- a note is as it was, but for its unit
-note_read : (d : Shift) (own unit : ℕ) (about : About) (name layer new_name new_layer : List ℕ) → new_name ≡ name → new_layer ≡ layer
+pub note_read : (d : Shift) (own unit : ℕ) (about : About) (name layer new_name new_layer : List ℕ) → new_name ≡ name → new_layer ≡ layer
     → ReadsItems d own (note_of name unit about layer ∷ []) (Ok (note_of new_name own about new_layer ∷ []))
 note_read d own unit about name layer new_name new_layer en el [] h = absurd h
 note_read d own unit about name layer new_name new_layer en el (c ∷ e ∷ now) h = absurd h.1

@@ -5,3 +5,5 @@ pub mod Drawings
 pub mod Cores
 pub mod Drawn
 pub mod Graphics
+pub mod Placed
+pub mod Named

@@ -1,11 +1,10 @@
 -- Single steps of chains of answers.
-use Rattle.std.proofs.Common.{◌≡◌, refl, sym, subst, ℕ, Bool, true, false, List, [], ◌∷◌, Option, None, Some, Result, Ok, Err}
-use Rattle.sexpr_read.specs.declared.place.Span.{Span}
-use Rattle.sexpr_read.specs.Tree.{Forest, none, atom, list, Tree, leaf, branch, trees, parts}
+use Rattle.std.proofs.Common.{◌≡◌, refl, sym, subst, ℕ, Bool, true, false, List, Option, None, Some, Result, Ok, Err}
+use Rattle.sexpr_read.specs.Tree.{none, Tree, leaf, branch, trees, parts}
 use Rattle.board_items.specs.declared.errors.BoardError.{BoardError}
 use Rattle.part_read.specs.Elements.{◌>>=◌, needed, check, has_head, element}
-use Rattle.read_alike.specs.Alike.{Shift, Alike}
-use Rattle.read_alike.specs.Agreeing.{Agrees, AlikeParts, FoundAlike, forest_in}
+use Rattle.read_alike.specs.Alike.{Shift}
+use Rattle.read_alike.specs.Agreeing.{Agrees, Same, AlikeParts, FoundAlike, forest_in}
 use Rattle.read_alike.specs.Carried.{Leads}
 use Rattle.read_alike.proofs.Elements.{heads_alike, find_alike}
 
@@ -32,6 +31,22 @@ pub leads_needed : {A B C : Type 0} (Q : C → Result B BoardError → Type 0) (
     → Leads Q (needed e o >>= f) answer
 leads_needed Q e None f answer h = tt
 leads_needed Q e (Some x) f answer h = h x refl
+
+-- the same answer in both
+pub same_bind : {A C D : Type 0} (S : C → D → Type 0) (a b : Result A BoardError) (f : A → Result C BoardError) (g : A → Result D BoardError) → Agrees Same a b → ((x : A) → Agrees S (f x) (g x)) → Agrees S (a >>= f) (b >>= g)
+same_bind S (Ok x) (Ok y) f g h k = subst (λ (z : _). Agrees S (f x) (g z)) (sym h) (k x)
+same_bind S (Ok x) (Err e) f g h k = absurd h
+same_bind S (Err e) (Ok y) f g h k = tt
+same_bind S (Err e) (Err d) f g h k = tt
+
+pub leads_same : {A C D : Type 0} (Q : C → Result D BoardError → Type 0) (a b : Result A BoardError) (f : A → Result C BoardError) (g : A → Result D BoardError) → Agrees Same a b → ((x : A) → Leads Q (f x) (g x)) → Leads Q (a >>= f) (b >>= g)
+leads_same Q (Ok x) (Ok y) f g h k = subst (λ (z : _). Leads Q (f x) (g z)) (sym h) (k x)
+leads_same Q (Ok x) (Err e) f g h k = absurd h
+leads_same Q (Err e) b f g h k = tt
+
+pub needed_same : {A : Type 0} (d e : BoardError) (o p : Option A) → p ≡ o → Agrees Same (needed d o) (needed e p)
+needed_same d e None p h = tt
+needed_same d e (Some x) p h = subst (λ (z : _). Agrees Same (let r : Result _ BoardError = Ok x in r) (needed e z)) (sym h) refl
 
 -- ---- elements of lists whose parts are alike
 

@@ -1,15 +1,15 @@
 -- Widths and fills of alike lists are the same.
-use Rattle.std.proofs.Common.{◌≡◌, ◌∙◌, refl, sym, ap, subst, ℕ, ℤ, pos, Bool, true, false, ◌||◌, cond, List, [], ◌∷◌, codes, Option, None, Some, Result, Ok, Err}
+use Rattle.std.proofs.Common.{◌≡◌, ◌∙◌, refl, sym, ap, subst, ℕ, ℤ, pos, Bool, true, false, ◌||◌, cond, List, codes, Option, None, Some, Result, Ok, Err}
 use Rattle.std.specs.Prelude.{int_le}
 use Rattle.sexpr_read.specs.declared.place.Span.{Span}
-use Rattle.sexpr_read.specs.Tree.{Forest, Tree, branch, value}
+use Rattle.sexpr_read.specs.Tree.{Forest, Tree, branch}
 use Rattle.board_items.specs.declared.errors.BoardError.{BoardError}
 use Rattle.board_items.specs.declared.errors.BoardError.TheVariants.{BadNumber}
 use Rattle.part_read.specs.Elements.{◌>>=◌, place, is_value, is_text, has_head, element, atom_of}
 use Rattle.part_read.specs.Numbers.{length_in, size_in, size_at}
 use Rattle.part_read.specs.Drawings.{stroke_width, first_there, width_among, width_of, filled_by, fill_among, fill_of}
-use Rattle.read_alike.specs.Alike.{Shift, Alike, AlikeTrees}
-use Rattle.read_alike.specs.Agreeing.{Agrees, Same, SameAtom, AlikeParts, FoundAlike}
+use Rattle.read_alike.specs.Alike.{Shift, Alike}
+use Rattle.read_alike.specs.Agreeing.{Agrees, Same, SameAtom, FoundAlike}
 use Rattle.read_alike.proofs.Elements.{agrees_bind, agrees_both, element_alike, inside_by_head, same_value, atom_alike}
 use Rattle.read_alike.proofs.Numbers.{size_at_alike}
 use Rattle.draw_alike.proofs.Steps.{agrees_with, element_in}

@@ -3,3 +3,4 @@ pub mod Given
 pub mod Vias
 pub mod Units
 pub mod Zones
+pub mod Placed

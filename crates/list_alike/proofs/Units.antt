@@ -35,7 +35,7 @@ use Rattle.list_alike.proofs.Tracks.{track_carried}
 use Rattle.list_alike.proofs.Vias.{via_carried}
 
 -- the items of an answer in room
-found_in_room : (board : PlainBoard) (unit : ℕ) (t : Tree) (answer : Result (List Item) BoardError) (items : List Item) → Ok items ≡ in_room board unit t answer → answer ≡ Ok items
+pub found_in_room : (board : PlainBoard) (unit : ℕ) (t : Tree) (answer : Result (List Item) BoardError) (items : List Item) → Ok items ≡ in_room board unit t answer → answer ≡ Ok items
 found_in_room board unit t (Err e) items h = absurd cc
 found_in_room board unit t (Ok found) items h = by_room (has_room board unit found) h
   where
@@ -47,7 +47,7 @@ in_room_found : (board : PlainBoard) (unit : ℕ) (t : Tree) (answer : Result (L
 in_room_found board unit t answer items e room =
     sym (ap (λ (a : Result (List Item) BoardError). in_room board unit t a) e ∙ ap (λ (b : Bool). check (TooMany (place t)) b >>= λ r. Ok items) room)
 
-same_nets : (board other : PlainBoard) → SameGround board other → (n : ℕ) → name_of board n ≡ name_of other n
+pub same_nets : (board other : PlainBoard) → SameGround board other → (n : ℕ) → name_of board n ≡ name_of other n
 same_nets board other ground n = ap (λ (l : List (ℕ × List ℕ)). name_of (record board { nets = l }) n) (sym ground.nets)
 
 -- what the two lists give by these answers

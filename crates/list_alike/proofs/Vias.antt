@@ -1,13 +1,10 @@
 -- A via's list that is alike gives the via, carried.
-use Rattle.std.proofs.Common.{◌≡◌, ◌∙◌, refl, sym, ap, subst, ℕ, ℤ, pos, ◌+ℤ◌, ◌*ℤ◌, ◌≤ℤ◌, Bool, true, List, [], ◌∷◌, Option, None, Some, Ok, codes}
+use Rattle.std.proofs.Common.{◌≡◌, ◌∙◌, refl, sym, ap, subst, ℕ, ℤ, pos, ◌+ℤ◌, ◌*ℤ◌, Bool, true, List, [], ◌∷◌, Option, None, Some, Ok, codes}
 use Rattle.std.specs.Prelude.{unwrap_or}
-use Rattle.std.specs.Int.Signed.{le_z}
-use Rattle.std.proofs.Math.Dec.{T_prop}
 use Rattle.int_algebra.proofs.Tested.{front, back}
 use Rattle.sexpr_read.specs.declared.place.Span.{Span}
 use Rattle.sexpr_read.specs.Tree.{Forest, Tree, branch}
 use Rattle.geo_seg.specs.declared.shapes.Shape.{Shape}
-use Rattle.drc_io.specs.Lengths.{IsLength}
 use Rattle.board_items.specs.declared.errors.BoardError.{BoardError}
 use Rattle.board_items.specs.declared.errors.BoardError.TheVariants.{OutOfBoard}
 use Rattle.board_items.specs.declared.layers.LayerSet.{LayerSet}
@@ -34,28 +31,9 @@ use Rattle.read_alike.specs.Carried.{shift_of, Leads, ReadsCarried}
 use Rattle.read_alike.proofs.Elements.{inside_by_head}
 use Rattle.read_alike.proofs.Numbers.{needed_alike, size_alike, name_alike, net_alike}
 use Rattle.read_alike.proofs.Spots.{spot_alike}
-use Rattle.read_alike.proofs.Shapes.{one_item, leads_bind, leads_tested, settled, two_pass}
+use Rattle.read_alike.proofs.Shapes.{one_item, one_hole, leads_bind, leads_tested, settled, two_pass}
 use Rattle.list_alike.proofs.Tracks.{StripCarried, strip_carried, strip_there, moved_strip, part_made}
 use Rattle.list_alike.proofs.Given.{size_given, word_alike, through_alike}
-
--- ---- holes by their fields
-
-≤ℤ_prop : (a b : ℤ) → IsProp (a ≤ℤ b)
-≤ℤ_prop a b = hlevel (T_prop (le_z a b))
-
-IsLength-prop : (n : ℤ) → IsProp (IsLength n)
-IsLength-prop n = hlevel (≤ℤ_prop (pos 0) n, ≤ℤ_prop n (pos 500000000))
-
-abbrev made_hole : Shape → LayerSet → Bool → (least : ℤ) → IsLength least → Hole
-made_hole shape layers plated least range = record { shape = shape; layers = layers; plated = plated; least = least; least_in_range = range }
-
-pub one_hole : (h k : Hole) → h.shape ≡ k.shape → h.layers ≡ k.layers → h.plated ≡ k.plated → h.least ≡ k.least → h ≡ k
-one_hole h k es el ep en =
-    ap (λ (s : Shape). made_hole s h.layers h.plated h.least h.least_in_range) es
-    ∙ ap (λ (l : LayerSet). made_hole k.shape l h.plated h.least h.least_in_range) el
-    ∙ ap (λ (b : Bool). made_hole k.shape k.layers b h.least h.least_in_range) ep
-    ∙ subst (λ (n : ℤ). (v : IsLength n) → made_hole k.shape k.layers k.plated h.least h.least_in_range ≡ made_hole k.shape k.layers k.plated n v) en
-    (λ v. ap (λ (m : IsLength h.least). made_hole k.shape k.layers k.plated h.least m) (IsLength-prop h.least h.least_in_range v)) k.least_in_range
 
 -- ---- the hole of a via that is carried
 

@@ -1,12 +1,12 @@
 -- A zone's list that is alike gives the same area or fills, carried, where the board has room.
-use Rattle.std.proofs.Common.{◌≡◌, ◌∙◌, refl, sym, ap, subst, ℕ, suc, ◌+◌, ◌<◌, ◌≤◌, arith, ℤ, pos, ◌+ℤ◌, ◌*ℤ◌, Bool, true, false, cond, List, [], ◌∷◌, ◌++◌, length, codes, Option, None, Some, Result, Ok, Err}
+use Rattle.std.proofs.Common.{◌≡◌, ◌∙◌, refl, sym, ap, subst, ℕ, suc, ◌+◌, ◌<◌, ◌≤◌, arith, ℤ, pos, ◌+ℤ◌, ◌*ℤ◌, Bool, true, false, cond, List, [], ◌∷◌, length, codes, Option, None, Some, Result, Ok, Err}
 use Rattle.std.specs.Prelude.{nat_lt, unwrap_or, MatchBool}
 use Rattle.std.specs.List.{AllZip}
 use Rattle.std.proofs.lemmas.Bool.{leb-true}
 use Rattle.std.proofs.lemmas.Bool.Decides.{nat_tests}
 use Rattle.int_algebra.proofs.Tested.{front, back}
 use Rattle.sexpr_read.specs.declared.place.Span.{Span}
-use Rattle.sexpr_read.specs.Tree.{Forest, none, atom, list, Tree, leaf, branch, trees, parts}
+use Rattle.sexpr_read.specs.Tree.{Forest, none, atom, list, Tree, branch, trees}
 use Rattle.geo_seg.specs.declared.points.Point.{Point}
 use Rattle.geo_seg.specs.declared.shapes.Core.{Core}
 use Rattle.geo_seg.specs.declared.shapes.Core.TheVariants.{Line as LineCore, Area as AreaCore}
@@ -25,8 +25,8 @@ use Rattle.board_items.specs.Boards.{PlainBoard, name_of, is_near, is_on_board}
 use Rattle.board_items.specs.Refusals.{room_of}
 use Rattle.board_items.specs.Moves.{AreShifted, HoleIsShifted, is_note}
 use Rattle.part_read.specs.declared.numbers.Spot.{Spot}
-use Rattle.part_read.specs.Elements.{◌>>=◌, needed, check, place, is_value, is_text, has_head, element, atom_of, in_needed, name_in}
-use Rattle.part_read.specs.LayersOf.{is_all_copper, is_outer, outer_of, layer_set, layer_in, layers_named, each_set, named}
+use Rattle.part_read.specs.Elements.{◌>>=◌, needed, check, place, has_head, element, atom_of, in_needed, name_in}
+use Rattle.part_read.specs.LayersOf.{layer_in, named}
 use Rattle.part_read.specs.NetsOf.{net_of}
 use Rattle.part_read.specs.LayersWhere.{layers_of_any}
 use Rattle.part_read.specs.Stances.{points_stood}
@@ -37,7 +37,7 @@ use Rattle.part_read.specs.Drawings.{corners_of, corners_in}
 use Rattle.part_read.proofs.Shapes.{one_shape}
 use Rattle.zone_read.specs.ZoneOf.{layers_among, zone_layers, title_among, title_of, as_it_is, area_with, area_around, area_of, has_room_after, ban_among, ban_of, bans_in, polygon_of, is_thin_by, is_thin, fill_layer, fill_on, fill_in_room, with_fill, fills_after, area_in_room, rule_area, zone_by, zone_of}
 use Rattle.read_alike.specs.Alike.{Shift, is_place_word, Alike, AlikeTrees}
-use Rattle.read_alike.specs.Agreeing.{Agrees, BothAgree, Same, SameAtom, AlikeParts, FoundAlike, forest_in}
+use Rattle.read_alike.specs.Agreeing.{Agrees, BothAgree, Same, SameAtom, AlikeParts, FoundAlike}
 use Rattle.read_alike.specs.Carried.{shift_of, IsCarried, Becomes, of_unit, Leads, ReadsCarried}
 use Rattle.read_alike.specs.Moved.{IsMovedSpot}
 use Rattle.read_alike.specs.Standing.{StandsMoved}
@@ -47,64 +47,10 @@ use Rattle.read_alike.proofs.Shapes.{one_item, leads_bind, settled, two_pass}
 use Rattle.read_alike.proofs.Figures.{points_carried, some_same}
 use Rattle.draw_alike.specs.Drawn.{AreCorners}
 use Rattle.draw_alike.proofs.Corners.{corners_in_alike}
-use Rattle.draw_alike.proofs.Steps.{leads_needed, element_in, parts_are}
+use Rattle.draw_alike.proofs.Graphics.{text_same}
+use Rattle.draw_alike.proofs.Named.{named_atom, named_alike}
+use Rattle.draw_alike.proofs.Steps.{leads_needed, element_in}
 use Rattle.list_alike.proofs.Units.{as_they_are}
-
-text_same : (t u : Tree) (word : List ℕ) → SameAtom t u → is_text u word ≡ is_text t word
-text_same t u word h = ap (λ (v : Option (List ℕ)). is_value v word) (sym (same_value t u h))
-
--- ---- layers that are named
-
-named_atom : (copper : LayerSet) (t u : Tree) → SameAtom t u → Agrees Same (named copper t) (named copper u)
-unfolding named
-named_atom copper (branch s i) u h = absurd h
-named_atom copper (leaf s q c) (branch r j) h = absurd h
-named_atom copper (leaf s q c) (leaf r p e) h =
-    subst (λ (b : Bool). Agrees Same (by_tests (is_all_copper one) (is_outer one) one) (by_tests b (is_outer two) two)) (sym (text_same one two (codes "*.Cu") h))
-    (subst (λ (b : Bool). Agrees Same (by_tests (is_all_copper one) (is_outer one) one) (by_tests (is_all_copper one) b two)) (sym (text_same one two (codes "F&B.Cu") h)) (by_both (is_all_copper one) (is_outer one)))
-  where
-    one : Tree
-    one = leaf s q c
-
-    two : Tree
-    two = leaf r p e
-
-    by_tests : Bool → Bool → Tree → Result (List LayerSet) BoardError
-    by_tests all outer t = cond all (Ok (copper ∷ [])) (cond outer (Ok (outer_of copper)) (layer_in copper t >>= λ layer. Ok (layer_set layer)))
-
-    by_both : (a b : Bool) → Agrees Same (by_tests a b one) (by_tests a b two)
-    by_both true b = refl
-    by_both false true = refl
-    by_both false false = agrees_bind Same Same (layer_in copper one) (layer_in copper two) _ _ (layer_in_alike copper one two h) (λ v w k. ap layer_set k)
-
-named_list : (copper : LayerSet) (s r : Span) (i j : Forest) → Agrees Same (named copper (branch s i)) (named copper (branch r j))
-unfolding named
-named_list copper s r i j = refl
-
-each_alike : (d : Option Shift) (copper : LayerSet) (f g : Forest) → Alike d f g → Agrees Same (each_set (named copper) (trees f)) (each_set (named copper) (trees g))
-each_alike d copper none none h = refl
-each_alike d copper none (atom t r e rest) h = absurd h
-each_alike d copper none (list t within rest) h = absurd h
-each_alike d copper (atom s q c others) none h = absurd h
-each_alike d copper (atom s q c others) (list t within rest) h = absurd h
-each_alike d copper (list s inside others) none h = absurd h
-each_alike d copper (list s inside others) (atom t r e rest) h = absurd h
-each_alike d copper (atom s q c others) (atom t r e rest) h =
-    agrees_bind Same Same (named copper (leaf s q c)) (named copper (leaf t r e)) _ _ (named_atom copper (leaf s q c) (leaf t r e) (h.0, h.1))
-    (λ x y k. agrees_bind Same Same (each_set (named copper) (trees others)) (each_set (named copper) (trees rest)) _ _ (each_alike d copper others rest h.2)
-    (λ z w l. ap (λ (m : List LayerSet). m ++ w) k ∙ ap (λ (m : List LayerSet). x ++ m) l))
-each_alike d copper (list s inside others) (list t within rest) h =
-    agrees_bind Same Same (named copper (branch s inside)) (named copper (branch t within)) _ _ (named_list copper s t inside within)
-    (λ x y k. agrees_bind Same Same (each_set (named copper) (trees others)) (each_set (named copper) (trees rest)) _ _ (each_alike d copper others rest h.1)
-    (λ z w l. ap (λ (m : List LayerSet). m ++ w) k ∙ ap (λ (m : List LayerSet). x ++ m) l))
-
-pub named_alike : (d : Option Shift) (copper : LayerSet) (t u : Tree) → AlikeParts d t u → Agrees Same (layers_named copper t) (layers_named copper u)
-unfolding layers_named
-named_alike d copper t u h =
-    agrees_bind Same Same (each_set (named copper) (parts t)) (each_set (named copper) (parts u)) _ _
-    (subst (λ (l : List Tree). Agrees Same (each_set (named copper) l) (each_set (named copper) (parts u))) (sym (parts_are t))
-    (subst (λ (l : List Tree). Agrees Same (each_set (named copper) (trees (forest_in t))) (each_set (named copper) l)) (sym (parts_are u)) (each_alike d copper (forest_in t) (forest_in u) h)))
-    (λ x y k. ap layers_of_any k)
 
 pub zone_layers_alike : (d : Option Shift) (copper : LayerSet) (i j : Forest) (s r : Span) → Alike d i j → Agrees Same (zone_layers copper (branch s i)) (zone_layers copper (branch r j))
 unfolding zone_layers

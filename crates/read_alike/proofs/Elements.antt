@@ -72,7 +72,7 @@ heads_alike d (branch s inside) (branch t within) word h = first_inside d inside
 
 -- ---- elements
 
-found_step : (d : Option Shift) (test : Tree → Bool) (t u : Tree) (more others : Option Tree) → AlikeTrees d t u → (a b : Bool) → test t ≡ a → a ≡ b → FoundAlike d test more others
+pub found_step : (d : Option Shift) (test : Tree → Bool) (t u : Tree) (more others : Option Tree) → AlikeTrees d t u → (a b : Bool) → test t ≡ a → a ≡ b → FoundAlike d test more others
     → FoundAlike d test (cond a (Some t) more) (cond b (Some u) others)
 found_step d test t u more others h true true e same rest = (h, e)
 found_step d test t u more others h true false e same rest = absurd cc

@@ -90,6 +90,42 @@ place_alike d (atom s q c (atom t r x (atom u p y others))) n h =
       moved_y = read_back n.1 b.near ∙ ap (λ (z : ℤ). Ok z) b.is;
     }
 
+-- only the numbers are written anew
+pub place_put : (d : Shift) (i : Forest) (n : ℤ × ℤ) → place_moved d i ≡ Some n → IsPlaceMoved d i (put_numbers n i)
+place_put d none n h = absurd cc
+place_put d (list s inside others) n h = absurd cc
+place_put d (atom s q c none) n h = absurd (no_numbers (is_place_head (value (leaf s q c))) n h)
+place_put d (atom s q c (list t inside others)) n h = absurd (no_numbers (is_place_head (value (leaf s q c))) n h)
+place_put d (atom s q c (atom t r x none)) n h = absurd (no_numbers (is_place_head (value (leaf s q c))) n h)
+place_put d (atom s q c (atom t r x (list u inside others))) n h = absurd (no_numbers (is_place_head (value (leaf s q c))) n h)
+place_put d (atom s q c (atom t r x (atom u p y others))) n h =
+    let k = if_some (is_place_head (value (leaf s q c))) (moved_numbers d x y) n h in
+    let e = both_some (moved_by d.dx (mm_cut_answer x)) (moved_by d.dy (mm_cut_answer y)) n k.1 in
+    let a = moved_number d.dx x n.0 (mm_cut_answer x) refl e.0 in
+    let b = moved_number d.dy y n.1 (mm_cut_answer y) refl e.1 in
+    record {
+      spans = (s, t, u);
+      other_spans = (s, t, u);
+      quotes = (q, r, p);
+      other_quotes = (r, p);
+      head = c;
+      x = x;
+      y = y;
+      new_x = mm_text n.0;
+      new_y = mm_text n.1;
+      rest = others;
+      other_rest = others;
+      was = refl;
+      is = refl;
+      is_place = k.0;
+      at_x = a.at;
+      at_y = b.at;
+      read_x = a.read;
+      read_y = b.read;
+      moved_x = read_back n.0 a.near ∙ ap (λ (z : ℤ). Ok z) a.is;
+      moved_y = read_back n.1 b.near ∙ ap (λ (z : ℤ). Ok z) b.is;
+    }
+
 inside_alike : (d : Shift) (i : Forest) (o : Option (ℤ × ℤ)) → place_moved d i ≡ o → Alike (Some d) i (moved d i) → AlikeInside (Some d) i (put_if o (moved d i)) (Alike (Some d) i (put_if o (moved d i)))
 inside_alike d i None e h = inl (h, e)
 inside_alike d i (Some n) e h = inr (place_alike d i n e)
@@ -169,7 +205,7 @@ moved_utf8 d (list s inside others) h = (inside_utf8 d inside (place_moved d ins
 
 -- ---- and what is the same but for spans is alike too
 
-moved_same : (d : Shift) (i g h : Forest) → IsPlaceMoved d i g → SameTrees g h → IsPlaceMoved d i h
+pub moved_same : (d : Shift) (i g h : Forest) → IsPlaceMoved d i g → SameTrees g h → IsPlaceMoved d i h
 moved_same d i g h p same = by_shape h (subst (λ (x : Forest). SameTrees x h) p.is same)
   where
     by_shape : (h : Forest) → SameTrees (atom p.other_spans.0 p.quotes.0 p.head (atom p.other_spans.1 p.other_quotes.0 p.new_x (atom p.other_spans.2 p.other_quotes.1 p.new_y p.other_rest))) h → IsPlaceMoved d i h

@@ -78,7 +78,7 @@ size_alike d word plain i j s r h =
 
 -- ---- names
 
-name_by : (d : Option Shift) (x y : Tree) → AlikeParts d x y → text_in (atom_of 1 x) ≡ text_in (atom_of 1 y)
+pub name_by : (d : Option Shift) (x y : Tree) → AlikeParts d x y → text_in (atom_of 1 x) ≡ text_in (atom_of 1 y)
 name_by d x y h = by_atoms (atom_of 1 x) (atom_of 1 y) (atom_alike d 1 x y h)
   where
     by_atoms : (a b : Result Tree BoardError) → BothAgree SameAtom a b → text_in a ≡ text_in b
@@ -87,7 +87,7 @@ name_by d x y h = by_atoms (atom_of 1 x) (atom_of 1 y) (atom_alike d 1 x y h)
     by_atoms (Err e) (Ok q) k = absurd k
     by_atoms (Err e) (Err g) k = refl
 
-naming_alike : (d : Option Shift) (t u : Tree) → AlikeTrees d t u → is_naming t ≡ is_naming u
+pub naming_alike : (d : Option Shift) (t u : Tree) → AlikeTrees d t u → is_naming t ≡ is_naming u
 unfolding is_naming
 naming_alike d t u h = ap (λ b. b || has_head (codes "uuid") t) (heads_alike d t u (codes "tstamp") h) ∙ ap (λ b. has_head (codes "tstamp") u || b) (heads_alike d t u (codes "uuid") h)
 

@@ -5,8 +5,10 @@ use Rattle.std.proofs.Math.Dec.{T_prop}
 use Rattle.std.proofs.lemmas.Int.{ints}
 use Rattle.int_algebra.proofs.Tested.{front, back, le_by_test}
 use Rattle.exact_dec.specs.Reading.{is_far}
+use Rattle.geo_seg.specs.declared.shapes.Shape.{Shape}
 use Rattle.drc_io.specs.Lengths.{IsLength, IsLengthIfSome}
 use Rattle.board_items.specs.declared.errors.BoardError.{BoardError}
+use Rattle.board_items.specs.declared.layers.LayerSet.{LayerSet}
 use Rattle.board_items.specs.declared.parts.Part.{Part}
 use Rattle.board_items.specs.declared.item.Hole.{Hole}
 use Rattle.board_items.specs.declared.item.What.{What}
@@ -56,6 +58,19 @@ one_item a b en eu et ex ey ec eh el ew =
     ∙ ap (λ (n : List Part). made b.name b.unit b.net b.x b.y n a.hole a.local a.what a.local_in_range a.what_in_range) ec
     ∙ ap (λ (n : Option Hole). made b.name b.unit b.net b.x b.y b.copper n a.local a.what a.local_in_range a.what_in_range) eh
     ∙ last_fields b.name b.unit b.net b.x b.y b.copper b.hole a.local b.local a.what b.what a.local_in_range a.what_in_range b.local_in_range b.what_in_range el ew
+
+-- ---- holes by their fields
+
+abbrev made_hole : Shape → LayerSet → Bool → (least : ℤ) → IsLength least → Hole
+made_hole shape layers plated least range = record { shape = shape; layers = layers; plated = plated; least = least; least_in_range = range }
+
+pub one_hole : (h k : Hole) → h.shape ≡ k.shape → h.layers ≡ k.layers → h.plated ≡ k.plated → h.least ≡ k.least → h ≡ k
+one_hole h k es el ep en =
+    ap (λ (s : Shape). made_hole s h.layers h.plated h.least h.least_in_range) es
+    ∙ ap (λ (l : LayerSet). made_hole k.shape l h.plated h.least h.least_in_range) el
+    ∙ ap (λ (b : Bool). made_hole k.shape k.layers b h.least h.least_in_range) ep
+    ∙ subst (λ (n : ℤ). (v : IsLength n) → made_hole k.shape k.layers k.plated h.least h.least_in_range ≡ made_hole k.shape k.layers k.plated n v) en
+    (λ v. ap (λ (m : IsLength h.least). made_hole k.shape k.layers k.plated h.least m) (IsLength-prop h.least h.least_in_range v)) k.least_in_range
 
 -- ---- answers
 

@@ -20,7 +20,7 @@ spot_made : (x y u v : ℤ) → x ≡ u → y ≡ v → (let s : Spot = record {
 spot_made x y u v h k = ap (λ (z : ℤ). let s : Spot = record { x = z; y = v } in s) (sym h) ∙ ap (λ (z : ℤ). let s : Spot = record { x = x; y = z } in s) (sym k)
 
 -- where nothing is moved the spots are the same
-same_spot : (d : Option Shift) (t u : Tree) → AlikeParts d t u → Agrees Same (spot_at t) (spot_at u)
+pub same_spot : (d : Option Shift) (t u : Tree) → AlikeParts d t u → Agrees Same (spot_at t) (spot_at u)
 unfolding spot_at
 same_spot d t u h =
     agrees_bind SameAtom Same (atom_of 1 t) (atom_of 1 u) _ _ (agrees_both SameAtom (atom_of 1 t) (atom_of 1 u) (atom_alike d 1 t u h))
@@ -71,7 +71,7 @@ kept_far d (atom s0 q0 head (atom s1 q1 x (atom s2 q2 y others))) sp word s h p 
     let is_place : is_place_head (value (leaf s0 q0 head)) ≡ true = word_of (value (leaf s0 q0 head)) word h ∙ p in
     by_answers d (BadNumber (place (leaf s1 q1 x))) (BadNumber (place (leaf s2 q2 y))) (mm_cut_answer x) (mm_cut_answer y) s (rw is_place at k) e
 
-kept_spot : (d : Shift) (t u : Tree) (word : List ℕ) (i : Forest) (sp : Span) → t ≡ branch sp i → first_is (trees i) word ≡ true → is_place_word word ≡ true → place_moved d i ≡ None → Agrees Same (spot_at t) (spot_at u)
+pub kept_spot : (d : Shift) (t u : Tree) (word : List ℕ) (i : Forest) (sp : Span) → t ≡ branch sp i → first_is (trees i) word ≡ true → is_place_word word ≡ true → place_moved d i ≡ None → Agrees Same (spot_at t) (spot_at u)
     → Agrees (IsMovedSpot (Some d)) (spot_at t) (spot_at u)
 kept_spot d t u word i sp same h p k agrees = by_spots (spot_at t) (spot_at u) refl agrees
   where
@@ -82,7 +82,7 @@ kept_spot d t u word i sp same h p k agrees = by_spots (spot_at t) (spot_at u) r
 
 -- ---- lists with their place moved
 
-moved_spots : (d : Shift) (i j : Forest) (s r : Span) → IsPlaceMoved d i j → Agrees (IsMovedSpot (Some d)) (spot_at (branch s i)) (spot_at (branch r j))
+pub moved_spots : (d : Shift) (i j : Forest) (s r : Span) → IsPlaceMoved d i j → Agrees (IsMovedSpot (Some d)) (spot_at (branch s i)) (spot_at (branch r j))
 unfolding spot_at atom_of length_in
 moved_spots d i j s r p =
     let one = atom p.spans.0 p.quotes.0 p.head (atom p.spans.1 p.quotes.1 p.x (atom p.spans.2 p.quotes.2 p.y p.rest)) in

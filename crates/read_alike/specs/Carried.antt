@@ -1,5 +1,5 @@
 -- Items that are carried to another place and another unit.
-use Rattle.std.specs.Prelude.{◌≡◌, ℕ, pos, ◌+ℤ◌, ◌*ℤ◌, true, false, List, map, MatchBool, Option, None, Some, Result, Ok, Err, ⊤}
+use Rattle.std.specs.Prelude.{◌≡◌, ℕ, pos, ◌+ℤ◌, ◌*ℤ◌, true, false, List, [], ◌∷◌, map, MatchBool, Option, None, Some, Result, Ok, Err, ⊤}
 use Rattle.std.specs.List.{AllZip}
 use Rattle.board_items.specs.declared.errors.BoardError.{BoardError}
 use Rattle.board_items.specs.declared.item.Item.{Item}
@@ -30,6 +30,11 @@ Becomes d item now = MatchBool (is_note item.what) (now ≡ item) (IsCarried d i
 -- the items, as ones of this unit
 abbrev pub of_unit : ℕ → List Item → List Item
 of_unit unit items = map (λ (item : Item). record item { unit = unit }) items
+
+-- the items are of this unit, and each lies on a board
+abbrev pub ItemsOf : ℕ → List Item → Type 0
+ItemsOf unit [] = ⊤
+ItemsOf unit (item ∷ items) = (item.unit ≡ unit) × (is_on_board item ≡ true) × ItemsOf unit items
 
 -- where the one is accepted, the other answer is so related to what it gives
 abbrev pub Leads : {A B : Type 0} → (A → Result B BoardError → Type 0) → Result A BoardError → Result B BoardError → Type 0

@@ -1,6 +1,6 @@
 //! Laws. The functions do nothing: each clause holds for all trees.
 
-ghost use Rattle.std.specs.Prelude.{◌≡◌, ◌+◌, ◌≤◌, ◌+ℤ◌, ◌-ℤ◌, ℕ, ℤ, Bool, true, false, List, Option, None, Some, map, unsigned_abs};
+ghost use Rattle.std.specs.Prelude.{◌≡◌, ◌+◌, ◌≤◌, ◌+ℤ◌, ◌-ℤ◌, ℕ, ℤ, true, false, List, Option, None, Some, map, unsigned_abs};
 ghost use Rattle.std.specs.List.{AllZip};
 ghost use Rattle.sexpr_read.specs.declared.place.Span.{Span};
 ghost use Rattle.sexpr_read.specs.Tree.{Forest, Tree, branch};

@@ -47,7 +47,7 @@ same_levels (list s inside others) none h = absurd h
 same_levels (list s inside others) (atom t r d rest) h = absurd h
 same_levels (list s inside others) (list t within rest) h = let a = same_levels inside within h.0 in let b = same_levels others rest h.1 in omega (arith, a, b)
 
-respelled_levels : (f g : Forest) → IsRespelled f g → levels_in f ≡ levels_in g
+pub respelled_levels : (f g : Forest) → IsRespelled f g → levels_in f ≡ levels_in g
 respelled_levels none none h = refl
 respelled_levels none (atom t r d rest) h = absurd h
 respelled_levels none (list t within rest) h = absurd h
@@ -124,7 +124,7 @@ insides-join none g = refl
 insides-join (atom s q c others) g = insides-join others g
 insides-join (list s inside others) g = ap (λ l. inside ∷ l) (insides-join others g)
 
-take_all_of : (t : List ℕ) → slice_range t 0 (length t) ≡ t
+pub take_all_of : (t : List ℕ) → slice_range t 0 (length t) ≡ t
 take_all_of t = let z : length t - 0 ≡ length t = omega arith in ap (λ n. take n t) z ∙ take_all (length t) t (omega arith)
 
 -- what spells one list alike spells one list

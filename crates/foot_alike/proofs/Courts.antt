@@ -1,0 +1,405 @@
+-- The courtyard of a footprint that is moved is the courtyard, moved.
+use Rattle.std.proofs.Common.{◌≡◌, ◌∙◌, refl, sym, ap, subst, ℕ, suc, ℤ, pos, ◌+◌, ◌+ℤ◌, ◌*ℤ◌, Bool, true, false, ◌&&◌, ◌||◌, ◌==◌, not, cond, List, [], ◌∷◌, ◌++◌, map, inl, inr, Option, None, Some, arith}
+use Rattle.std.specs.List.{AllZip, list_all, slice_get}
+use Rattle.std.specs.Ordering.{int_eq}
+use Rattle.std.proofs.lemmas.Int.{ints}
+use Rattle.geo_seg.specs.declared.points.Point.{Point}
+use Rattle.geo_seg.specs.declared.points.Seg.{Seg}
+use Rattle.geo_seg.specs.declared.shapes.Core.{Core}
+use Rattle.geo_seg.specs.declared.shapes.Core.TheVariants.{Line as LineCore, Area}
+use Rattle.geo_seg.specs.declared.shapes.Shape.{Shape}
+use Rattle.geo_seg.specs.Shifts.{IsShiftedPoint, IsShiftedCore, IsShiftedShape}
+use Rattle.board_items.specs.declared.layers.LayerSet.{LayerSet}
+use Rattle.board_items.specs.declared.parts.Part.{Part}
+use Rattle.board_items.specs.Moves.{AreShifted, IsShiftedPart}
+use Rattle.part_read.specs.declared.numbers.Spot.{Spot}
+use Rattle.part_read.specs.declared.stances.Stance.{Stance}
+use Rattle.part_read.specs.declared.radii.Radius.{Radius}
+use Rattle.part_read.specs.declared.figures.Figure.{Figure}
+use Rattle.part_read.specs.declared.figures.Figure.TheVariants.{Line as LineFigure, Rect as RectFigure, Circle as CircleFigure, Outline as OutlineFigure}
+use Rattle.part_read.specs.OnBoard.{tested, fits_board, point_at}
+use Rattle.part_read.specs.Stances.{point_stood, points_stood}
+use Rattle.part_read.specs.Figures.{box_core, no_radius, radius_of, around}
+use Rattle.part_read.proofs.Shapes.{one_point, one_shape, is_tested}
+use Rattle.courtyard.specs.Ends.{place as spot_of_point, is_same, is_short}
+use Rattle.court_moves.specs.Moves.{IsShiftedSeg, AreShiftedSegs, HasPoint, HasCorner}
+use Rattle.court_moves.proofs.Moving.{beyond, same_moved, chained_moved}
+use Rattle.court_moves.proofs.Cornering.{has_corner}
+use Rattle.footprint_read.specs.declared.sides.Side.{Side}
+use Rattle.footprint_read.specs.declared.sides.Course.{Course}
+use Rattle.footprint_read.specs.declared.courts.Court.{Court}
+use Rattle.footprint_read.specs.declared.courts.Court.TheVariants.{Unchecked, Parts, Off}
+use Rattle.footprint_read.specs.Courtyards.{at, is_long, ends_at, many_at, is_met, is_closed, seg_between, seg_of, with_seg, segs_of, core_between, line_core, area_core, core_of, reach_of, court_part, part_by, figure_part, with_part, figure_parts, outline_part, HasParts, IsCourt, parts_in, lies_on_board}
+use Rattle.read_alike.specs.Alike.{Shift}
+use Rattle.read_alike.specs.Moved.{moved_spot}
+use Rattle.read_alike.specs.Standing.{StandsMoved}
+use Rattle.read_alike.proofs.Figures.{some_same, tested_some, point_carried, points_carried}
+use Rattle.read_alike.proofs.Shapes.{half_near, fits_moved}
+use Rattle.draw_alike.proofs.Cores.{box_moved}
+use Rattle.pad_alike.specs.Heads.{moved_stance}
+use Rattle.pad_alike.proofs.Placing.{split}
+use Rattle.pad_alike.proofs.Standing.{moved_stances}
+use Rattle.foot_alike.proofs.Siding.{moved_course, moved_side}
+
+-- ---- lines that are closed
+
+module _ (d : Shift) where
+  long_moved : (line : Course) → is_long (moved_course d line) ≡ is_long line
+  long_moved line = ap not (same_moved d.dx d.dy (at line.a) (at line.b))
+
+  ends_moved : (k : ℤ × ℤ) (line : Course) → ends_at (beyond d.dx d.dy k) (moved_course d line) ≡ ends_at k line
+  ends_moved k line =
+      ap (λ (b : Bool). by_ends b (is_same (at (moved_spot d line.a)) (beyond d.dx d.dy k)) (is_same (at (moved_spot d line.b)) (beyond d.dx d.dy k))) (long_moved line)
+      ∙ ap (λ (b : Bool). by_ends (is_long line) b (is_same (at (moved_spot d line.b)) (beyond d.dx d.dy k))) (same_moved d.dx d.dy (at line.a) k)
+      ∙ ap (λ (b : Bool). by_ends (is_long line) (is_same (at line.a) k) b) (same_moved d.dx d.dy (at line.b) k)
+    where
+      by_ends : Bool → Bool → Bool → ℕ
+      by_ends long first second = cond long (cond first 1 0 + cond second 1 0) 0
+
+  many_moved : (k : ℤ × ℤ) (lines : List Course) → many_at (beyond d.dx d.dy k) (map (moved_course d) lines) ≡ many_at k lines
+  many_moved k [] = refl
+  many_moved k (line ∷ lines) =
+      ap (λ (n : ℕ). n + many_at (beyond d.dx d.dy k) (map (moved_course d) lines)) (ends_moved k line) ∙ ap (λ (n : ℕ). ends_at k line + n) (many_moved k lines)
+
+  met_moved : (lines : List Course) (line : Course) → is_met (map (moved_course d) lines) (moved_course d line) ≡ is_met lines line
+  met_moved lines line =
+      ap (λ (b : Bool). not b || (many_at (at (moved_spot d line.a)) (map (moved_course d) lines) == 2 && many_at (at (moved_spot d line.b)) (map (moved_course d) lines) == 2)) (long_moved line)
+      ∙ ap (λ (n : ℕ). not (is_long line) || (n == 2 && many_at (at (moved_spot d line.b)) (map (moved_course d) lines) == 2)) (many_moved (at line.a) lines)
+      ∙ ap (λ (n : ℕ). not (is_long line) || (many_at (at line.a) lines == 2 && n == 2)) (many_moved (at line.b) lines)
+
+  all_met : (lines some : List Course) → list_all (is_met (map (moved_course d) lines)) (map (moved_course d) some) ≡ list_all (is_met lines) some
+  all_met lines [] = refl
+  all_met lines (line ∷ some) =
+      ap (λ (b : Bool). b && list_all (is_met (map (moved_course d) lines)) (map (moved_course d) some)) (met_moved lines line) ∙ ap (λ (b : Bool). is_met lines line && b) (all_met lines some)
+
+  closed_same : (lines : List Course) → is_closed (map (moved_course d) lines) ≡ is_closed lines
+  closed_same lines = all_met lines lines
+
+  -- ---- figures
+
+  abbrev ddx : ℤ
+  ddx = pos 2 *ℤ d.dx
+
+  abbrev ddy : ℤ
+  ddy = pos 2 *ℤ d.dy
+
+  record Two (core : Point → Point → Core) (o r : Option Point) (c : Core) : Type 0 where
+    p : Point
+    q : Point
+    has_p : o ≡ Some p
+    has_q : r ≡ Some q
+    is : core p q ≡ c
+
+  two_some : (core : Point → Point → Core) (o r : Option Point) (c : Core) → core_between core o r ≡ Some c → Two core o r c
+  two_some core None r c h = absurd cc
+  two_some core (Some p) None c h = absurd cc
+  two_some core (Some p) (Some q) c h = record { p = p; q = q; has_p = refl; has_q = refl; is = some_same h }
+
+  record Made (r : Option Radius) (o : Option Core) (part : Part) : Type 0 where
+    radius : Radius
+    core : Core
+    has_radius : r ≡ Some radius
+    has_core : o ≡ Some core
+    is : court_part radius core ≡ part
+
+  made_some : (r : Option Radius) (o : Option Core) (part : Part) → part_by r o ≡ Some part → Made r o part
+  made_some None o part h = absurd cc
+  made_some (Some r) None part h = absurd cc
+  made_some (Some r) (Some core) part h = record { radius = r; core = core; has_radius = refl; has_core = refl; is = some_same h }
+
+  first_core : {a b : Core} → a ∷ [] ≡ b ∷ [] → a ≡ b
+  first_core h = cc
+
+  same_part : (part other : Part) → other.layers ≡ part.layers → (r : Radius) (core : Core) → part ≡ court_part r core → other.shape.radius ≡ part.shape.radius → court_part r other.shape.core ≡ other
+  same_part part other layers r core is radius =
+      let same : around r other.shape.core ≡ other.shape = one_shape (around r other.shape.core) other.shape refl (sym (radius ∙ ap (λ (p : Part). p.shape.radius) is)) in
+      ap (λ (s : Shape). let p : Part = record { layers = record { bits = 0 }; shape = s } in p) same
+      ∙ ap (λ (l : LayerSet). let p : Part = record { layers = l; shape = other.shape } in p) (sym (layers ∙ ap (λ (p : Part). p.layers) is))
+
+  module _ (stance : Stance) where
+    abbrev new : Stance
+    new = moved_stance d stance
+
+    stood_again : (s : Spot) (p q : Point) → point_stood stance s ≡ Some p → IsShiftedPoint ddx ddy p q → point_stood new s ≡ Some q
+    stood_again s p q some h = point_carried d stance new s s p q ((moved_stances d stance).stands s s refl) some h
+
+    line_again : (a b : Spot) (core other : Core) → core_between line_core (point_stood stance a) (point_stood stance b) ≡ Some core → IsShiftedShape ddx ddy (around no_radius core) (around no_radius other)
+        → core_between line_core (point_stood new a) (point_stood new b) ≡ Some other
+    line_again a b core other some h =
+        let k = two_some line_core (point_stood stance a) (point_stood stance b) core some in
+        by_core k.p k.q k.has_p k.has_q other (subst (λ (c : Core). IsShiftedShape ddx ddy (around no_radius c) (around no_radius other)) (sym k.is) h)
+      where
+        by_core : (p q : Point) → point_stood stance a ≡ Some p → point_stood stance b ≡ Some q → (other : Core) → IsShiftedShape ddx ddy (around no_radius (line_core p q)) (around no_radius other)
+            → core_between line_core (point_stood new a) (point_stood new b) ≡ Some other
+        by_core p q ep eq (Area corners) h = absurd h.core
+        by_core p q ep eq (LineCore s) h =
+            ap (λ (o : Option Point). core_between line_core o (point_stood new b)) (stood_again a p s.a ep h.core.0)
+            ∙ ap (λ (o : Option Point). core_between line_core (Some s.a) o) (stood_again b q s.b eq h.core.1)
+
+    box_again : (a b : Spot) (core other : Core) → core_between box_core (point_stood stance a) (point_stood stance b) ≡ Some core → IsShiftedShape ddx ddy (around no_radius core) (around no_radius other)
+        → core_between box_core (point_stood new a) (point_stood new b) ≡ Some other
+    box_again a b core other some h =
+        let k = two_some box_core (point_stood stance a) (point_stood stance b) core some in
+        let moved = subst (λ (c : Core). IsShiftedShape ddx ddy (around no_radius c) (around no_radius other)) (sym k.is) h in
+        let m = box_moved d stance new true k.p k.q (other ∷ []) (moved.core, tt) in
+        ap (λ (o : Option Point). core_between box_core o (point_stood new b)) (stood_again a k.p m.one k.has_p m.is_one)
+        ∙ ap (λ (o : Option Point). core_between box_core (Some m.one) o) (stood_again b k.q m.two k.has_q m.is_two)
+        ∙ ap (λ (c : Core). let o : Option Core = Some c in o) (sym (first_core m.are))
+
+    area_some : (o : Option (List Point)) (core : Core) → area_core o ≡ Some core → (ps : List Point) × (o ≡ Some ps) × (Area ps ≡ core)
+    area_some None core h = absurd cc
+    area_some (Some ps) core h = (ps, refl, some_same h)
+
+    all_stand : (spots : List Spot) → AllZip (StandsMoved d stance new) spots spots
+    all_stand [] = tt
+    all_stand (s ∷ spots) = ((moved_stances d stance).stands s s refl, all_stand spots)
+
+    core_again : (figure : Figure) (core other : Core) → core_of stance figure ≡ Some core → IsShiftedShape ddx ddy (around no_radius core) (around no_radius other) → core_of new figure ≡ Some other
+    core_again (LineFigure a b) core other some h = line_again a b core other some h
+    core_again (RectFigure a b) core other some h = box_again a b core other some h
+    core_again (CircleFigure c r) core other some h = line_again c c core other some h
+    core_again (OutlineFigure spots) core other some h =
+        let k = area_some (points_stood stance spots) core some in
+        by_core k.0 k.1 other (subst (λ (c : Core). IsShiftedShape ddx ddy (around no_radius c) (around no_radius other)) (sym k.2) h)
+      where
+        by_core : (ps : List Point) → points_stood stance spots ≡ Some ps → (other : Core) → IsShiftedShape ddx ddy (around no_radius (Area ps)) (around no_radius other) → area_core (points_stood new spots) ≡ Some other
+        by_core ps e (LineCore s) h = absurd h.core
+        by_core ps e (Area qs) h = ap area_core (points_carried d stance new spots spots ps qs (all_stand spots) e h.core)
+
+    figure_again : (figure : Figure) (part other : Part) → figure_part stance figure ≡ Some part → IsShiftedPart ddx ddy part other → figure_part new figure ≡ Some other
+    figure_again figure part other some h =
+        let k = made_some (radius_of (reach_of figure)) (core_of stance figure) part some in
+        let shape = subst (λ (p : Part). IsShiftedShape ddx ddy p.shape other.shape) (sym k.is) h.shape in
+        let core = core_again figure k.core other.shape.core k.has_core (record { core = shape.core; radius = refl }) in
+        ap (λ (r : Option Radius). part_by r (core_of new figure)) k.has_radius
+        ∙ ap (λ (o : Option Core). part_by (Some k.radius) o) core
+        ∙ ap (λ (p : Part). let o : Option Part = Some p in o) (same_part part other h.layers k.radius k.core (sym k.is) h.shape.radius)
+
+    record Front (o : Option Part) (p : Option (List Part)) (all : List Part) : Type 0 where
+      part : Part
+      parts : List Part
+      has_part : o ≡ Some part
+      has_parts : p ≡ Some parts
+      are : part ∷ parts ≡ all
+
+    front_some : (o : Option Part) (p : Option (List Part)) (all : List Part) → with_part o p ≡ Some all → Front o p all
+    front_some None p all h = absurd cc
+    front_some (Some part) None all h = absurd cc
+    front_some (Some part) (Some parts) all h = record { part = part; parts = parts; has_part = refl; has_parts = refl; are = some_same h }
+
+    nothing_more : (parts others : List Part) → [] ≡ parts → AreShifted ddx ddy parts others → (let o : Option (List Part) = Some [] in o) ≡ Some others
+    nothing_more [] [] e h = refl
+    nothing_more [] (o ∷ others) e h = absurd h
+    nothing_more (p ∷ parts) others e h = absurd cc
+
+    figures_again : (figures : List Figure) (parts others : List Part) → figure_parts stance figures ≡ Some parts → AreShifted ddx ddy parts others → figure_parts new figures ≡ Some others
+    figures_again [] parts others some h = nothing_more parts others (some_same some) h
+    figures_again (figure ∷ figures) parts others some h =
+        let k = front_some (figure_part stance figure) (figure_parts stance figures) parts some in
+        by_first k.part k.parts k.has_part others (subst (λ (l : List Part). AreShifted ddx ddy l others) (sym k.are) h) (λ rest m. figures_again figures k.parts rest k.has_parts m)
+      where
+        by_first : (part : Part) (parts : List Part) → figure_part stance figure ≡ Some part → (others : List Part) → AreShifted ddx ddy (part ∷ parts) others
+            → ((rest : List Part) → AreShifted ddx ddy parts rest → figure_parts new figures ≡ Some rest) → with_part (figure_part new figure) (figure_parts new figures) ≡ Some others
+        by_first part parts e [] h more = absurd h
+        by_first part parts e (o ∷ rest) h more =
+            ap (λ (z : Option Part). with_part z (figure_parts new figures)) (figure_again figure part o e h.0) ∙ ap (λ (z : Option (List Part)). with_part (Some o) z) (more rest h.1)
+
+  -- ---- outlines
+
+  record Outlines (polys : List (List Point)) (others : List Part) : Type 0 where
+    moved : List (List Point)
+    zip : AllZip (AllZip (IsShiftedPoint ddx ddy)) polys moved
+    are : map outline_part moved ≡ others
+
+  outline_of : (ps : List Point) (other : Part) → IsShiftedPart ddx ddy (outline_part ps) other → (qs : List Point) × AllZip (IsShiftedPoint ddx ddy) ps qs × (outline_part qs ≡ other)
+  outline_of ps other h = by_core other.shape.core refl h.shape.core
+    where
+      by_core : (core : Core) → other.shape.core ≡ core → IsShiftedCore ddx ddy (Area ps) core → (qs : List Point) × AllZip (IsShiftedPoint ddx ddy) ps qs × (outline_part qs ≡ other)
+      by_core (LineCore s) e k = absurd k
+      by_core (Area qs) e k = (qs, k, ap (λ (c : Core). court_part no_radius c) (sym e) ∙ same_part (outline_part ps) other h.layers no_radius (Area ps) refl h.shape.radius)
+
+  outlines_of : (polys : List (List Point)) (others : List Part) → AreShifted ddx ddy (map outline_part polys) others → Outlines polys others
+  outlines_of [] [] h = record { moved = []; zip = tt; are = refl }
+  outlines_of [] (o ∷ others) h = absurd h
+  outlines_of (ps ∷ polys) [] h = absurd h
+  outlines_of (ps ∷ polys) (o ∷ others) h =
+      let k = outline_of ps o h.0 in
+      let m = outlines_of polys others h.1 in
+      record { moved = k.0 ∷ m.moved; zip = (k.1, m.zip); are = ap (λ (p : Part). p ∷ map outline_part m.moved) k.2 ∙ ap (λ (l : List Part). o ∷ l) m.are }
+
+  -- ---- lines of which each end is a corner
+
+  -- the moved point is one of a board
+  record StaysThere (k : ℤ × ℤ) : Type 0 where
+    point : Point
+    x : point.x ≡ k.0 +ℤ ddx
+    y : point.y ≡ k.1 +ℤ ddy
+
+  point_stays : (ps qs : List Point) (k : ℤ × ℤ) → AllZip (IsShiftedPoint ddx ddy) ps qs → HasPoint ps k → StaysThere k
+  point_stays [] qs k zip h = absurd h
+  point_stays (p ∷ ps) [] k zip h = absurd zip
+  point_stays (p ∷ ps) (q ∷ qs) k zip (inl e) =
+      record { point = q; x = zip.0.x ∙ ap (λ (z : ℤ × ℤ). z.0 +ℤ ddx) e; y = zip.0.y ∙ ap (λ (z : ℤ × ℤ). z.1 +ℤ ddy) e }
+  point_stays (p ∷ ps) (q ∷ qs) k zip (inr h) = point_stays ps qs k zip.1 h
+
+  corner_stays : (polys moved : List (List Point)) (k : ℤ × ℤ) → AllZip (AllZip (IsShiftedPoint ddx ddy)) polys moved → HasCorner polys k → StaysThere k
+  corner_stays [] moved k zip h = absurd h
+  corner_stays (ps ∷ polys) [] k zip h = absurd zip
+  corner_stays (ps ∷ polys) (qs ∷ moved) k zip (inl h) = point_stays ps qs k zip.0 h
+  corner_stays (ps ∷ polys) (qs ∷ moved) k zip (inr h) = corner_stays polys moved k zip.1 h
+
+  -- both ends of each of the lines stay
+  abbrev EndsStay : List Seg → Type 0
+  EndsStay [] = Unit {0}
+  EndsStay (l ∷ ls) = (is_short l ≡ false → StaysThere (spot_of_point l.a) × StaysThere (spot_of_point l.b)) × EndsStay ls
+
+  each_end : (segs : List Seg) → ((i : ℕ) (l : Seg) → slice_get segs i ≡ Some l → is_short l ≡ false → StaysThere (spot_of_point l.a) × StaysThere (spot_of_point l.b)) → EndsStay segs
+  each_end [] h = tt
+  each_end (l ∷ segs) h = (h 0 l refl, each_end segs (λ i m e. h (suc i) m e))
+
+  twice_same : (a b : ℤ) → int_eq (pos 2 *ℤ a) (pos 2 *ℤ b) ≡ int_eq a b
+  twice_same a b = grind (arith, ints)
+
+  not_short : (line : Course) (fa : fits_board line.a ≡ true) (fb : fits_board line.b ≡ true) → is_long line ≡ true → is_short (record { a = point_at line.a fa; b = point_at line.b fb }) ≡ false
+  not_short line fa fb long =
+      ap (λ (b : Bool). b && int_eq (pos 2 *ℤ line.a.y) (pos 2 *ℤ line.b.y)) (twice_same line.a.x line.b.x) ∙ ap (λ (b : Bool). int_eq line.a.x line.b.x && b) (twice_same line.a.y line.b.y)
+      ∙ is_false (is_same (at line.a) (at line.b)) long
+    where
+      is_false : (b : Bool) → not b ≡ true → b ≡ false
+      is_false true e = absurd cc
+      is_false false e = refl
+
+  -- the point of a spot of which the moved one stays
+  record PointAgain (s : Spot) (p : Point) : Type 0 where
+    point : Point
+    there : tested (fits_board (moved_spot d s)) (point_at (moved_spot d s)) ≡ Some point
+    shifted : IsShiftedPoint ddx ddy p point
+
+  twice : (p z w : ℤ) → p ≡ (pos 2 *ℤ z) +ℤ (pos 2 *ℤ w) → p ≡ pos 2 *ℤ (z +ℤ w)
+  twice p z w e = omega (arith, ints, e)
+
+  point_again : (s : Spot) (fits : fits_board s ≡ true) → StaysThere (spot_of_point (point_at s fits)) → PointAgain s (point_at s fits)
+  point_again s fits k =
+      let near_x = half_near k.point.x s.x d.dx k.point.x_in_range k.x in
+      let near_y = half_near k.point.y s.y d.dy k.point.y_in_range k.y in
+      record {
+        point = k.point;
+        there = sym (is_tested (fits_board (moved_spot d s)) (point_at (moved_spot d s)) k.point (λ fit. one_point k.point (point_at (moved_spot d s) fit) (twice k.point.x s.x d.dx k.x) (twice k.point.y s.y d.dy k.y)) (fits_moved (moved_spot d s) near_x near_y));
+        shifted = record { x = k.x; y = k.y };
+      }
+
+  record SegMade (line : Course) (seg : Seg) : Type 0 where
+    fits_a : fits_board line.a ≡ true
+    fits_b : fits_board line.b ≡ true
+    is : record { a = point_at line.a fits_a; b = point_at line.b fits_b } ≡ seg
+
+  seg_some : (o r : Option Point) (seg : Seg) → seg_between o r ≡ Some seg → (p : Point) × (q : Point) × (o ≡ Some p) × (r ≡ Some q) × (record { a = p; b = q } ≡ seg)
+  seg_some None r seg h = absurd cc
+  seg_some (Some p) None seg h = absurd cc
+  seg_some (Some p) (Some q) seg h = (p, q, refl, refl, some_same h)
+
+  seg_made : (line : Course) (seg : Seg) → seg_of line ≡ Some seg → SegMade line seg
+  seg_made line seg h =
+      let k = seg_some (tested (fits_board line.a) (point_at line.a)) (tested (fits_board line.b) (point_at line.b)) seg h in
+      let a = tested_some (fits_board line.a) (point_at line.a) k.0 k.2 in
+      let b = tested_some (fits_board line.b) (point_at line.b) k.1 k.3 in
+      record {
+        fits_a = a.0;
+        fits_b = b.0;
+        is = ap (λ (p : Point). let s : Seg = record { a = p; b = point_at line.b b.0 } in s) a.1 ∙ ap (λ (p : Point). let s : Seg = record { a = k.0; b = p } in s) b.1 ∙ k.4;
+      }
+
+  seg_again : (line : Course) (seg : Seg) → is_long line ≡ true → seg_of line ≡ Some seg → (is_short seg ≡ false → StaysThere (spot_of_point seg.a) × StaysThere (spot_of_point seg.b)) → (other : Seg) × (seg_of (moved_course d line) ≡ Some other) × IsShiftedSeg ddx ddy seg other
+  seg_again line seg long some stays =
+      let k = seg_made line seg some in
+      by_made k.fits_a k.fits_b k.is
+    where
+      by_made : (fa : fits_board line.a ≡ true) (fb : fits_board line.b ≡ true) → record { a = point_at line.a fa; b = point_at line.b fb } ≡ seg → (other : Seg) × (seg_of (moved_course d line) ≡ Some other) × IsShiftedSeg ddx ddy seg other
+      by_made fa fb is =
+          let here : StaysThere (spot_of_point (point_at line.a fa)) × StaysThere (spot_of_point (point_at line.b fb)) =
+          subst (λ (s : Seg). is_short s ≡ false → StaysThere (spot_of_point s.a) × StaysThere (spot_of_point s.b)) (sym is) stays (not_short line fa fb long) in
+          let a = point_again line.a fa here.0 in
+          let b = point_again line.b fb here.1 in (
+            record { a = a.point; b = b.point },
+            ap (λ (o : Option Point). seg_between o (tested (fits_board (moved_spot d line.b)) (point_at (moved_spot d line.b)))) a.there ∙ ap (λ (o : Option Point). seg_between (Some a.point) o) b.there,
+            subst (λ (s : Seg). IsShiftedSeg ddx ddy s (record { a = a.point; b = b.point })) is (a.shifted, b.shifted),
+          )
+
+  record SegsAgain (lines : List Course) (segs : List Seg) : Type 0 where
+    others : List Seg
+    there : segs_of (map (moved_course d) lines) ≡ Some others
+    shifted : AreShiftedSegs ddx ddy segs others
+
+  record WithSeg (o : Option Seg) (p : Option (List Seg)) (all : List Seg) : Type 0 where
+    seg : Seg
+    segs : List Seg
+    has_seg : o ≡ Some seg
+    has_segs : p ≡ Some segs
+    are : seg ∷ segs ≡ all
+
+  with_some : (o : Option Seg) (p : Option (List Seg)) (all : List Seg) → with_seg o p ≡ Some all → WithSeg o p all
+  with_some None p all h = absurd cc
+  with_some (Some seg) None all h = absurd cc
+  with_some (Some seg) (Some segs) all h = record { seg = seg; segs = segs; has_seg = refl; has_segs = refl; are = some_same h }
+
+  segs_again : (lines : List Course) (segs : List Seg) → segs_of lines ≡ Some segs → EndsStay segs → SegsAgain lines segs
+  segs_again [] segs some stays = subst (SegsAgain []) (some_same some) (record { others = []; there = refl; shifted = tt })
+  segs_again (line ∷ lines) segs some stays = by_long (is_long line) refl some (λ rest e s. segs_again lines rest e s)
+    where
+      by_long : (b : Bool) → is_long line ≡ b → cond b (with_seg (seg_of line) (segs_of lines)) (segs_of lines) ≡ Some segs → ((rest : List Seg) → segs_of lines ≡ Some rest → EndsStay rest → SegsAgain lines rest) → SegsAgain (line ∷ lines) segs
+      by_long false e h more =
+          let m = more segs h stays in
+          record { others = m.others; there = ap (λ (b : Bool). cond b (with_seg (seg_of (moved_course d line)) (segs_of (map (moved_course d) lines))) (segs_of (map (moved_course d) lines))) (long_moved line ∙ e) ∙ m.there; shifted = m.shifted }
+      by_long true e h more =
+          let k = with_some (seg_of line) (segs_of lines) segs h in
+          let both : EndsStay (k.seg ∷ k.segs) = subst EndsStay (sym k.are) stays in
+          let one = seg_again line k.seg e k.has_seg both.0 in
+          let m = more k.segs k.has_segs both.1 in
+          subst (SegsAgain (line ∷ lines)) k.are
+          (record {
+            others = one.0 ∷ m.others;
+            there =
+                ap (λ (b : Bool). cond b (with_seg (seg_of (moved_course d line)) (segs_of (map (moved_course d) lines))) (segs_of (map (moved_course d) lines))) (long_moved line ∙ e)
+                ∙ ap (λ (o : Option Seg). with_seg o (segs_of (map (moved_course d) lines))) one.1
+                ∙ ap (λ (o : Option (List Seg)). with_seg (Some one.0) o) m.there;
+            shifted = (one.2, m.shifted);
+          })
+
+  -- ---- courtyards
+
+  parts_again : (stance : Stance) (side : Side) (parts others : List Part) → HasParts stance side parts → AreShifted ddx ddy parts others → HasParts (moved_stance d stance) (moved_side d side) others
+  parts_again stance side parts others has h =
+      let k = split d has.drawn (map outline_part has.polys) others (subst (λ (l : List Part). AreShifted ddx ddy l others) has.all h) in
+      let m = outlines_of has.polys k.vs k.rest in
+      let stays = each_end has.segs (λ i l there long. (corner_stays has.polys m.moved (spot_of_point l.a) m.zip (has_corner has.segs has.polys has.chained i l there long false), corner_stays has.polys m.moved (spot_of_point l.b) m.zip (has_corner has.segs has.polys has.chained i l there long true))) in
+      let s = segs_again side.lines has.segs has.of_lines stays in
+      record {
+        drawn = k.us;
+        segs = s.others;
+        polys = m.moved;
+        of_figures = figures_again stance side.figures has.drawn k.us has.of_figures k.first;
+        of_lines = s.there;
+        chained = chained_moved ddx ddy has.segs s.others has.polys m.moved s.shifted has.chained m.zip;
+        all = k.are ∙ ap (λ (l : List Part). k.us ++ l) (sym m.are);
+      }
+
+  -- the courtyard with these parts
+  abbrev pub court_with : Court → List Part → Court
+  court_with Unchecked others = Unchecked
+  court_with (Parts parts) others = Parts others
+  court_with Off others = Off
+
+  pub record CourtAgain (stance : Stance) (side : Side) (court : Court) (others : List Part) : Type 0 where
+    pub is : IsCourt (moved_stance d stance) (moved_side d side) (court_with court others)
+    pub parts : parts_in (court_with court others) ≡ others
+    pub lies : lies_on_board (court_with court others) ≡ true
+
+  none_left : (others : List Part) → AreShifted ddx ddy [] others → [] ≡ others
+  none_left [] h = refl
+  none_left (o ∷ others) h = absurd h
+
+  pub court_again : (stance : Stance) (side : Side) (court : Court) (others : List Part) → IsCourt stance side court → lies_on_board court ≡ true → AreShifted ddx ddy (parts_in court) others → CourtAgain stance side court others
+  court_again stance side Unchecked others (inl curved) lies h = record { is = inl curved; parts = none_left others h; lies = refl }
+  court_again stance side Unchecked others (inr loose) lies h = record { is = inr (closed_same side.lines ∙ loose); parts = none_left others h; lies = refl }
+  court_again stance side (Parts parts) others (checked, has) lies h = record { is = ((checked.0, closed_same side.lines ∙ checked.1), parts_again stance side parts others has h); parts = refl; lies = refl }
+  court_again stance side Off others is lies h = absurd cc
