@@ -1,0 +1,125 @@
+-- What was made is the text after the commands.
+use Rattle.std.proofs.Common.{◌≡◌, ◌∙◌, refl, sym, ap, subst, ℕ, ◌+◌, ◌-◌, ◌≤◌, arith, Bool, true, false, List, length, Option, None, Some, Result, Ok, Err}
+use Rattle.std.specs.Io.KnownBytes.{Keeps}
+use Rattle.sexpr_read.specs.declared.place.Span.{Span}
+use Rattle.sexpr_read.specs.declared.place.TextError.{TextError}
+use Rattle.sexpr_read.specs.Tree.{Forest, Tree, leaf, branch, parts, span, levels}
+use Rattle.sexpr_read.specs.Spelling.{Spells}
+use Rattle.sexpr_read.specs.Places.{StandBetween}
+use Rattle.sexpr_read.specs.Refusals.{refusal_of_one}
+use Rattle.sexpr_read.specs.declared.view.Doc.{Doc}
+use Rattle.sexpr_read.specs.Views.{root_of}
+use Rattle.sexpr_read.proofs.Ordered.{one_in_order}
+use Rattle.board_items.specs.declared.errors.BoardError.{BoardError}
+use Rattle.board_items.specs.Boards.{PlainBoard}
+use Rattle.edit_script.specs.Commands.{PlainCommand}
+use Rattle.board_items.specs.declared.errors.BoardError.TheVariants.{Missing}
+use Rattle.part_read.specs.Elements.{◌>>=◌, check, place}
+use Rattle.pcb_read.specs.BoardOf.{Reading, unread, header_in, board_in, SaysParts, SaysAfter, SaysBoard}
+use Rattle.pcb_read.specs.BoardText.{Says, SaysAfter as SaysTextAfter}
+use Rattle.pcb_read.specs.Spans.{AreSpans, HasSpans}
+use Rattle.tree_text.specs.Anew.{Fate, edited_whole}
+use Rattle.board_alike.specs.Written.{Draft, untouched, with_changes, FatesAre, span_of, inside_of, added_trees, IsWritten}
+use Rattle.board_write.specs.declared.marks.Mark.{Mark}
+use Rattle.board_write.specs.declared.course.Added.{Added}
+use Rattle.board_write.specs.declared.course.Course.{Course}
+use Rattle.board_write.specs.declared.source.Source.{Source}
+use Rattle.board_write.specs.Marks.{mark_in, AreMarks}
+use Rattle.board_write.specs.Settings.{inside}
+use Rattle.board_write.specs.Fates.{fates_by, added_by}
+use Rattle.board_write.specs.Course.{Reached}
+use Rattle.board_write.specs.Answers.{Outcome}
+use Rattle.board_write.specs.Sources.{IsSource}
+use Rattle.board_write.proofs.Draws.{all_added}
+use Rattle.board_write.proofs.Walking.{fates_are}
+
+-- the reading of all parts of a board's root
+says_reading : (root : Tree) (board : PlainBoard) → SaysBoard root (Ok board) → (z : Reading) × SaysParts unread (parts root) (Ok z) × (z.board ≡ board)
+says_reading root board says = by_header (header_in root) says
+  where
+    by_layered : (z : Reading) (b : Bool) → (let r : Result PlainBoard BoardError = Ok board in r) ≡ (check (Missing (place root)) b >>= λ layered. Ok z.board) → z.board ≡ board
+    by_layered z true e = cc
+    by_layered z false e = absurd cc
+
+    by_reading : (r : Result Reading BoardError) → SaysParts unread (parts root) r → Ok board ≡ board_in root r → (z : Reading) × SaysParts unread (parts root) (Ok z) × (z.board ≡ board)
+    by_reading (Err e) says same = absurd cc
+    by_reading (Ok z) says same = (z, says, by_layered z z.layered same)
+
+    by_header : (h : Result (Unit {0}) BoardError) → SaysAfter root h (Ok board) → (z : Reading) × SaysParts unread (parts root) (Ok z) × (z.board ≡ board)
+    by_header (Err e) says = absurd cc
+    by_header (Ok u) (reading, parts_say, same) = by_reading reading parts_say same
+
+root_fates : (text : List ℕ) (root : Tree) (board : PlainBoard) (spans : List Span) (marks : List Mark) (draft : Draft) → Spells text root → SaysBoard root (Ok board) → AreSpans root spans → length spans ≡ board.next_unit → AreMarks draft marks
+    → FatesAre draft unread (parts root) (fates_by marks spans (parts root))
+root_fates text (leaf s q c) board spans marks draft spelled says are each matched = refl
+root_fates text (branch s f) board spans marks draft spelled says are each matched =
+    let read = says_reading (branch s f) board says in
+    let stand : StandBetween text (s.at + 1) (s.end - 1) f = (one_in_order text (branch s f) spelled).1 in
+    let next : read.0.board.next_unit ≡ board.next_unit = ap (λ (b : PlainBoard). b.next_unit) read.2 in
+    let count : 0 + length spans ≡ read.0.board.next_unit = omega (arith, each, next) in
+    fates_are text draft read.0 f unread (s.at + 1) (s.end - 1) marks spans stand read.1 are count
+    (λ u. let same : u ≡ 0 + u = omega arith in matched u ∙ ap (mark_in draft) same)
+
+root_parts : (text : List ℕ) (root : Tree) (fates : List Fate) (added : Forest) → edited_whole text (span root) fates (inside root) added ≡ edited_whole text (span_of root) fates (inside_of root) added
+root_parts text (leaf s q c) fates added = refl
+root_parts text (branch s f) fates added = refl
+
+pub finish : (text : List ℕ) (commands : List PlainCommand) (source : Source) (course : Course) (whole : List ℕ) → IsSource text source → Reached source.board commands course
+    → whole ≡ edited_whole text (span (root_of source.doc)) (fates_by course.marks.items source.spans (parts (root_of source.doc))) (inside (root_of source.doc)) (added_by course.marks.items course.added.items)
+    → (outcome : Outcome text commands course.refused) × (whole ≡ outcome.out)
+finish text commands source course whole is r e =
+    let root : Tree = root_of source.doc in
+    let draft : Draft = with_changes (untouched source.board.next_unit) r.changes in
+    let fates : List Fate = fates_by course.marks.items source.spans (parts root) in
+    let added : added_by course.marks.items course.added.items ≡ added_trees draft draft.added = all_added draft course.marks.items course.added.items r.drafted.marks ∙ ap (added_trees draft) (sym r.drafted.added) in
+    let written : IsWritten text commands whole course.board = record {
+      root = root;
+      board = source.board;
+      answers = r.answers;
+      changes = r.changes;
+      fates = fates;
+      accepted = is.accepted;
+      spelled = is.spelled;
+      shallow = is.shallow;
+      says = is.says;
+      done = r.done;
+      are_changes = r.are_changes;
+      are_fates = root_fates text root source.board source.spans course.marks.items draft is.spelled is.says is.spans is.each r.drafted.marks;
+      written = e ∙ root_parts text root fates (added_by course.marks.items course.added.items) ∙ ap (edited_whole text (span_of root) fates (inside_of root)) added;
+    } in
+    (record { out = whole; last = course.board; written = written; counted = r.counted }, refl)
+
+-- ---- what was read
+
+after_none : (text : List ℕ) (o : Option TextError) (board : PlainBoard) → o ≡ None → SaysTextAfter text o (Ok board) → (tree : Tree) × Spells text tree × SaysBoard tree (Ok board)
+after_none text None board e says = says
+after_none text (Some x) board e says = absurd cc
+
+pub read_is : (text : List ℕ) (source : Source) → refusal_of_one text ≡ None → Spells text (root_of source.doc) → levels (root_of source.doc) ≤ 64 → ((tree : Tree) → Spells text tree → tree ≡ root_of source.doc) → Says text (Ok source.board)
+    → HasSpans text source.spans → length source.spans ≡ source.board.next_unit → IsSource text source
+read_is text source accepted spelled shallow only says (tree, tree_spelled, spans) each =
+    let board_said = after_none text (refusal_of_one text) source.board accepted says in
+    record {
+      accepted = accepted;
+      spelled = spelled;
+      shallow = shallow;
+      says = subst (λ (t : Tree). SaysBoard t (Ok source.board)) (only board_said.0 board_said.1) board_said.2;
+      spans = subst (λ (t : Tree). AreSpans t source.spans) (only tree tree_spelled) spans;
+      each = each;
+    }
+
+pub keeps_itself : (told : Option (List ℕ)) → Keeps told told
+keeps_itself None = tt
+keeps_itself (Some bytes) = refl
+
+-- the same of what the call holds
+pub finish_by : (text : List ℕ) (commands : List PlainCommand) (source : Source) (board : PlainBoard) (doc : Doc) (course : Course) (marks : List Mark) (spans : List Span) (added : List Added) (whole : List ℕ) → IsSource text source
+    → board ≡ source.board → doc ≡ source.doc → spans ≡ source.spans → marks ≡ course.marks.items → added ≡ course.added.items → Reached board commands course
+    → whole ≡ edited_whole text (span (root_of doc)) (fates_by marks spans (parts (root_of doc))) (inside (root_of doc)) (added_by marks added) → (outcome : Outcome text commands course.refused) × (whole ≡ outcome.out)
+finish_by text commands source board doc course marks spans added whole is b d s m a r e =
+    finish text commands source course whole is (subst (λ (x : PlainBoard). Reached x commands course) b r)
+    (e
+    ∙ ap (λ (x : Doc). edited_whole text (span (root_of x)) (fates_by marks spans (parts (root_of x))) (inside (root_of x)) (added_by marks added)) d
+    ∙ ap (λ (x : List Span). edited_whole text (span (root_of source.doc)) (fates_by marks x (parts (root_of source.doc))) (inside (root_of source.doc)) (added_by marks added)) s
+    ∙ ap (λ (x : List Mark). edited_whole text (span (root_of source.doc)) (fates_by x source.spans (parts (root_of source.doc))) (inside (root_of source.doc)) (added_by x added)) m
+    ∙ ap (λ (x : List Added). edited_whole text (span (root_of source.doc)) (fates_by course.marks.items source.spans (parts (root_of source.doc))) (inside (root_of source.doc)) (added_by course.marks.items x)) a)

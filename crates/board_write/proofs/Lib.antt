@@ -1,0 +1,11 @@
+pub mod Drafts
+pub mod Editing
+pub mod Groves
+pub mod Finish
+pub mod Fronts
+pub mod Draws
+pub mod OneOutcome
+pub mod SetDown
+pub mod Standing
+pub mod Steps
+pub mod Walking

@@ -1,0 +1,142 @@
+-- A text and commands have one outcome.
+use Rattle.std.proofs.Common.{◌≡◌, ◌∙◌, ap, sym, subst, refl, ℕ, List, [], ◌∷◌, Option, Some, None, Result, Ok, Err}
+use Rattle.sexpr_read.specs.Tree.{Tree, parts}
+use Rattle.sexpr_read.specs.Spelling.{Spells, SpellsAll}
+use Rattle.sexpr_read.specs.Refusals.{refusal_of_one}
+use Rattle.board_items.specs.declared.errors.BoardError.{BoardError}
+use Rattle.board_items.specs.declared.item.Item.{Item}
+use Rattle.board_items.specs.Boards.{PlainBoard}
+use Rattle.part_read.specs.Elements.{◌>>=◌}
+use Rattle.footprint_read.proofs.OneAnswer.{one_answer}
+use Rattle.tree_text.specs.Anew.{Fate}
+use Rattle.pcb_read.specs.declared.sorts.Sort.{Sort}
+use Rattle.pcb_read.specs.declared.sorts.Sort.TheVariants.{Track, Via, Arc, Graphic, Curve, Text, Zone, Footprint}
+use Rattle.pcb_read.specs.Sorts.{sort_of}
+use Rattle.pcb_read.specs.ItemsOf.{SaysItems}
+use Rattle.pcb_read.specs.BoardOf.{Reading, with_items, with_board, SaysWith, SaysPartBy, SaysBoard, unread}
+use Rattle.pcb_read.specs.BoardText.{Says, SaysAfter}
+use Rattle.edit_script.specs.Commands.{PlainCommand, add, delete, move, rules, again}
+use Rattle.board_edits.specs.declared.refusal.Refusal.{Refusal}
+use Rattle.board_edits.specs.Deeds.{PlainDeed, nothing, append, put_back, take_out, shift, Does, After, IsLeft, DoAll}
+use Rattle.board_alike.specs.Changes.{Change, appends, IsListOf, IsChangeBy, IsChange, AreChanges}
+use Rattle.board_alike.specs.Written.{Draft, untouched, with_changes, with_fate, FatesAre, written_by, IsWritten}
+use Rattle.board_write.specs.Answers.{Outcome, refused_in}
+
+same_ok : {A B : Type 0} {x y : A} → (let p : Result A B = Ok x in p) ≡ Ok y → x ≡ y
+same_ok h = cc
+
+-- ---- what a list of the root gives
+
+one_items : (board : PlainBoard) (unit : ℕ) (tree : Tree) (sort : Sort) (a b : Result (List Item) BoardError) → SaysItems board unit tree sort a → SaysItems board unit tree sort b → a ≡ b
+one_items board unit tree Track a b h k = h ∙ sym k
+one_items board unit tree Via a b h k = h ∙ sym k
+one_items board unit tree Arc a b h k = h ∙ sym k
+one_items board unit tree (Graphic kind) a b h k = h ∙ sym k
+one_items board unit tree Curve a b h k = h ∙ sym k
+one_items board unit tree (Text about) a b h k = h ∙ sym k
+one_items board unit tree Zone a b h k = h ∙ sym k
+one_items board unit tree Footprint a b h k = one_answer board unit tree a b h k
+
+one_with : (board : PlainBoard) (tree : Tree) (sort : Sort) (a b : Result PlainBoard BoardError) → SaysWith board tree sort a → SaysWith board tree sort b → a ≡ b
+one_with board tree sort a b h k =
+    h.2
+    ∙ ap (λ (items : Result (List Item) BoardError). items >>= λ found. Ok (with_items board found)) (one_items board board.next_unit tree sort h.0 k.0 h.1 k.1)
+    ∙ sym k.2
+
+one_part : (reading : Reading) (tree : Tree) (sort : Option Sort) (a b : Result Reading BoardError) → SaysPartBy reading tree sort a → SaysPartBy reading tree sort b → a ≡ b
+one_part reading tree None a b h k = h ∙ sym k
+one_part reading tree (Some sort) a b h k = h.2 ∙ ap (λ (board : Result PlainBoard BoardError). with_board reading board) (one_with reading.board tree sort h.0 k.0 h.1 k.1) ∙ sym k.2
+
+-- the fates of lists are one
+one_fates : (draft : Draft) (ts : List Tree) (reading : Reading) (f g : List Fate) → FatesAre draft reading ts f → FatesAre draft reading ts g → f ≡ g
+one_fates draft [] reading f g h k = h ∙ sym k
+one_fates draft (t ∷ ts) reading f g h k =
+    let next : h.0 ≡ k.0 = same_ok (one_part reading t (sort_of t) (Ok h.0) (Ok k.0) h.2 k.2) in
+    let others : h.1 ≡ k.1 = one_fates draft ts k.0 h.1 k.1 (subst (λ (r : Reading). FatesAre draft r ts h.1) next h.3) k.3 in
+    h.4 ∙ (ap (λ (r : Reading). with_fate draft reading r t h.1) next ∙ (ap (λ (fs : List Fate). with_fate draft reading k.0 t fs) others ∙ sym k.4))
+
+-- ---- what commands change
+
+module _ (one_forms : (text : List ℕ) (s t : Tree) → SpellsAll text s → SpellsAll text t → s ≡ t) where
+  only : {s t : Tree} → s ∷ [] ≡ t ∷ [] → s ≡ t
+  only e = cc
+
+  one_list : (command : PlainCommand) (s t : Tree) → IsListOf command s → IsListOf command t → s ≡ t
+  one_list (add text at) s t h k = only (sym h.2 ∙ (ap parts (one_forms text h.0 k.0 h.1 k.1) ∙ k.2))
+  one_list (delete name at) s t h k = absurd h
+  one_list (move name dx dy at) s t h k = absurd h
+  one_list (rules text at) s t h k = absurd h
+  one_list (again at) s t h k = absurd h
+
+  one_change_by : (command : PlainCommand) (deed : PlainDeed) (x y : Change) → IsChangeBy command deed x → IsChangeBy command deed y → x ≡ y
+  one_change_by command nothing x y h k = h ∙ sym k
+  one_change_by command (append items) x y h k = h.2 ∙ (ap (λ (t : Tree). appends t items) (one_list command h.0 k.0 h.1 k.1) ∙ sym k.2)
+  one_change_by command (put_back items) x y h k = absurd h
+  one_change_by command (take_out unit) x y h k = h ∙ sym k
+  one_change_by command (shift unit dx dy) x y h k = h ∙ sym k
+
+  one_change : (command : PlainCommand) (answer : Result PlainDeed Refusal) (x y : Change) → IsChange command answer x → IsChange command answer y → x ≡ y
+  one_change command (Ok deed) x y h k = one_change_by command deed x y h k
+  one_change command (Err why) x y h k = h ∙ sym k
+
+  one_changes : (commands : List PlainCommand) (answers : List (Result PlainDeed Refusal)) (xs ys : List Change) → AreChanges commands answers xs → AreChanges commands answers ys → xs ≡ ys
+  one_changes [] [] xs ys h k = h ∙ sym k
+  one_changes [] (a ∷ answers) xs ys h k = absurd h
+  one_changes (c ∷ commands) [] xs ys h k = absurd h
+  one_changes (c ∷ commands) (a ∷ answers) [] ys h k = absurd h
+  one_changes (c ∷ commands) (a ∷ answers) (x ∷ xs) [] h k = absurd k
+  one_changes (c ∷ commands) (a ∷ answers) (x ∷ xs) (y ∷ ys) h k =
+      ap (λ (z : Change). z ∷ xs) (one_change c a x y h.0 k.0) ∙ ap (λ (zs : List Change). y ∷ zs) (one_changes commands answers xs ys h.1 k.1)
+
+-- ---- what commands do
+
+module _ (one_deed : (board : PlainBoard) (command : PlainCommand) (a b : Result PlainDeed Refusal) → Does board command a → Does board command b → a ≡ b)
+    (one_board : (old : PlainBoard) (deed : PlainDeed) (a b : PlainBoard) → After old deed a → After old deed b → a ≡ b) where
+  one_left : (board : PlainBoard) (answer : Result PlainDeed Refusal) (x y : PlainBoard) → IsLeft board answer x → IsLeft board answer y → x ≡ y
+  one_left board (Ok deed) x y h k = one_board board deed x y h k
+  one_left board (Err why) x y h k = h ∙ sym k
+
+  one_answers : (commands : List PlainCommand) (board : PlainBoard) (xs ys : List (Result PlainDeed Refusal)) (x y : PlainBoard) → DoAll board commands xs x → DoAll board commands ys y → xs ≡ ys
+  one_answers [] board [] [] x y h k = refl
+  one_answers [] board [] (b ∷ ys) x y h k = absurd k
+  one_answers [] board (a ∷ xs) ys x y h k = absurd h
+  one_answers (c ∷ commands) board [] ys x y h k = absurd h
+  one_answers (c ∷ commands) board (a ∷ xs) [] x y h k = absurd k
+  one_answers (c ∷ commands) board (a ∷ xs) (b ∷ ys) x y h k =
+      let same : a ≡ b = one_deed board c a b h.1 k.1 in
+      let next : h.0 ≡ k.0 = one_left board b h.0 k.0 (subst (λ (r : Result PlainDeed Refusal). IsLeft board r h.0) same h.2) k.2 in
+      let rest : xs ≡ ys = one_answers commands k.0 xs ys x y (subst (λ (n : PlainBoard). DoAll n commands xs x) next h.3) k.3 in
+      ap (λ (r : Result PlainDeed Refusal). r ∷ xs) same ∙ ap (λ (rs : List (Result PlainDeed Refusal)). b ∷ rs) rest
+
+-- ---- the text
+
+module _ (one_tree : (text : List ℕ) (s t : Tree) → Spells text s → Spells text t → s ≡ t)
+    (one_forms : (text : List ℕ) (s t : Tree) → SpellsAll text s → SpellsAll text t → s ≡ t)
+    (one_reading : (text : List ℕ) (a b : Result PlainBoard BoardError) → Says text a → Says text b → a ≡ b)
+    (one_deed : (board : PlainBoard) (command : PlainCommand) (a b : Result PlainDeed Refusal) → Does board command a → Does board command b → a ≡ b)
+    (one_board : (old : PlainBoard) (deed : PlainDeed) (a b : PlainBoard) → After old deed a → After old deed b → a ≡ b) where
+  says : (text : List ℕ) (root : Tree) (board : PlainBoard) → refusal_of_one text ≡ None → Spells text root → SaysBoard root (Ok board) → Says text (Ok board)
+  says text root board accepted spelled of = subst (λ r. SaysAfter text r (Ok board)) (sym accepted) (root, spelled, of)
+
+  one_text : (text : List ℕ) (commands : List PlainCommand) (o p : List ℕ) (x y : PlainBoard) (v : IsWritten text commands o x) (w : IsWritten text commands p y) → (v.answers ≡ w.answers) × (o ≡ p)
+  one_text text commands o p x y v w =
+      let root : v.root ≡ w.root = one_tree text v.root w.root v.spelled w.spelled in
+      let board : v.board ≡ w.board = same_ok (one_reading text (Ok v.board) (Ok w.board) (says text v.root v.board v.accepted v.spelled v.says) (says text w.root w.board w.accepted w.spelled w.says)) in
+      let answers : v.answers ≡ w.answers = one_answers one_deed one_board commands w.board v.answers w.answers x y (subst (λ (b : PlainBoard). DoAll b commands v.answers x) board v.done) w.done in
+      let changes : v.changes ≡ w.changes =
+      one_changes one_forms commands w.answers v.changes w.changes (subst (λ (found : List (Result PlainDeed Refusal)). AreChanges commands found v.changes) answers v.are_changes) w.are_changes in
+      let first = subst (λ (t : Tree). FatesAre (with_changes (untouched v.board.next_unit) v.changes) unread (parts t) v.fates) root v.are_fates in
+      let second = subst (λ (b : PlainBoard). FatesAre (with_changes (untouched b.next_unit) v.changes) unread (parts w.root) v.fates) board first in
+      let third = subst (λ (cs : List Change). FatesAre (with_changes (untouched w.board.next_unit) cs) unread (parts w.root) v.fates) changes second in
+      let fates : v.fates ≡ w.fates = one_fates (with_changes (untouched w.board.next_unit) w.changes) (parts w.root) unread v.fates w.fates third w.are_fates in (
+        answers,
+        v.written
+            ∙ (ap (λ (t : Tree). written_by text t v.fates (with_changes (untouched v.board.next_unit) v.changes)) root
+            ∙ (ap (λ (fs : List Fate). written_by text w.root fs (with_changes (untouched v.board.next_unit) v.changes)) fates
+            ∙ (ap (λ (b : PlainBoard). written_by text w.root w.fates (with_changes (untouched b.next_unit) v.changes)) board
+            ∙ (ap (λ (cs : List Change). written_by text w.root w.fates (with_changes (untouched w.board.next_unit) cs)) changes ∙ sym w.written)))),
+      )
+
+  pub one_outcome : (text : List ℕ) (commands : List PlainCommand) (m n : ℕ) (a : Outcome text commands m) (b : Outcome text commands n) → (m ≡ n) × (a.out ≡ b.out)
+  one_outcome text commands m n a b =
+      let same = one_text text commands a.out b.out a.last b.last a.written b.written in (a.counted ∙ (ap refused_in same.0 ∙ sym b.counted), same.1)

@@ -1,0 +1,10 @@
+pub mod Answers
+pub mod Causes
+pub mod Course
+pub mod Fates
+pub mod Marks
+pub mod Opened
+pub mod Places
+pub mod Reasons
+pub mod Settings
+pub mod Sources

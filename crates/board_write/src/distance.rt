@@ -1,0 +1,13 @@
+//! How far units are moved.
+
+ghost use Rattle.std.specs.Prelude.{◌≤◌, unsigned_abs};
+
+/// How far a unit was moved, in nanometres: all its moves together, which may be more than fit into 64 bits.
+#[derive(Clone, Copy)]
+pub(crate) struct Shift {
+    pub dx: i128,
+    pub dy: i128,
+    // As far as 2^32 - 1 moves of 10^12 nanometres.
+    pub ghost near_x: { unsigned_abs dx ≤ 4294967295000000000000 },
+    pub ghost near_y: { unsigned_abs dy ≤ 4294967295000000000000 },
+}
