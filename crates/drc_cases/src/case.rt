@@ -2,19 +2,20 @@
 
 use case_lines::Outcome;
 use drc_io::{MemShelf, MemSink, Name};
-use drc_run::run;
+use drc_run::run_all;
 use std::alloc::{AllocError, Global};
 use std::thread::Threads;
 use tile_pool::NoGate;
 
-/// The words, the files, the numbers of the reads and writes that fail, and how many bytes a write takes at most.
+/// The words, the files, the numbers of the reads and writes that fail, and how many bytes a read gives and a write takes at most.
 #[derive(Drop)]
 pub struct Given {
     pub words: Vec<String>,
     pub files: Vec<(Name, Vec<u8>)>,
     pub failing_reads: Vec<u64>,
     pub failing_writes: Vec<u64>,
-    pub most: u64,
+    pub given_at_once: u64,
+    pub taken_at_once: u64,
 }
 
 /// A run of the program and how it is to end.
@@ -36,7 +37,8 @@ impl Given {
             files: Vec::new(alloc),
             failing_reads: Vec::new(alloc),
             failing_writes: Vec::new(alloc),
-            most: u64::MAX,
+            given_at_once: u64::MAX,
+            taken_at_once: u64::MAX,
         }
     }
 
@@ -52,13 +54,14 @@ impl Given {
             files,
             failing_reads,
             failing_writes,
-            most,
+            given_at_once,
+            taken_at_once,
         } = self;
-        let mut shelf = MemShelf::new(files, failing_reads);
+        let mut shelf = MemShelf::in_pieces(files, failing_reads, given_at_once.max(1) as usize);
         let room = expected.saturating_add(ROOM);
-        let mut out = MemSink::new(alloc, most.max(1) as usize, room, failing_writes)?;
+        let mut out = MemSink::new(alloc, taken_at_once.max(1) as usize, room, failing_writes)?;
         let words: Vec<&str> = words.iter().map(|word| word.as_str()).collect(alloc)?;
-        let status = run(rt, &words, &mut shelf, &mut out, &NoGate);
+        let status = run_all(rt, &words, &mut shelf, &mut out, &NoGate);
         Ok(Outcome {
             status,
             text: out.bytes().to_vec(alloc)?,

@@ -149,7 +149,8 @@ fn add_given(
     match kind {
         "run" => add_words(alloc, &mut given.words, rest)?,
         "file" => given.files.push(file_of(alloc, shorthands, rest, others)?)?,
-        "take" => given.most = number(rest)?,
+        "give" => given.given_at_once = number(rest)?,
+        "take" => given.taken_at_once = number(rest)?,
         "fail-read" => given.failing_reads.push(number(rest)?)?,
         "fail-write" => given.failing_writes.push(number(rest)?)?,
         _ => return Err(Reason::UnknownLine),

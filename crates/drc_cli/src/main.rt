@@ -12,7 +12,7 @@ ghost use Rattle.drc_cli.specs.CommandLine.{call_of_line, words_after_name};
 mod outside;
 
 use drc_io::{Shelf, Sink};
-use drc_run::run;
+use drc_run::run_all;
 use outside::{FileShelf, StdoutSink};
 use std::alloc::{AllocError, Global};
 use std::env::Env;
@@ -54,7 +54,7 @@ fn answer<R: Threads + Sync + AllocGlobal, F: Shelf, W: Sink>(
     ensures same { F.files shelf.new ≡ F.files shelf.old }
 {
     match words_of(rt.alloc(), line) {
-        Ok(words) => run(rt, &words, shelf, out, &NoGate),
+        Ok(words) => run_all(rt, &words, shelf, out, &NoGate),
         Err(_) => OUT_OF_MEMORY,
     }
 }

@@ -15,7 +15,7 @@ use Rattle.drc_run.specs.declared.texts.Stop.TheVariants.{Refused, Unread, OutOf
 use Rattle.drc_run.specs.Calls.{Source, file, made, Reading, Call, check}
 use Rattle.drc_run.specs.Texts.{Named, named, optional, texts_of, Value, a_board, a_project, a_rules, a_script, Said, accepted, refused, ReaderSays, longer, read, too_long, AreBytesOf, SourceSays, AreAccepted, IsReached}
 use Rattle.drc_run.specs.Output.{Output, classes_among, rules_among, commands_among, IsOpenedBy, IsOutputFor, ReadFails, stopped}
-use Rattle.drc_run.specs.Refusing.{why_of, HasRisen, StopsReading, StopsText, StopsTexts, StopsOption, StopsReadingOption, AreBytesOfOption, Gives, GivesReading, AreOpened, IsLineOf}
+use Rattle.drc_run.specs.Refusing.{why_of, HasRisen, StopsReading, StopsText, StopsTexts, StopsOption, StopsReadingOption, AreBytesOfOption, Gives, GivesReading, AreOpened, board_and_script, IsLineOf}
 
 module _ (told : Option (List (List ℕ × List ℕ))) where
   -- ---- one text
@@ -72,8 +72,18 @@ module _ (told : Option (List (List ℕ × List ℕ))) where
   -- ---- all texts
 
   -- the text whose turn comes once those before it are accepted
-  reached : (before after : List Named) (values : List Value) (text : Named) → AreAccepted told before values → IsReached told (before ++ text ∷ after) text
+  pub reached : (before after : List Named) (values : List Value) (text : Named) → AreAccepted told before values → IsReached told (before ++ text ∷ after) text
   reached before after values text are = record { before = before; after = after; among = refl; values = values; before_accepted = are }
+
+  -- a text whose turn comes among some has its turn among more
+  more_reached : (texts more : List Named) (text : Named) → IsReached told texts text → IsReached told (texts ++ more) text
+  more_reached texts more text r = record {
+    before = r.before;
+    after = r.after ++ more;
+    among = ap (λ (l : List Named). l ++ more) r.among ∙ append_assoc r.before (text ∷ r.after) more;
+    values = r.values;
+    before_accepted = r.before_accepted;
+  }
 
   -- the value of an option's text
   abbrev given : Option (List ℕ) → Value → List Value
@@ -107,10 +117,10 @@ module _ (told : Option (List (List ℕ × List ℕ))) where
             (given reading.rules (a_rules opened.rules) ++ given reading.script (a_script commands)) project both,
       )
 
-  same_classes : (a b : PlainClasses) → a_project a ≡ a_project b → a ≡ b
+  pub same_classes : (a b : PlainClasses) → a_project a ≡ a_project b → a ≡ b
   same_classes a b e = cc
 
-  same_rules : (a b : PlainRules) → a_rules a ≡ a_rules b → a ≡ b
+  pub same_rules : (a b : PlainRules) → a_rules a ≡ a_rules b → a ≡ b
   same_rules a b e = cc
 
   same_commands : (a b : List PlainCommand) → a_script a ≡ a_script b → a ≡ b
@@ -173,7 +183,7 @@ module _ (told : Option (List (List ℕ × List ℕ))) where
     unread_at call which (made count) turn rose = absurd rose
 
     -- the text whose turn came is not accepted
-    stops_at : (call : Call) (text : Named) (stop : Stop) → IsReached told (texts_of call) text → StopsText told before now text stop → StopsTexts told call before now stop
+    pub stops_at : (call : Call) (text : Named) (stop : Stop) → IsReached told (texts_of call) text → StopsText told before now text stop → StopsTexts told call before now stop
     stops_at call text (Refused r) turn s = (
       text.source,
       subst (λ (w : Which). IsReached told (texts_of call) (record { which = w; source = text.source })) (sym s.0) turn,
@@ -189,7 +199,7 @@ module _ (told : Option (List (List ℕ × List ℕ))) where
         (reached [] (optional Project reading.project ++ (optional Rules reading.rules ++ optional Script reading.script)) [] (record { which = Board; source = reading.board }) tt) s
 
     -- counts only rise
-    later : (middle : List ℕ → ℕ) (text : Named) (stop : Stop) → ((other : List ℕ) → before other ≤ middle other) → StopsText told middle now text stop → StopsText told before now text stop
+    pub later : (middle : List ℕ → ℕ) (text : Named) (stop : Stop) → ((other : List ℕ) → before other ≤ middle other) → StopsText told middle now text stop → StopsText told before now text stop
     later middle text (Refused r) up s = s
     later middle text (Unread it) up s = (s.0, risen_later before middle now text.source up s.1)
     later middle text OutOfMemory up s = tt
@@ -201,6 +211,24 @@ module _ (told : Option (List (List ℕ × List ℕ))) where
     option_stops call which (Some name) first last values middle stop all are up s =
         let text : Named = named which name in
         stops_at call text stop (subst (λ (texts : List Named). IsReached told texts text) (sym all) (reached first last values text are)) (later middle text stop up s)
+
+    -- so it is where more texts follow
+    pub first_stops : (call other : Call) (more : List Named) (stop : Stop) → texts_of other ≡ texts_of call ++ more → StopsTexts told call before now stop → StopsTexts told other before now stop
+    first_stops call other more (Refused r) e s =
+        (s.0, subst (λ (texts : List Named). IsReached told texts (record { which = r.which; source = s.0 })) (sym e) (more_reached (texts_of call) more (record { which = r.which; source = s.0 }) s.1), s.2)
+    first_stops call other more (Unread which) e s = record {
+      name = s.name;
+      reached = subst (λ (texts : List Named). IsReached told texts (named which s.name)) (sym e) (more_reached (texts_of call) more (named which s.name) s.reached);
+      rose = s.rose;
+    }
+    first_stops call other more OutOfMemory e s = tt
+
+    -- a board is accepted, and the script behind it is not
+    pub second_stops : (which : Which) (board script : List ℕ) (value : Value) (call : Call) (middle : List ℕ → ℕ) (stop : Stop) → texts_of call ≡ board_and_script which board script
+        → SourceSays told (named Board board) (accepted value) → ((other : List ℕ) → before other ≤ middle other) → StopsText told middle now (named which script) stop → StopsTexts told call before now stop
+    second_stops which board script value call middle stop e says up s =
+        let turn = reached (named Board board ∷ []) [] (value ∷ []) (named which script) (says, tt) in
+        stops_at call (named which script) stop (subst (λ (texts : List Named). IsReached told texts (named which script)) (sym e) turn) (later middle (named which script) stop up s)
 
     module _ (reading : Reading) (middle : List ℕ → ℕ) (stop : Stop) (up : (other : List ℕ) → before other ≤ middle other) (opened : State)
         (board : SourceSays told (record { which = Board; source = reading.board }) (accepted (a_board opened.board))) where

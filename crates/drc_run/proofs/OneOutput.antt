@@ -1,5 +1,6 @@
 -- The words and the files have one output.
-use Rattle.std.proofs.Common.{◌≡◌, ℕ, Bool, List, [], ◌∷◌, ◌++◌, append-nil, Option, Some, None, Result, Ok, Err, sym, ap, subst, ◌∙◌, refl, arith}
+use Rattle.std.proofs.Common.{◌≡◌, ℕ, ◌≤◌, Bool, List, [], ◌∷◌, ◌++◌, length, codes, append-nil, slice_get, Option, Some, None, Result, Ok, Err, inl, inr, sym, ap, subst, ◌∙◌, refl, arith}
+use Rattle.std.proofs.lemmas.Option.{slice_get_within}
 use Rattle.drc_io.specs.Files.{file_of}
 use Rattle.board_items.specs.declared.errors.BoardError.{BoardError}
 use Rattle.board_items.specs.Boards.{PlainBoard}
@@ -13,15 +14,15 @@ use Rattle.rule_text.specs.Reasons.{reason_of as rules_reason_of, place_of as ru
 use Rattle.rule_text.specs.RulesOf.{PlainRules}
 use Rattle.rule_text.specs.RuleText.{Says as RulesSays}
 use Rattle.edit_script.specs.declared.error.ScriptError.{ScriptError}
-use Rattle.edit_script.specs.Commands.{PlainCommand}
+use Rattle.edit_script.specs.Commands.{PlainCommand, PlainStep, place_of}
 use Rattle.edit_script.specs.Reasons.{reason_of as script_reason_of, place_of as script_place_of}
-use Rattle.edit_script.specs.ScriptText.{Says as ScriptSays}
+use Rattle.edit_script.specs.ScriptText.{Says as ScriptSays, SaysSteps}
 use Rattle.drc_state.specs.States.{State}
 use Rattle.drc_run.specs.declared.texts.Which.{Which}
-use Rattle.drc_run.specs.declared.texts.Which.TheVariants.{Board, Project, Rules, Script}
-use Rattle.drc_run.specs.Calls.{Source, file, made, Call, nothing, check}
-use Rattle.drc_run.specs.Texts.{Named, texts_of, Value, a_board, a_project, a_rules, a_script, Said, accepted, refused, at_place, IsWritten, ReaderSays, TextSays, longer, read, AreBytesOf, SourceSays, AreAccepted, IsReached}
-use Rattle.drc_run.specs.Output.{Output, commands_among, IsOpenedBy, is_short, IsTold, IsToldSoFar, IsTextOf, IsBegunBy, IsOutputFor, unclear, stopped, given, IsBegunFor, whole, begun_by, usage, refusal}
+use Rattle.drc_run.specs.declared.texts.Which.TheVariants.{Board, Project, Rules, Script, Steps, Trials, Text}
+use Rattle.drc_run.specs.Calls.{Source, file, made, Call, nothing, check, undo, try, steal, write}
+use Rattle.drc_run.specs.Texts.{Named, texts_of, Value, a_board, a_project, a_rules, a_script, some_steps, Said, accepted, refused, at_place, IsWritten, most_trials, RefusesScript, RefusesTrials, ReaderSays, TextSays, longer, read, AreBytesOf, SourceSays, AreAccepted, IsReached, a_text}
+use Rattle.drc_run.specs.Output.{Output, commands_among, steps_among, IsOpenedBy, is_short, IsTold, IsToldSoFar, AreStepsTold, AreStepsToldSoFar, AreTrialsTold, AreFirstTrials, IsTextOf, IsBegunBy, IsOutputFor, unclear, stopped, given, IsBegunFor, whole, begun_by, usage, refusal, AreRowsTold, IsBoardWritten}
 use Rattle.drc_run.proofs.OneProject.{one_project}
 
 -- ---- what a text says
@@ -72,21 +73,34 @@ module _ {A E : Type 0} (Says : Result A E → Type 0) (one : (a b : Result A E)
 module _ (one_reading : (text : List ℕ) (a b : Result PlainBoard BoardError) → Says text a → Says text b → a ≡ b)
     (one_rules : (text : List ℕ) (a b : Result PlainRules RuleError) → RulesSays text a → RulesSays text b → a ≡ b)
     (one_script : (text : List ℕ) (a b : Result (List PlainCommand) ScriptError) → ScriptSays text a → ScriptSays text b → a ≡ b)
+    (one_steps : (text : List ℕ) (a b : Result (List PlainStep) ScriptError) → SaysSteps text a → SaysSteps text b → a ≡ b)
     (one_told : (short : Bool) (s : State) (commands : List PlainCommand) (a b : Output) → IsTold short s commands a → IsTold short s commands b → a ≡ b)
-    (front_of_told : (short : Bool) (s : State) (commands : List PlainCommand) (text : List ℕ) (out : Output) → IsToldSoFar short s commands text → IsTold short s commands out → (rest : List ℕ) × (out.text ≡ text ++ rest)) where
+    (front_of_told : (short : Bool) (s : State) (commands : List PlainCommand) (text : List ℕ) (out : Output) → IsToldSoFar short s commands text → IsTold short s commands out → (rest : List ℕ) × (out.text ≡ text ++ rest))
+    (one_stepped : (s : State) (steps : List PlainStep) (a b : Output) → AreStepsTold s steps a → AreStepsTold s steps b → a ≡ b)
+    (front_of_stepped : (s : State) (steps : List PlainStep) (text : List ℕ) (out : Output) → AreStepsToldSoFar s steps text → AreStepsTold s steps out → (rest : List ℕ) × (out.text ≡ text ++ rest))
+    (one_tried : (s : State) (commands : List PlainCommand) (a b : Output) → AreTrialsTold s commands a → AreTrialsTold s commands b → a ≡ b)
+    (front_of_tried : (s : State) (commands : List PlainCommand) (text : List ℕ) (out : Output) → AreFirstTrials s commands text → AreTrialsTold s commands out → (rest : List ℕ) × (out.text ≡ text ++ rest))
+    (one_stolen : (s : State) (a b : Output) → AreRowsTold s a → AreRowsTold s b → a ≡ b)
+    (one_written : (text : List ℕ) (commands : List PlainCommand) (a b : Output) → IsBoardWritten text commands a → IsBoardWritten text commands b → a ≡ b) where
   board_once : (bytes : List ℕ) (s t : Said) → ReaderSays Board bytes s → ReaderSays Board bytes t → s ≡ t
   board_once bytes (accepted (a_board x)) (accepted (a_board y)) p q = value_once (Says bytes) (one_reading bytes) a_board board_reason_of board_place_of (λ e. None) x y p q
   board_once bytes (accepted (a_board x)) (accepted (a_project y)) p q = absurd q
   board_once bytes (accepted (a_board x)) (accepted (a_rules y)) p q = absurd q
   board_once bytes (accepted (a_board x)) (accepted (a_script y)) p q = absurd q
+  board_once bytes (accepted (a_board x)) (accepted (some_steps y)) p q = absurd q
+  board_once bytes (accepted (a_board x)) (accepted (a_text y)) p q = absurd q
   board_once bytes (accepted (a_board x)) (refused b) p q = absurd (value_or_not (Says bytes) (one_reading bytes) a_board board_reason_of board_place_of (λ e. None) x b p q)
   board_once bytes (accepted (a_project x)) t p q = absurd p
   board_once bytes (accepted (a_rules x)) t p q = absurd p
   board_once bytes (accepted (a_script x)) t p q = absurd p
+  board_once bytes (accepted (some_steps x)) t p q = absurd p
+  board_once bytes (accepted (a_text x)) t p q = absurd p
   board_once bytes (refused a) (accepted (a_board y)) p q = absurd (value_or_not (Says bytes) (one_reading bytes) a_board board_reason_of board_place_of (λ e. None) y a q p)
   board_once bytes (refused a) (accepted (a_project y)) p q = absurd q
   board_once bytes (refused a) (accepted (a_rules y)) p q = absurd q
   board_once bytes (refused a) (accepted (a_script y)) p q = absurd q
+  board_once bytes (refused a) (accepted (some_steps y)) p q = absurd q
+  board_once bytes (refused a) (accepted (a_text y)) p q = absurd q
   board_once bytes (refused a) (refused b) p q = why_once (Says bytes) (one_reading bytes) a_board board_reason_of board_place_of (λ e. None) a b p q
 
   project_once : (bytes : List ℕ) (s t : Said) → ReaderSays Project bytes s → ReaderSays Project bytes t → s ≡ t
@@ -95,13 +109,19 @@ module _ (one_reading : (text : List ℕ) (a b : Result PlainBoard BoardError) �
   project_once bytes (accepted (a_project x)) (accepted (a_project y)) p q = value_once (ProjectSays bytes) (one_project bytes) a_project project_reason_of project_place_of (λ e. None) x y p q
   project_once bytes (accepted (a_project x)) (accepted (a_rules y)) p q = absurd q
   project_once bytes (accepted (a_project x)) (accepted (a_script y)) p q = absurd q
+  project_once bytes (accepted (a_project x)) (accepted (some_steps y)) p q = absurd q
+  project_once bytes (accepted (a_project x)) (accepted (a_text y)) p q = absurd q
   project_once bytes (accepted (a_project x)) (refused b) p q = absurd (value_or_not (ProjectSays bytes) (one_project bytes) a_project project_reason_of project_place_of (λ e. None) x b p q)
   project_once bytes (accepted (a_rules x)) t p q = absurd p
   project_once bytes (accepted (a_script x)) t p q = absurd p
+  project_once bytes (accepted (some_steps x)) t p q = absurd p
+  project_once bytes (accepted (a_text x)) t p q = absurd p
   project_once bytes (refused a) (accepted (a_board y)) p q = absurd q
   project_once bytes (refused a) (accepted (a_project y)) p q = absurd (value_or_not (ProjectSays bytes) (one_project bytes) a_project project_reason_of project_place_of (λ e. None) y a q p)
   project_once bytes (refused a) (accepted (a_rules y)) p q = absurd q
   project_once bytes (refused a) (accepted (a_script y)) p q = absurd q
+  project_once bytes (refused a) (accepted (some_steps y)) p q = absurd q
+  project_once bytes (refused a) (accepted (a_text y)) p q = absurd q
   project_once bytes (refused a) (refused b) p q = why_once (ProjectSays bytes) (one_project bytes) a_project project_reason_of project_place_of (λ e. None) a b p q
 
   rules_once : (bytes : List ℕ) (s t : Said) → ReaderSays Rules bytes s → ReaderSays Rules bytes t → s ≡ t
@@ -111,12 +131,18 @@ module _ (one_reading : (text : List ℕ) (a b : Result PlainBoard BoardError) �
   rules_once bytes (accepted (a_rules x)) (accepted (a_project y)) p q = absurd q
   rules_once bytes (accepted (a_rules x)) (accepted (a_rules y)) p q = value_once (RulesSays bytes) (one_rules bytes) a_rules rules_reason_of rules_place_of rules_inner_place_of x y p q
   rules_once bytes (accepted (a_rules x)) (accepted (a_script y)) p q = absurd q
+  rules_once bytes (accepted (a_rules x)) (accepted (some_steps y)) p q = absurd q
+  rules_once bytes (accepted (a_rules x)) (accepted (a_text y)) p q = absurd q
   rules_once bytes (accepted (a_rules x)) (refused b) p q = absurd (value_or_not (RulesSays bytes) (one_rules bytes) a_rules rules_reason_of rules_place_of rules_inner_place_of x b p q)
   rules_once bytes (accepted (a_script x)) t p q = absurd p
+  rules_once bytes (accepted (some_steps x)) t p q = absurd p
+  rules_once bytes (accepted (a_text x)) t p q = absurd p
   rules_once bytes (refused a) (accepted (a_board y)) p q = absurd q
   rules_once bytes (refused a) (accepted (a_project y)) p q = absurd q
   rules_once bytes (refused a) (accepted (a_rules y)) p q = absurd (value_or_not (RulesSays bytes) (one_rules bytes) a_rules rules_reason_of rules_place_of rules_inner_place_of y a q p)
   rules_once bytes (refused a) (accepted (a_script y)) p q = absurd q
+  rules_once bytes (refused a) (accepted (some_steps y)) p q = absurd q
+  rules_once bytes (refused a) (accepted (a_text y)) p q = absurd q
   rules_once bytes (refused a) (refused b) p q = why_once (RulesSays bytes) (one_rules bytes) a_rules rules_reason_of rules_place_of rules_inner_place_of a b p q
 
   script_once : (bytes : List ℕ) (s t : Said) → ReaderSays Script bytes s → ReaderSays Script bytes t → s ≡ t
@@ -127,18 +153,119 @@ module _ (one_reading : (text : List ℕ) (a b : Result PlainBoard BoardError) �
   script_once bytes (accepted (a_script x)) (accepted (a_project y)) p q = absurd q
   script_once bytes (accepted (a_script x)) (accepted (a_rules y)) p q = absurd q
   script_once bytes (accepted (a_script x)) (accepted (a_script y)) p q = value_once (ScriptSays bytes) (one_script bytes) a_script script_reason_of script_place_of (λ e. None) x y p q
+  script_once bytes (accepted (a_script x)) (accepted (some_steps y)) p q = absurd q
+  script_once bytes (accepted (a_script x)) (accepted (a_text y)) p q = absurd q
   script_once bytes (accepted (a_script x)) (refused b) p q = absurd (value_or_not (ScriptSays bytes) (one_script bytes) a_script script_reason_of script_place_of (λ e. None) x b p q)
+  script_once bytes (accepted (some_steps x)) t p q = absurd p
+  script_once bytes (accepted (a_text x)) t p q = absurd p
   script_once bytes (refused a) (accepted (a_board y)) p q = absurd q
   script_once bytes (refused a) (accepted (a_project y)) p q = absurd q
   script_once bytes (refused a) (accepted (a_rules y)) p q = absurd q
   script_once bytes (refused a) (accepted (a_script y)) p q = absurd (value_or_not (ScriptSays bytes) (one_script bytes) a_script script_reason_of script_place_of (λ e. None) y a q p)
+  script_once bytes (refused a) (accepted (some_steps y)) p q = absurd q
+  script_once bytes (refused a) (accepted (a_text y)) p q = absurd q
   script_once bytes (refused a) (refused b) p q = why_once (ScriptSays bytes) (one_script bytes) a_script script_reason_of script_place_of (λ e. None) a b p q
+
+  steps_once : (bytes : List ℕ) (s t : Said) → ReaderSays Steps bytes s → ReaderSays Steps bytes t → s ≡ t
+  steps_once bytes (accepted (a_board x)) t p q = absurd p
+  steps_once bytes (accepted (a_project x)) t p q = absurd p
+  steps_once bytes (accepted (a_rules x)) t p q = absurd p
+  steps_once bytes (accepted (a_script x)) t p q = absurd p
+  steps_once bytes (accepted (some_steps x)) (accepted (a_board y)) p q = absurd q
+  steps_once bytes (accepted (some_steps x)) (accepted (a_project y)) p q = absurd q
+  steps_once bytes (accepted (some_steps x)) (accepted (a_rules y)) p q = absurd q
+  steps_once bytes (accepted (some_steps x)) (accepted (a_script y)) p q = absurd q
+  steps_once bytes (accepted (some_steps x)) (accepted (some_steps y)) p q = value_once (SaysSteps bytes) (one_steps bytes) some_steps script_reason_of script_place_of (λ e. None) x y p q
+  steps_once bytes (accepted (some_steps x)) (accepted (a_text y)) p q = absurd q
+  steps_once bytes (accepted (some_steps x)) (refused b) p q = absurd (value_or_not (SaysSteps bytes) (one_steps bytes) some_steps script_reason_of script_place_of (λ e. None) x b p q)
+  steps_once bytes (accepted (a_text x)) t p q = absurd p
+  steps_once bytes (refused a) (accepted (a_board y)) p q = absurd q
+  steps_once bytes (refused a) (accepted (a_project y)) p q = absurd q
+  steps_once bytes (refused a) (accepted (a_rules y)) p q = absurd q
+  steps_once bytes (refused a) (accepted (a_script y)) p q = absurd q
+  steps_once bytes (refused a) (accepted (some_steps y)) p q = absurd (value_or_not (SaysSteps bytes) (one_steps bytes) some_steps script_reason_of script_place_of (λ e. None) y a q p)
+  steps_once bytes (refused a) (accepted (a_text y)) p q = absurd q
+  steps_once bytes (refused a) (refused b) p q = why_once (SaysSteps bytes) (one_steps bytes) some_steps script_reason_of script_place_of (λ e. None) a b p q
+
+  -- one script has one list of commands
+  one_commands : (bytes : List ℕ) (xs ys : List PlainCommand) → ScriptSays bytes (Ok xs) → ScriptSays bytes (Ok ys) → xs ≡ ys
+  one_commands bytes xs ys p q = let both : Ok xs ≡ Ok ys = one_script bytes (Ok xs) (Ok ys) p q in cc
+
+  -- a script has too many commands to be tried, or not
+  few_or_many : (bytes : List ℕ) (xs : List PlainCommand) (why : List ℕ) → ScriptSays bytes (Ok xs) → length xs ≤ most_trials → RefusesTrials bytes why → ⊥
+  few_or_many bytes xs why p few q =
+      let same = one_commands bytes q.0 xs q.1 p in
+      let stands = subst (λ (l : List PlainCommand). slice_get l most_trials ≡ Some q.2.command) same q.2.stands in
+      let within = slice_get_within xs most_trials q.2.command stands in
+      omega (arith, few, within)
+
+  many_once : (bytes a b : List ℕ) → RefusesTrials bytes a → RefusesTrials bytes b → refused a ≡ refused b
+  many_once bytes a b p q =
+      let same = one_commands bytes p.0 q.0 p.1 q.1 in
+      let here : Some p.2.command ≡ Some q.2.command = sym (subst (λ (l : List PlainCommand). slice_get l most_trials ≡ Some p.2.command) same p.2.stands) ∙ q.2.stands in
+      let command : p.2.command ≡ q.2.command = cc in
+      ap refused (p.2.why_is ∙ (ap (λ (c : PlainCommand). at_place (codes "TooMany (9)") (place_of c) None) command ∙ sym q.2.why_is))
+
+  -- a script that is refused has no commands
+  refused_or_many : (bytes a b : List ℕ) → RefusesScript bytes a → RefusesTrials bytes b → ⊥
+  refused_or_many bytes a b p q = let both : Ok q.0 ≡ Err p.0 = one_script bytes (Ok q.0) (Err p.0) q.1 p.1 in cc
+
+  trials_once : (bytes : List ℕ) (s t : Said) → ReaderSays Trials bytes s → ReaderSays Trials bytes t → s ≡ t
+  trials_once bytes (accepted (a_board x)) t p q = absurd p
+  trials_once bytes (accepted (a_project x)) t p q = absurd p
+  trials_once bytes (accepted (a_rules x)) t p q = absurd p
+  trials_once bytes (accepted (some_steps x)) t p q = absurd p
+  trials_once bytes (accepted (a_text x)) t p q = absurd p
+  trials_once bytes (accepted (a_script x)) (accepted (a_board y)) p q = absurd q
+  trials_once bytes (accepted (a_script x)) (accepted (a_project y)) p q = absurd q
+  trials_once bytes (accepted (a_script x)) (accepted (a_rules y)) p q = absurd q
+  trials_once bytes (accepted (a_script x)) (accepted (a_script y)) p q = value_once (ScriptSays bytes) (one_script bytes) a_script script_reason_of script_place_of (λ e. None) x y p.0 q.0
+  trials_once bytes (accepted (a_script x)) (accepted (some_steps y)) p q = absurd q
+  trials_once bytes (accepted (a_script x)) (accepted (a_text y)) p q = absurd q
+  trials_once bytes (accepted (a_script x)) (refused b) p (inl q) = absurd (value_or_not (ScriptSays bytes) (one_script bytes) a_script script_reason_of script_place_of (λ e. None) x b p.0 q)
+  trials_once bytes (accepted (a_script x)) (refused b) p (inr q) = absurd (few_or_many bytes x b p.0 p.1 q)
+  trials_once bytes (refused a) (accepted (a_board y)) p q = absurd q
+  trials_once bytes (refused a) (accepted (a_project y)) p q = absurd q
+  trials_once bytes (refused a) (accepted (a_rules y)) p q = absurd q
+  trials_once bytes (refused a) (accepted (a_script y)) (inl p) q = absurd (value_or_not (ScriptSays bytes) (one_script bytes) a_script script_reason_of script_place_of (λ e. None) y a q.0 p)
+  trials_once bytes (refused a) (accepted (a_script y)) (inr p) q = absurd (few_or_many bytes y a q.0 q.1 p)
+  trials_once bytes (refused a) (accepted (some_steps y)) p q = absurd q
+  trials_once bytes (refused a) (accepted (a_text y)) p q = absurd q
+  trials_once bytes (refused a) (refused b) (inl p) (inl q) = why_once (ScriptSays bytes) (one_script bytes) a_script script_reason_of script_place_of (λ e. None) a b p q
+  trials_once bytes (refused a) (refused b) (inl p) (inr q) = absurd (refused_or_many bytes a b p q)
+  trials_once bytes (refused a) (refused b) (inr p) (inl q) = absurd (refused_or_many bytes b a q p)
+  trials_once bytes (refused a) (refused b) (inr p) (inr q) = many_once bytes a b p q
+
+  -- a text that stands for its bytes
+  bytes_once : (bytes : List ℕ) (s t : Said) → ReaderSays Text bytes s → ReaderSays Text bytes t → s ≡ t
+  bytes_once bytes (accepted (a_board x)) t p q = absurd p
+  bytes_once bytes (accepted (a_project x)) t p q = absurd p
+  bytes_once bytes (accepted (a_rules x)) t p q = absurd p
+  bytes_once bytes (accepted (a_script x)) t p q = absurd p
+  bytes_once bytes (accepted (some_steps x)) t p q = absurd p
+  bytes_once bytes (accepted (a_text x)) (accepted (a_board y)) p q = absurd q
+  bytes_once bytes (accepted (a_text x)) (accepted (a_project y)) p q = absurd q
+  bytes_once bytes (accepted (a_text x)) (accepted (a_rules y)) p q = absurd q
+  bytes_once bytes (accepted (a_text x)) (accepted (a_script y)) p q = absurd q
+  bytes_once bytes (accepted (a_text x)) (accepted (some_steps y)) p q = absurd q
+  bytes_once bytes (accepted (a_text x)) (accepted (a_text y)) p q = ap (λ (text : List ℕ). accepted (a_text text)) (p.0 ∙ sym q.0)
+  bytes_once bytes (accepted (a_text x)) (refused b) p q = absurd (value_or_not (Says bytes) (one_reading bytes) a_board board_reason_of board_place_of (λ e. None) p.1.0 b p.1.1 q)
+  bytes_once bytes (refused a) (accepted (a_board y)) p q = absurd q
+  bytes_once bytes (refused a) (accepted (a_project y)) p q = absurd q
+  bytes_once bytes (refused a) (accepted (a_rules y)) p q = absurd q
+  bytes_once bytes (refused a) (accepted (a_script y)) p q = absurd q
+  bytes_once bytes (refused a) (accepted (some_steps y)) p q = absurd q
+  bytes_once bytes (refused a) (accepted (a_text y)) p q = absurd (value_or_not (Says bytes) (one_reading bytes) a_board board_reason_of board_place_of (λ e. None) q.1.0 a q.1.1 p)
+  bytes_once bytes (refused a) (refused b) p q = why_once (Says bytes) (one_reading bytes) a_board board_reason_of board_place_of (λ e. None) a b p q
 
   reader_once : (which : Which) (bytes : List ℕ) (s t : Said) → ReaderSays which bytes s → ReaderSays which bytes t → s ≡ t
   reader_once Board bytes s t p q = board_once bytes s t p q
   reader_once Project bytes s t p q = project_once bytes s t p q
   reader_once Rules bytes s t p q = rules_once bytes s t p q
   reader_once Script bytes s t p q = script_once bytes s t p q
+  reader_once Steps bytes s t p q = steps_once bytes s t p q
+  reader_once Trials bytes s t p q = trials_once bytes s t p q
+  reader_once Text bytes s t p q = bytes_once bytes s t p q
 
   text_once : (which : Which) (bytes : List ℕ) (s t : Said) → TextSays which bytes s → TextSays which bytes t → s ≡ t
   text_once which bytes s t (longer h e) (longer k f) = e ∙ sym f
@@ -218,6 +345,9 @@ module _ (one_reading : (text : List ℕ) (a b : Result PlainBoard BoardError) �
     boards : (a b : PlainBoard) → Some a ≡ Some b → a ≡ b
     boards a b e = cc
 
+    texts : (a b : List ℕ) → Some a ≡ Some b → a ≡ b
+    texts a b e = cc
+
     -- values open one thing
     one_opened : (values : List Value) (o p : State) → IsOpenedBy values o → IsOpenedBy values p → o ≡ p
     one_opened values o p h k =
@@ -228,12 +358,25 @@ module _ (one_reading : (text : List ℕ) (a b : Result PlainBoard BoardError) �
     one_text (nothing line) values a b p q = absurd p
     one_text (check r) values a b p q =
         one_told (is_short r.board) q.0 (commands_among values) a b (subst (λ (s : State). IsTold (is_short r.board) s (commands_among values) a) (one_opened values p.0 q.0 p.1 q.1) p.2) q.2
+    one_text (undo board script) values a b p q =
+        one_stepped q.0 (steps_among values) a b (subst (λ (s : State). AreStepsTold s (steps_among values) a) (one_opened values p.0 q.0 p.1 q.1) p.2) q.2
+    one_text (steal board workers) values a b p q = one_stolen q.0 a b (subst (λ (s : State). AreRowsTold s a) (one_opened values p.0 q.0 p.1 q.1) p.2) q.2
+    one_text (try board script workers) values a b p q =
+        one_tried q.0 (commands_among values) a b (subst (λ (s : State). AreTrialsTold s (commands_among values) a) (one_opened values p.0 q.0 p.1 q.1) p.2) q.2
+    one_text (write board script) values a b p q =
+        one_written q.0 (commands_among values) a b (subst (λ (text : List ℕ). IsBoardWritten text (commands_among values) a) (texts p.0 q.0 (sym p.1 ∙ q.1)) p.2) q.2
 
     -- what is written after some of the commands is a front part of what all give
     front_text : (call : Call) (values : List Value) (text : List ℕ) (out : Output) → IsBegunBy call values text → IsTextOf call values out → (rest : List ℕ) × (out.text ≡ text ++ rest)
     front_text (nothing line) values text out p q = absurd p
     front_text (check r) values text out p q =
         front_of_told (is_short r.board) q.0 (commands_among values) text out (subst (λ (s : State). IsToldSoFar (is_short r.board) s (commands_among values) text) (one_opened values p.0 q.0 p.1 q.1) p.2) q.2
+    front_text (undo board script) values text out p q =
+        front_of_stepped q.0 (steps_among values) text out (subst (λ (s : State). AreStepsToldSoFar s (steps_among values) text) (one_opened values p.0 q.0 p.1 q.1) p.2) q.2
+    front_text (steal board workers) values text out p q = absurd p
+    front_text (try board script workers) values text out p q =
+        front_of_tried q.0 (commands_among values) text out (subst (λ (s : State). AreFirstTrials s (commands_among values) text) (one_opened values p.0 q.0 p.1 q.1) p.2) q.2
+    front_text (write board script) values text out p q = absurd p
 
     same_lines : (a b : List ℕ) → nothing a ≡ nothing b → a ≡ b
     same_lines a b e = cc

@@ -1,17 +1,19 @@
--- A command's turn leads to one state and writes one text.
-use Rattle.std.proofs.Common.{◌≡◌, ◌∙◌, ap, sym, subst, ℕ, Bool, List, length, Result, Ok, Err}
+-- The turn of a command leads to one state and writes one text, and so does that of a step.
+use Rattle.std.proofs.Common.{◌≡◌, ◌∙◌, ap, sym, subst, ℕ, Bool, false, List, length, Result, Ok, Err}
 use Rattle.board_items.specs.Boards.{PlainBoard}
 use Rattle.pair_check.specs.PlainRow.{PlainRow}
 use Rattle.pair_check.specs.Rows.{Checked, AreRows}
 use Rattle.net_groups.specs.NetParts.{NetPart, AreParts}
 use Rattle.drc_rows.specs.ReportOf.{Found}
-use Rattle.edit_script.specs.Commands.{PlainCommand}
+use Rattle.edit_script.specs.Commands.{PlainCommand, PlainStep}
 use Rattle.drc_state.specs.declared.error.EditError.{EditError}
 use Rattle.drc_state.specs.States.{State, checked_in}
 use Rattle.drc_state.specs.Steps.{is_rules, Answers}
 use Rattle.drc_state.specs.Recheck.{AreHeld, AreRechecked, IsHeldCount}
-use Rattle.drc_run.specs.Reports.{AreFindings, IsReport, IsOpening, report_text, refused_line, why_edit}
-use Rattle.drc_run.specs.Turns.{IsTurn, refused, made}
+use Rattle.undo_log.specs.declared.error.HistoryError.{HistoryError}
+use Rattle.undo_log.specs.Past.{Past, StepAnswers, does_replace}
+use Rattle.drc_run.specs.Reports.{AreFindings, IsReport, IsOpening, report_text, refused_line, why_edit, why_step}
+use Rattle.drc_run.specs.Turns.{IsTurn, refused, made, IsStepTurn, unstepped, stepped}
 use Rattle.drc_run.proofs.TurnLists.{IsOne}
 
 module _ (one_list : (c : Checked) (a b : List PlainRow) → AreRows c a → AreRows c b → a ≡ b)
@@ -61,3 +63,34 @@ module _ (one_list : (c : Checked) (a b : List PlainRow) → AreRows c a → Are
         let tiles_same = one_recheck (checked_in s) (checked_in b) (is_rules command) tiles others r_b q in
         let t_b = subst (λ (x : State). IsReport short n x (length tiles) xs) same t in
         (same, one_report short n b (length others) xs ys (subst (λ (ts : List ℕ). IsReport short n b (length ts) xs) tiles_same t_b) u)
+
+  -- the same of a step
+  module _ (one_step : (past : Past) (step : PlainStep) (a b : Result Past HistoryError) → StepAnswers past step a → StepAnswers past step b → a ≡ b)
+      (one_recheck : (old new : Checked) (replaced : Bool) (tiles others : List ℕ) → AreRechecked old new replaced tiles → AreRechecked old new replaced others → tiles ≡ others) where
+    abbrev no_step : HistoryError → Result Past HistoryError
+    no_step e = Err e
+
+    abbrev step_to : Past → Result Past HistoryError
+    step_to past = Ok past
+
+    step_whys : (a b : HistoryError) → no_step a ≡ no_step b → a ≡ b
+    step_whys a b e = cc
+
+    pasts : (a b : Past) → step_to a ≡ step_to b → a ≡ b
+    pasts a b e = cc
+
+    not_both_steps : (a : HistoryError) (b : Past) → no_step a ≡ step_to b → ⊥
+    not_both_steps a b e = cc
+
+    pub one_step_turn : IsOne IsStepTurn
+    one_step_turn n past step a b xs ys (unstepped why h e t) (unstepped other k f u) =
+        (e ∙ sym f, t ∙ (ap (λ (w : HistoryError). refused_line n (why_step w)) (step_whys why other (one_step past step (Err why) (Err other) h k)) ∙ sym u))
+    one_step_turn n past step a b xs ys (unstepped why h e t) (stepped k tiles r u) = absurd (not_both_steps why b (one_step past step (Err why) (Ok b) h k))
+    one_step_turn n past step a b xs ys (stepped h tiles r t) (unstepped why k f u) = absurd (not_both_steps why a (one_step past step (Err why) (Ok a) k h))
+    one_step_turn n past step a b xs ys (stepped h tiles r t) (stepped k others q u) =
+        let same = pasts a b (one_step past step (Ok a) (Ok b) h k) in
+        let replaced = does_replace past step in
+        let r_b = subst (λ (x : Past). AreRechecked (checked_in past.now) (checked_in x.now) replaced tiles) same r in
+        let tiles_same = one_recheck (checked_in past.now) (checked_in b.now) replaced tiles others r_b q in
+        let t_b = subst (λ (x : Past). IsReport false n x.now (length tiles) xs) same t in
+        (same, one_report false n b.now (length others) xs ys (subst (λ (ts : List ℕ). IsReport false n b.now (length ts) xs) tiles_same t_b) u)

@@ -20,26 +20,26 @@ use Rattle.drc_run.specs.declared.status.Status.{Status}
 use Rattle.drc_run.specs.declared.status.Status.TheVariants.{WriteFault}
 use Rattle.drc_run.specs.Reports.{AreFindings, IsOpening, report_text, refused_line, why_edit}
 use Rattle.drc_run.specs.Turns.{AreTurns, IsTurn, refused}
-use Rattle.drc_run.specs.Output.{Output, status_of, IsStatusOf, IsTold, IsToldSoFar}
+use Rattle.drc_run.specs.Output.{Output, status_of, IsStatusOf, IsToldBy, IsToldSoFarBy}
 use Rattle.drc_run.specs.Endings.{Whole, Front, Ends, number_of}
-use Rattle.drc_run.specs.Running.{found_of, IsTaken, IsBroken, AreTaken, AreBroken, IsAnswered, wanting, line, SoFar}
+use Rattle.drc_run.specs.Running.{found_of, IsTaken, IsBroken, AreTaken, AreBroken, IsAnswered, IsEditAnswered, wanting, line, SoFar}
 use Rattle.drc_run.proofs.TurnLists.{one_more}
 use Rattle.drc_run.proofs.Written.{reporting}
 
 -- ---- one turn
 
 -- its text was written, or a front part of that
-module _ (short : Bool) (number : ℕ) (s : State) (command : PlainCommand) (next : State) (old new : Option (List ℕ)) (m n : ℕ) (text : List ℕ) (turn : IsTurn short number s command next text) where
+module _ {S C : Type 0} (Turn : ℕ → S → C → S → List ℕ → Type 0) (number : ℕ) (s : S) (command : C) (next : S) (old new : Option (List ℕ)) (m n : ℕ) (text : List ℕ) (turn : Turn number s command next text) where
   pub taken_by : (r : Result (Unit {0}) Failed) (b : Result (Unit {0}) Break) → MatchResult r (λ u. b ≡ Ok u) (λ _. b ≡ Err Unwritten) → Writes {T = Unit {0}} {E = Failed} old new m n text r
-      → IfOk b (λ _. IsTaken short number s command next old new)
-  taken_by (Ok u) b e w = subst (λ (x : Result (Unit {0}) Break). IfOk x (λ _. IsTaken short number s command next old new)) (sym e) (record { text = text; turn = turn; written = w.bytes })
-  taken_by (Err f) b e w = subst (λ (x : Result (Unit {0}) Break). IfOk x (λ _. IsTaken short number s command next old new)) (sym e) tt
+      → IfOk b (λ _. IsTaken Turn number s command next old new)
+  taken_by (Ok u) b e w = subst (λ (x : Result (Unit {0}) Break). IfOk x (λ _. IsTaken Turn number s command next old new)) (sym e) (record { text = text; turn = turn; written = w.bytes })
+  taken_by (Err f) b e w = subst (λ (x : Result (Unit {0}) Break). IfOk x (λ _. IsTaken Turn number s command next old new)) (sym e) tt
 
   pub broken_by : (r : Result (Unit {0}) Failed) (b : Result (Unit {0}) Break) → MatchResult r (λ u. b ≡ Ok u) (λ _. b ≡ Err Unwritten) → Writes {T = Unit {0}} {E = Failed} old new m n text r
-      → IfErr b (λ _. Keeps old new ⊎ IsBroken short number s command old new)
-  broken_by (Ok u) b e w = subst (λ (x : Result (Unit {0}) Break). IfErr x (λ _. Keeps old new ⊎ IsBroken short number s command old new)) (sym e) tt
+      → IfErr b (λ _. Keeps old new ⊎ IsBroken Turn number s command old new)
+  broken_by (Ok u) b e w = subst (λ (x : Result (Unit {0}) Break). IfErr x (λ _. Keeps old new ⊎ IsBroken Turn number s command old new)) (sym e) tt
   broken_by (Err f) b e w =
-      subst (λ (x : Result (Unit {0}) Break). IfErr x (λ _. Keeps old new ⊎ IsBroken short number s command old new)) (sym e) (inr (record { next = next; text = text; turn = turn; written = w.bytes }))
+      subst (λ (x : Result (Unit {0}) Break). IfErr x (λ _. Keeps old new ⊎ IsBroken Turn number s command old new)) (sym e) (inr (record { next = next; text = text; turn = turn; written = w.bytes }))
 
 -- what is refused but for want of memory
 refused_is : (old new : PlainSession) (command : PlainCommand) (why : EditError) → old.stopped ≡ false → (why ≡ NoMemory → ⊥) → IsRefusedBy old new command why → Answers old.state command (Err why) × (new ≡ old)
@@ -56,11 +56,11 @@ module _ (short : Bool) (number : ℕ) (was is : PlainSession) (command : PlainC
   its_turn : (why ≡ NoMemory → ⊥) → IsTurn short number was.state command is.state (refused_line number (why_edit why))
   its_turn other = let h = refused_is was is command why runs other by in refused why h.0 (ap (λ (x : PlainSession). x.state) h.1) refl
 
-  pub refused_taken : IsAnswered number why old new m n b → IfOk b (λ _. IsTaken short number was.state command is.state old new)
-  refused_taken (wanting w e k f) = subst (λ (x : Result (Unit {0}) Break). IfOk x (λ _. IsTaken short number was.state command is.state old new)) (sym e) tt
-  refused_taken (line other r w e) = taken_by short number was.state command is.state old new m n (refused_line number (why_edit why)) (its_turn other) r b e w
+  pub refused_taken : IsEditAnswered number why old new m n b → IfOk b (λ _. IsTaken (IsTurn short) number was.state command is.state old new)
+  refused_taken (wanting w e k f) = subst (λ (x : Result (Unit {0}) Break). IfOk x (λ _. IsTaken (IsTurn short) number was.state command is.state old new)) (sym e) tt
+  refused_taken (line other r w e) = taken_by (IsTurn short) number was.state command is.state old new m n (refused_line number (why_edit why)) (its_turn other) r b e w
 
-  pub refused_runs : IsAnswered number why old new m n b → IfOk b (λ _. is.stopped ≡ false)
+  pub refused_runs : IsEditAnswered number why old new m n b → IfOk b (λ _. is.stopped ≡ false)
   refused_runs (wanting w e k f) = subst (λ (x : Result (Unit {0}) Break). IfOk x (λ _. is.stopped ≡ false)) (sym e) tt
   refused_runs (line other r w e) = always b (ap (λ (x : PlainSession). x.stopped) (refused_is was is command why runs other by).1 ∙ runs)
     where
@@ -68,9 +68,9 @@ module _ (short : Bool) (number : ℕ) (was is : PlainSession) (command : PlainC
       always (Ok u) h = h
       always (Err e) h = tt
 
-  pub refused_broken : IsAnswered number why old new m n b → IfErr b (λ _. Keeps old new ⊎ IsBroken short number was.state command old new)
-  refused_broken (wanting w e k f) = subst (λ (x : Result (Unit {0}) Break). IfErr x (λ _. Keeps old new ⊎ IsBroken short number was.state command old new)) (sym e) (inl k)
-  refused_broken (line other r w e) = broken_by short number was.state command is.state old new m n (refused_line number (why_edit why)) (its_turn other) r b e w
+  pub refused_broken : IsEditAnswered number why old new m n b → IfErr b (λ _. Keeps old new ⊎ IsBroken (IsTurn short) number was.state command old new)
+  refused_broken (wanting w e k f) = subst (λ (x : Result (Unit {0}) Break). IfErr x (λ _. Keeps old new ⊎ IsBroken (IsTurn short) number was.state command old new)) (sym e) (inl k)
+  refused_broken (line other r w e) = broken_by (IsTurn short) number was.state command is.state old new m n (refused_line number (why_edit why)) (its_turn other) r b e w
 
 -- a write failed where its fault rose
 pub fault_by : (old new : Option (List ℕ)) (m n : ℕ) (text : List ℕ) (r : Result (Unit {0}) Failed) (b : Result (Unit {0}) Break) → MatchResult r (λ u. b ≡ Ok u) (λ _. b ≡ Err Unwritten)
@@ -78,23 +78,23 @@ pub fault_by : (old new : Option (List ℕ)) (m n : ℕ) (text : List ℕ) (r : 
 fault_by old new m n text (Ok u) b e w f = absurd (cc)
 fault_by old new m n text (Err x) b e w f = w.failed
 
-pub refused_fault : (number : ℕ) (why : EditError) (old new : Option (List ℕ)) (m n : ℕ) (b : Result (Unit {0}) Break) → IsAnswered number why old new m n b → b ≡ Err Unwritten → Rose m n
-refused_fault number why old new m n b (wanting w e k f) g = absurd (cc)
-refused_fault number why old new m n b (line other r w e) g = fault_by old new m n (refused_line number (why_edit why)) r b e w g
+pub refused_fault : (Wants : Type 0) (text : List ℕ) (old new : Option (List ℕ)) (m n : ℕ) (b : Result (Unit {0}) Break) → IsAnswered Wants text old new m n b → b ≡ Err Unwritten → Rose m n
+refused_fault Wants text old new m n b (wanting w e k f) g = absurd (cc)
+refused_fault Wants text old new m n b (line other r w e) g = fault_by old new m n text r b e w g
 
-pub refused_later : (number : ℕ) (why : EditError) (old new : Option (List ℕ)) (m n : ℕ) (b : Result (Unit {0}) Break) → IsAnswered number why old new m n b → m ≤ n
-refused_later number why old new m n b (wanting w e k f) = omega (arith, f)
-refused_later number why old new m n b (line other r w e) = w.later
+pub refused_later : (Wants : Type 0) (text : List ℕ) (old new : Option (List ℕ)) (m n : ℕ) (b : Result (Unit {0}) Break) → IsAnswered Wants text old new m n b → m ≤ n
+refused_later Wants text old new m n b (wanting w e k f) = omega (arith, f)
+refused_later Wants text old new m n b (line other r w e) = w.later
 
 -- ---- one turn after another
 
-module _ {X : Type 0} (f : X → PlainCommand) where
+module _ {X C : Type 0} (f : X → C) where
   -- commands are those that were carried out, and those that are left
   pub split_at : (xs : List X) (k : ℕ) → map f xs ≡ map f (take k xs) ++ map f (drop k xs)
   split_at xs k = ap (map f) (sym (take-append-drop k xs)) ∙ map-append f (take k xs) (drop k xs)
 
   -- what all commands have, each has
-  pub each_has : (P : PlainCommand → Type 0) (xs : List X) (k : ℕ) (x : X) → All P (map f xs) → k < length xs → x ≡ get_or xs k x → P (f x)
+  pub each_has : (P : C → Type 0) (xs : List X) (k : ℕ) (x : X) → All P (map f xs) → k < length xs → x ≡ get_or xs k x → P (f x)
   each_has P xs k x all h e =
       let long = length-map xs f in
       subst P (get_or-map f xs k x (f x) h ∙ ap f (sym e)) (all k (f x) (omega (arith, long)))
@@ -103,40 +103,37 @@ module _ {X : Type 0} (f : X → PlainCommand) where
   pub more_at : (xs : List X) (k : ℕ) (x : X) → k < length xs → x ≡ get_or xs k x → map f (take (k + 1) xs) ≡ map f (take k xs) ++ f x ∷ []
   more_at xs k x h e = map_more f xs k x h ∙ ap (λ y. map f (take k xs) ++ f y ∷ []) (sym e)
 
-pub one_longer : (done : List PlainCommand) (command : PlainCommand) (k : ℕ) → length done ≡ k → length (done ++ command ∷ []) ≡ k + 1
+pub one_longer : {C : Type 0} (done : List C) (command : C) (k : ℕ) → length done ≡ k → length (done ++ command ∷ []) ≡ k + 1
 one_longer done command k e = let long = length-append done (command ∷ []) in omega (arith, long, e)
 
-module _ (short : Bool) (s : State) where
+module _ {S C : Type 0} (Turn : ℕ → S → C → S → List ℕ → Type 0) (s : S) where
   -- before the first
-  pub none_taken : (session : PlainSession) (old : Option (List ℕ)) (n : ℕ) → session.state ≡ s → session.stopped ≡ false → SoFar short s [] 0 0 session old old n n
-  none_taken session old n same runs = record { counted = refl; reached = refl; running = runs; text = []; turns = (same, refl); written = Appends-nil old; later = omega arith }
+  pub none_taken : (now : S) (old : Option (List ℕ)) (n : ℕ) → now ≡ s → SoFar Turn s [] 0 0 now old old n n
+  none_taken now old n same = record { counted = refl; reached = refl; text = []; turns = (same, refl); written = Appends-nil old; later = omega arith }
 
-  module _ (done : List PlainCommand) (k number : ℕ) (session : PlainSession) (old mid now : Option (List ℕ)) (before faults : ℕ) (so : SoFar short s done k number session old mid before faults) where
+  module _ (done : List C) (k number : ℕ) (now : S) (old mid new : Option (List ℕ)) (before faults : ℕ) (so : SoFar Turn s done k number now old mid before faults) where
     next_number : (turn : ℕ) → turn ≡ number + 1 → turn ≡ 1 + length done
     next_number turn e = let a = so.counted in let b = so.reached in omega (arith, a, b)
 
-    pub more_taken : (next : PlainSession) (turn : ℕ) (later : ℕ) (command : PlainCommand) → turn ≡ number + 1 → IsTaken short turn session.state command next.state mid now → next.stopped ≡ false → faults ≤ later
-        → length (done ++ command ∷ []) ≡ k + 1 → SoFar short s (done ++ command ∷ []) (k + 1) turn next old now before later
-    more_taken next turn later command e taken runs up long = record {
+    pub more_taken : (next : S) (turn : ℕ) (later : ℕ) (command : C) → turn ≡ number + 1 → IsTaken Turn turn now command next mid new → faults ≤ later → length (done ++ command ∷ []) ≡ k + 1
+        → SoFar Turn s (done ++ command ∷ []) (k + 1) turn next old new before later
+    more_taken next turn later command e taken up long = record {
       counted = (let a = so.counted in omega (arith, a));
       reached = long;
-      running = runs;
       text = so.text ++ taken.text;
-      turns = one_more (IsTurn short) 1 s done session.state so.text command next.state taken.text so.turns
-          (subst (λ (m : ℕ). IsTurn short m session.state command next.state taken.text) (next_number turn e) taken.turn);
-      written = Appends-trans old mid now so.text taken.text so.written taken.written;
+      turns = one_more Turn 1 s done now so.text command next taken.text so.turns (subst (λ (m : ℕ). Turn m now command next taken.text) (next_number turn e) taken.turn);
+      written = Appends-trans old mid new so.text taken.text so.written taken.written;
       later = (let a = so.later in omega (arith, a));
     }
 
-    pub stopped_before : (commands left : List PlainCommand) → commands ≡ done ++ left → Keeps mid now → AreBroken short s commands old now
+    pub stopped_before : (commands left : List C) → commands ≡ done ++ left → Keeps mid new → AreBroken Turn s commands old new
     stopped_before commands left split keeps = record {
       text = so.text;
-      turns = record { done = done; left = left; split = split; last = session.state; turns = so.turns };
-      written = record { front = so.text; rest = []; whole = sym (append-nil so.text); appended = Appends-kept old mid now so.text so.written keeps };
+      turns = record { done = done; left = left; split = split; last = now; turns = so.turns };
+      written = record { front = so.text; rest = []; whole = sym (append-nil so.text); appended = Appends-kept old mid new so.text so.written keeps };
     }
 
-    pub stopped_inside : (commands left : List PlainCommand) (turn : ℕ) (command : PlainCommand) → commands ≡ (done ++ command ∷ []) ++ left → turn ≡ number + 1 → IsBroken short turn session.state command mid now
-        → AreBroken short s commands old now
+    pub stopped_inside : (commands left : List C) (turn : ℕ) (command : C) → commands ≡ (done ++ command ∷ []) ++ left → turn ≡ number + 1 → IsBroken Turn turn now command mid new → AreBroken Turn s commands old new
     stopped_inside commands left turn command split e broken = record {
       text = so.text ++ broken.text;
       turns = record {
@@ -144,28 +141,26 @@ module _ (short : Bool) (s : State) where
         left = left;
         split = split;
         last = broken.next;
-        turns = one_more (IsTurn short) 1 s done session.state so.text command broken.next broken.text so.turns
-            (subst (λ (m : ℕ). IsTurn short m session.state command broken.next broken.text) (next_number turn e) broken.turn);
+        turns = one_more Turn 1 s done now so.text command broken.next broken.text so.turns (subst (λ (m : ℕ). Turn m now command broken.next broken.text) (next_number turn e) broken.turn);
       };
-      written = AppendsFront-after old mid now so.text broken.text so.written broken.written;
+      written = AppendsFront-after old mid new so.text broken.text so.written broken.written;
     }
 
-  pub all_taken : (done commands : List PlainCommand) (k number : ℕ) (session : PlainSession) (old now : Option (List ℕ)) (before faults : ℕ) → SoFar short s done k number session old now before faults → done ≡ commands
-      → AreTaken short s commands session.state old now
-  all_taken done commands k number session old now before faults so same = record {
+  pub all_taken : (done commands : List C) (k number : ℕ) (now : S) (old new : Option (List ℕ)) (before faults : ℕ) → SoFar Turn s done k number now old new before faults → done ≡ commands → AreTaken Turn s commands now old new
+  all_taken done commands k number now old new before faults so same = record {
     text = so.text;
-    turns = subst (λ (cs : List PlainCommand). AreTurns (IsTurn short) 1 s cs session.state so.text) same so.turns;
+    turns = subst (λ (cs : List C). AreTurns Turn 1 s cs now so.text) same so.turns;
     written = so.written;
   }
 
--- a turn broke off, or nothing of it was written
-pub stopped_at : (short : Bool) (s : State) {X : Type 0} (f : X → PlainCommand) (xs : List X) (k : ℕ) (x : X) → k < length xs → x ≡ get_or xs k x → (number : ℕ) (session : PlainSession) (old mid now : Option (List ℕ)) (before faults : ℕ)
-    → SoFar short s (map f (take k xs)) k number session old mid before faults → Keeps mid now ⊎ IsBroken short (number + 1) session.state (f x) mid now → AreBroken short s (map f xs) old now
-stopped_at short s f xs k x h e number session old mid now before faults so (inl keeps) =
-    stopped_before short s (map f (take k xs)) k number session old mid now before faults so (map f xs) (map f (drop k xs)) (split_at f xs k) keeps
-stopped_at short s f xs k x h e number session old mid now before faults so (inr broken) =
-    let split = split_at f xs (k + 1) ∙ ap (λ (l : List PlainCommand). l ++ map f (drop (k + 1) xs)) (more_at f xs k x h e) in
-    stopped_inside short s (map f (take k xs)) k number session old mid now before faults so (map f xs) (map f (drop (k + 1) xs)) (number + 1) (f x) split refl broken
+  -- a turn broke off, or nothing of it was written
+  pub stopped_at : {X : Type 0} (f : X → C) (xs : List X) (k : ℕ) (x : X) → k < length xs → x ≡ get_or xs k x → (number : ℕ) (now : S) (old mid new : Option (List ℕ)) (before faults : ℕ)
+      → SoFar Turn s (map f (take k xs)) k number now old mid before faults → Keeps mid new ⊎ IsBroken Turn (number + 1) now (f x) mid new → AreBroken Turn s (map f xs) old new
+  stopped_at f xs k x h e number now old mid new before faults so (inl keeps) =
+      stopped_before (map f (take k xs)) k number now old mid new before faults so (map f xs) (map f (drop k xs)) (split_at f xs k) keeps
+  stopped_at f xs k x h e number now old mid new before faults so (inr broken) =
+      let split = split_at f xs (k + 1) ∙ ap (λ (l : List C). l ++ map f (drop (k + 1) xs)) (more_at f xs k x h e) in
+      stopped_inside (map f (take k xs)) k number now old mid new before faults so (map f xs) (map f (drop (k + 1) xs)) (number + 1) (f x) split refl broken
 
 -- a later count rose
 pub rose_since : (m n k : ℕ) → m ≤ n → Rose n k → Rose m k
@@ -183,19 +178,23 @@ opening_is short session done held are whole = record {
   text_is = ap (λ (n : ℕ). report_text short 0 session.state (found_of session held) n) whole;
 }
 
-module _ (short : Bool) (opening : State) (commands : List PlainCommand) (old mid new : Option (List ℕ)) (first : List ℕ) (is : IsOpening short opening first) where
+module _ {S C : Type 0} (Turn : ℕ → S → C → S → List ℕ → Type 0) (present : S → State) (short : Bool) (start : S) (commands : List C) (old mid new : Option (List ℕ)) (first : List ℕ) (is : IsOpening short (present start) first) where
+  abbrev told : Output → Type 0
+  told out = IsToldBy Turn present short start commands out
+
+  abbrev told_so_far : List ℕ → Type 0
+  told_so_far text = IsToldSoFarBy Turn present short start commands text
+
   -- all was written
-  pub told_whole : (last : State) (status : Status) → Appends old mid first → AreTaken short opening commands last mid new → IsStatusOf last (number_of status)
-      → Ends (IsTold short opening commands) (IsToldSoFar short opening commands) (λ _. ⊥) old new status
+  pub told_whole : (last : S) (status : Status) → Appends old mid first → AreTaken Turn start commands last mid new → IsStatusOf (present last) (number_of status) → Ends told told_so_far (λ _. ⊥) old new status
   told_whole last status w taken is_status =
       let out : Output = record { text = first ++ taken.text; status = number_of status } in
-      let told : IsTold short opening commands out = record { first = first; first_is = is; rest = taken.text; last = last; turns = taken.turns; text_is = refl; status = is_status } in
-      let whole : Whole (IsTold short opening commands) old new (number_of status) = (out, told, refl, Appends-trans old mid new first taken.text w taken.written) in
-      reporting (IsTold short opening commands) (IsToldSoFar short opening commands) (λ _. ⊥) old new is_status.rows status is_status.status_is
-      (subst (Whole (IsTold short opening commands) old new) is_status.status_is whole)
+      let all : told out = record { first = first; first_is = is; rest = taken.text; last = last; turns = taken.turns; text_is = refl; status = is_status } in
+      let whole : Whole told old new (number_of status) = (out, all, refl, Appends-trans old mid new first taken.text w taken.written) in
+      reporting told told_so_far (λ _. ⊥) old new is_status.rows status is_status.status_is (subst (Whole told old new) is_status.status_is whole)
 
   -- it broke off behind the opening
-  pub told_front : Appends old mid first → AreBroken short opening commands mid new → Front (IsToldSoFar short opening commands) old new
+  pub told_front : Appends old mid first → AreBroken Turn start commands mid new → Front told_so_far old new
   told_front w broken = inr (
     first ++ broken.text,
     record { first = first; first_is = is; rest = broken.text; turns = broken.turns; text_is = refl },
@@ -203,14 +202,14 @@ module _ (short : Bool) (opening : State) (commands : List PlainCommand) (old mi
   )
 
   -- it broke off in the opening
-  pub first_front : AppendsFront old new first → Front (IsToldSoFar short opening commands) old new
+  pub first_front : AppendsFront old new first → Front told_so_far old new
   first_front w = inr (
     first,
     record {
       first = first;
       first_is = is;
       rest = [];
-      turns = record { done = []; left = commands; split = refl; last = opening; turns = (refl, refl) };
+      turns = record { done = []; left = commands; split = refl; last = start; turns = (refl, refl) };
       text_is = sym (append-nil first);
     },
     w,

@@ -1,6 +1,6 @@
--- What the words of the command line ask for: what `clap` makes of them, by the program's command. A further thing that they may ask
--- for is one entry more in each table here.
-use Rattle.std.specs.Prelude.{ℕ, List, [], ◌∷◌, Option, None, Some, Result, Ok, Err, true, ◌&&◌, nat_le, if◌then◌else◌, map, codes}
+-- What the words of the command line ask for. The words of a check are read by `clap`, by the program's command; where the first word is one
+-- of those that ask for something else, the others are read by hand. A further thing that they may ask for is one entry more in each table here.
+use Rattle.std.specs.Prelude.{ℕ, List, [], ◌∷◌, Option, None, Some, Result, Ok, Err, Bool, true, ◌&&◌, not, nat_eq, nat_le, bytes_eq, if◌then◌else◌, map, codes}
 use Rattle.std.specs.Option.{option_map}
 use Rattle.std.proofs.Common.{Bor}
 use Rattle.exact_dec.specs.declared.DecError.{DecError}
@@ -87,10 +87,16 @@ reading_of words = reading_if (fault_of drc_app words) (matches_of drc_app words
 
 -- ---- calls
 
--- what is asked for: nothing, and then this line says how the program is called, or a check
+-- what is asked for: nothing, and then this line says how the program is called; a check; that the steps of a script are gone through,
+-- which undo and redo commands; that each command of a script is tried alone, by so many workers; the rows alone, of which the tiles are
+-- dealt by stealing; or the text of a board after the commands of a script
 pub data Call : Type 0 where
   nothing : (usage : List ℕ) → Call
   check : Reading → Call
+  undo : (board script : List ℕ) → Call
+  try : (board script : List ℕ) → (workers : ℕ) → Call
+  steal : (board : List ℕ) (workers : ℕ) → Call
+  write : (board script : List ℕ) → Call
 
 abbrev pub usage_line : List ℕ
 usage_line = codes "usage: drc [BOARD] [--project FILE] [--rules FILE] [--script FILE] [--workers N] [--make N]\n"
@@ -99,8 +105,66 @@ abbrev pub check_if : Option Reading → Call
 check_if None = nothing usage_line
 check_if (Some reading) = check reading
 
+-- a check, whatever the first word is
+abbrev pub check_call : List (List ℕ) → Call
+check_call words = check_if (reading_of words)
+
+-- a word that names a file does not begin with a dash
+abbrev pub names_file : List ℕ → Bool
+names_file [] = true
+names_file (byte ∷ bytes) = not (nat_eq byte 45)
+
+-- the files of a board and of a script: two words
+abbrev pub two_files : List (List ℕ) → Option (List ℕ × List ℕ)
+two_files (board ∷ script ∷ []) = if names_file board && names_file script then Some (board, script) else None
+two_files words = None
+
+-- the words behind `undo`
+abbrev pub undo_if : Option (List ℕ × List ℕ) → Call
+undo_if None = nothing (codes "usage: drc undo BOARD SCRIPT\n")
+undo_if (Some files) = undo files.0 files.1
+
+-- the words behind `try`: the two files, and a number of workers
+abbrev pub try_if : Option (List ℕ × List ℕ) → Option ℕ → Call
+try_if (Some files) (Some workers) = try files.0 files.1 workers
+try_if (Some files) None = nothing (codes "usage: drc try BOARD SCRIPT N\n")
+try_if None workers = nothing (codes "usage: drc try BOARD SCRIPT N\n")
+
+abbrev pub try_call : List (List ℕ) → Call
+try_call (board ∷ script ∷ number ∷ []) = try_if (two_files (board ∷ script ∷ [])) (number_in 1 8 number)
+try_call words = nothing (codes "usage: drc try BOARD SCRIPT N\n")
+
+-- the file of a board and a number up to `high`: two words
+abbrev pub file_with : List ℕ → Option ℕ → Option (List ℕ × ℕ)
+file_with board None = None
+file_with board (Some number) = if names_file board then Some (board, number) else None
+
+abbrev pub file_and_number : ℕ → List (List ℕ) → Option (List ℕ × ℕ)
+file_and_number high (board ∷ number ∷ []) = file_with board (number_in 1 high number)
+file_and_number high words = None
+
+-- the words behind `steal`
+abbrev pub steal_if : Option (List ℕ × ℕ) → Call
+steal_if None = nothing (codes "usage: drc steal BOARD N\n")
+steal_if (Some found) = steal found.0 found.1
+
+-- the words behind `write`
+abbrev pub write_if : Option (List ℕ × List ℕ) → Call
+write_if None = nothing (codes "usage: drc write BOARD SCRIPT\n")
+write_if (Some files) = write files.0 files.1
+
+-- by the first word, and the words behind it
+abbrev pub call_by : List ℕ → List (List ℕ) → Call
+call_by first words =
+    if bytes_eq first (codes "undo") then undo_if (two_files words)
+    else if bytes_eq first (codes "try") then try_call words
+    else if bytes_eq first (codes "steal") then steal_if (file_and_number 64 words)
+    else if bytes_eq first (codes "write") then write_if (two_files words)
+    else check_call (first ∷ words)
+
 abbrev pub call_of : List (List ℕ) → Call
-call_of words = check_if (reading_of words)
+call_of [] = check_call []
+call_of (first ∷ words) = call_by first words
 
 -- the words as lists of bytes
 abbrev pub words_of : List (Bor (List ℕ)) → List (List ℕ)

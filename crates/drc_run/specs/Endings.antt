@@ -1,5 +1,5 @@
 -- How a run ends, by its status.
-use Rattle.std.specs.Prelude.{◌≡◌, ◌⊎◌, ℕ, ◌<◌, ◌≤◌, List, Option, Some, IfSome}
+use Rattle.std.specs.Prelude.{◌≡◌, ◌⊎◌, ℕ, Bool, true, false, ◌<◌, ◌≤◌, List, Option, Some, IfSome}
 use Rattle.std.specs.Io.KnownBytes.{Appends, Keeps}
 use Rattle.drc_io.specs.Causes.{Rose}
 use Rattle.drc_io.specs.Sinks.{AppendsFront}
@@ -53,6 +53,11 @@ number_of Refused = 3
 number_of ReadFault = 4
 number_of WriteFault = 5
 number_of OutOfMemory = 6
+
+-- the status of trials: whether a row would come by one of them
+abbrev pub trials_status : Bool → Status
+trials_status false = Clean
+trials_status true = Rows
 
 -- What a run promises, by what its words call for, the files that its shelf tells, the shelf's counts of faults before and after, what
 -- the sink held before and after, the sink's counts, and the status.

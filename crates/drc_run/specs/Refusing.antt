@@ -1,5 +1,5 @@
 -- What the parts of a run find, and what they write.
-use Rattle.std.specs.Prelude.{◌≡◌, ℕ, List, [], ◌++◌, codes, decimal, Option, None, Some}
+use Rattle.std.specs.Prelude.{◌≡◌, ℕ, List, [], ◌∷◌, ◌++◌, codes, decimal, Option, None, Some}
 use Rattle.std.proofs.Common.{Bor}
 use Rattle.drc_io.specs.Causes.{Rose}
 use Rattle.drc_io.specs.Files.{IsWhole}
@@ -95,6 +95,14 @@ pub record AreOpened (told : Option (List (List ℕ × List ℕ))) (reading : Re
   pub board : SourceSays told (record { which = Board; source = reading.board }) (accepted (a_board opened.board))
   pub classes : Gives told Project reading.project (a_project plain_classes) (a_project opened.classes)
   pub rules : Gives told Rules reading.rules (a_rules no_rules) (a_rules opened.rules)
+
+-- what is checked of a board alone
+abbrev pub only_board : List ℕ → Reading
+only_board name = record { board = file name; project = None; rules = None; script = None; workers = 1 }
+
+-- the texts of a command that goes through a script of this sort
+abbrev pub board_and_script : Which → (board script : List ℕ) → List Named
+board_and_script which board script = named Board board ∷ named which script ∷ []
 
 -- the line of what stops a run, where it is a refusal
 abbrev pub IsLineOf : Stop → Output → Type 0

@@ -7,6 +7,9 @@ use Rattle.drc_state.specs.declared.error.EditError.{EditError}
 use Rattle.drc_state.specs.Reasons.{edit_reason_of, edit_place_of, edit_inner_place_of}
 use Rattle.drc_state.specs.States.{State, checked_in}
 use Rattle.drc_state.specs.Recheck.{IsHeldCount}
+use Rattle.undo_log.specs.declared.error.HistoryError.{HistoryError}
+use Rattle.undo_log.specs.declared.error.HistoryError.TheVariants.{Edit, NothingToUndo, NothingToRedo, Stopped, OutOfMemory}
+use Rattle.undo_log.specs.Reasons.{step_reason_of}
 use Rattle.drc_run.specs.Texts.{at_place}
 
 -- ---- reports
@@ -43,6 +46,22 @@ why_at reason (Some at) inner = at_place reason at inner
 abbrev pub why_edit : EditError → List ℕ
 why_edit e = why_at (edit_reason_of e) (edit_place_of e) (edit_inner_place_of e)
 
+-- a step that is a refused command is told as that command
+abbrev pub why_step : HistoryError → List ℕ
+why_step (Edit e) = why_edit e
+why_step NothingToUndo = step_reason_of NothingToUndo
+why_step NothingToRedo = step_reason_of NothingToRedo
+why_step Stopped = step_reason_of Stopped
+why_step OutOfMemory = step_reason_of OutOfMemory
+
+-- the line of what has this number and is refused
+unfoldable pub refused_behind : List ℕ → ℕ → List ℕ → List ℕ
+refused_behind before number why = before ++ decimal number ++ codes " refused: " ++ why ++ codes "\n"
+
 -- the line of the command of this number
-unfoldable pub refused_line : ℕ → List ℕ → List ℕ
-refused_line number why = codes "command " ++ decimal number ++ codes " refused: " ++ why ++ codes "\n"
+abbrev pub refused_line : ℕ → List ℕ → List ℕ
+refused_line number why = refused_behind (codes "command ") number why
+
+-- that of a command which is tried
+abbrev pub refused_trial : ℕ → List ℕ → List ℕ
+refused_trial number why = refused_behind (codes "trial ") number why

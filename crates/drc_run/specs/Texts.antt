@@ -1,6 +1,6 @@
 -- The texts that a call names, in the order in which they are read, and what each says. A further text is one entry more in each table
 -- here.
-use Rattle.std.specs.Prelude.{◌≡◌, ℕ, ◌<◌, ◌≤◌, List, [], ◌∷◌, ◌++◌, length, codes, decimal, Option, None, Some, Ok, Err}
+use Rattle.std.specs.Prelude.{◌≡◌, ◌⊎◌, ℕ, ◌<◌, ◌≤◌, List, [], ◌∷◌, ◌++◌, length, codes, decimal, Option, None, Some, Ok, Err, slice_get}
 use Rattle.drc_io.specs.Files.{IsWhole}
 use Rattle.board_items.specs.declared.errors.BoardError.{BoardError}
 use Rattle.board_items.specs.Reasons.{board_reason_of, board_place_of}
@@ -16,12 +16,12 @@ use Rattle.rule_text.specs.RulesOf.{PlainRules}
 use Rattle.rule_text.specs.RuleText.{Says as RulesSays}
 use Rattle.edit_script.specs.declared.error.ScriptError.{ScriptError}
 use Rattle.edit_script.specs.Reasons.{reason_of as script_reason_of, place_of as script_place_of}
-use Rattle.edit_script.specs.Commands.{PlainCommand}
-use Rattle.edit_script.specs.ScriptText.{Says as ScriptSays}
+use Rattle.edit_script.specs.Commands.{PlainCommand, PlainStep, place_of}
+use Rattle.edit_script.specs.ScriptText.{Says as ScriptSays, SaysSteps}
 use Rattle.drc_run.specs.declared.texts.Which.{Which}
-use Rattle.drc_run.specs.declared.texts.Which.TheVariants.{Board, Project, Rules, Script}
+use Rattle.drc_run.specs.declared.texts.Which.TheVariants.{Board, Project, Rules, Script, Steps, Trials, Text}
 use Rattle.drc_run.specs.MadeBoard.{made_text}
-use Rattle.drc_run.specs.Calls.{Source, file, made, Call, nothing, check}
+use Rattle.drc_run.specs.Calls.{Source, file, made, Call, nothing, check, undo, try, steal, write}
 
 -- a text that the words name: which one it is, and where it comes from
 pub record Named : Type 0 where
@@ -41,6 +41,10 @@ optional which (Some name) = named which name ∷ []
 abbrev pub texts_of : Call → List Named
 texts_of (nothing usage) = []
 texts_of (check r) = record { which = Board; source = r.board } ∷ (optional Project r.project ++ (optional Rules r.rules ++ optional Script r.script))
+texts_of (undo board script) = named Board board ∷ named Steps script ∷ []
+texts_of (try board script workers) = named Board board ∷ named Trials script ∷ []
+texts_of (steal board workers) = named Board board ∷ []
+texts_of (write board script) = named Text board ∷ named Script script ∷ []
 
 -- what lines call a text
 abbrev pub word_of : Which → List ℕ
@@ -48,6 +52,9 @@ word_of Board = codes "board"
 word_of Project = codes "project"
 word_of Rules = codes "rules"
 word_of Script = codes "script"
+word_of Steps = codes "script"
+word_of Trials = codes "script"
+word_of Text = codes "board"
 
 -- what a text stands for once it is accepted
 pub data Value : Type 0 where
@@ -55,6 +62,8 @@ pub data Value : Type 0 where
   a_project : PlainClasses → Value
   a_rules : PlainRules → Value
   a_script : List PlainCommand → Value
+  some_steps : List PlainStep → Value
+  a_text : List ℕ → Value
 
 -- what a text says: its value, or why it is refused, and where
 pub data Said : Type 0 where
@@ -76,6 +85,24 @@ pub record IsWritten (reason : List ℕ) (place inner : Option ℕ) (text : List
   pub has_place : place ≡ Some at
   pub text_is : text ≡ at_place reason at inner
 
+-- the most commands that are tried
+abbrev pub most_trials : ℕ
+most_trials = 15625
+
+-- a script with more is refused at the first command that is too many
+pub record HasTooMany (commands : List PlainCommand) (why : List ℕ) : Type 0 where
+  pub command : PlainCommand
+  pub stands : slice_get commands most_trials ≡ Some command
+  pub why_is : why ≡ at_place (codes "TooMany (9)") (place_of command) None
+
+-- the reader of scripts refuses the bytes so
+abbrev pub RefusesScript : List ℕ → List ℕ → Type 0
+RefusesScript bytes why = (e : ScriptError) × ScriptSays bytes (Err e) × IsWritten (script_reason_of e) (script_place_of e) None why
+
+-- the script has too many commands to be tried
+abbrev pub RefusesTrials : List ℕ → List ℕ → Type 0
+RefusesTrials bytes why = (commands : List PlainCommand) × ScriptSays bytes (Ok commands) × HasTooMany commands why
+
 -- what the reader of a text finds in its bytes
 abbrev pub ReaderSays : Which → List ℕ → Said → Type 0
 ReaderSays Board bytes (accepted (a_board board)) = BoardSays bytes (Ok board)
@@ -90,7 +117,17 @@ ReaderSays Rules bytes (refused why) =
     (e : RuleError) × RulesSays bytes (Err e) × IsWritten (rules_reason_of e) (rules_place_of e) (rules_inner_place_of e) why
 ReaderSays Script bytes (accepted (a_script commands)) = ScriptSays bytes (Ok commands)
 ReaderSays Script bytes (accepted _) = ⊥
-ReaderSays Script bytes (refused why) = (e : ScriptError) × ScriptSays bytes (Err e) × IsWritten (script_reason_of e) (script_place_of e) None why
+ReaderSays Script bytes (refused why) = RefusesScript bytes why
+ReaderSays Steps bytes (accepted (some_steps steps)) = SaysSteps bytes (Ok steps)
+ReaderSays Steps bytes (accepted _) = ⊥
+ReaderSays Steps bytes (refused why) = (e : ScriptError) × SaysSteps bytes (Err e) × IsWritten (script_reason_of e) (script_place_of e) None why
+ReaderSays Trials bytes (accepted (a_script commands)) = ScriptSays bytes (Ok commands) × (length commands ≤ most_trials)
+ReaderSays Trials bytes (accepted _) = ⊥
+ReaderSays Trials bytes (refused why) = RefusesScript bytes why ⊎ RefusesTrials bytes why
+-- a text that stands for its bytes, where a board is read of them; it is refused as a board is
+ReaderSays Text bytes (accepted (a_text text)) = (text ≡ bytes) × ((board : PlainBoard) × BoardSays bytes (Ok board))
+ReaderSays Text bytes (accepted _) = ⊥
+ReaderSays Text bytes (refused why) = (e : BoardError) × BoardSays bytes (Err e) × IsWritten (board_reason_of e) (board_place_of e) None why
 
 -- the most bytes of a text
 abbrev pub limit : ℕ

@@ -1,12 +1,16 @@
 -- The reading of the words, and what the texts open, as the program holds them.
-use Rattle.std.specs.Prelude.{◌≤◌}
+use Rattle.std.specs.Prelude.{◌≤◌, ℕ, List}
 use Rattle.std.specs.Option.{option_map}
 use Rattle.rule_text.specs.Views.{plain_rules}
+use Rattle.drc_run.specs.declared.calls.Call.{Call}
+use Rattle.drc_run.specs.declared.calls.Call.TheVariants.{Nothing, Check, Undo, Try, Steal, Write}
+use Rattle.drc_run.specs.declared.calls.Scripted.{Scripted}
+use Rattle.drc_run.specs.declared.calls.Numbered.{Numbered}
 use Rattle.drc_run.specs.declared.texts.Texts.{Texts}
 use Rattle.drc_run.specs.declared.words.Request.{Request}
 use Rattle.drc_run.specs.declared.words.Source.{Source}
 use Rattle.drc_run.specs.declared.words.Source.TheVariants.{File, Made}
-use Rattle.drc_run.specs.Calls.{Source as PlainSource, file, made, Reading}
+use Rattle.drc_run.specs.Calls.{Source as PlainSource, file, made, Reading, Call as PlainCall, nothing, check, undo, try, steal, write}
 use Rattle.drc_state.specs.States.{State}
 
 abbrev pub source_in : Source → PlainSource
@@ -34,3 +38,27 @@ pub record Fits (request : Request) : Type 0 where
 
 abbrev pub opened_in : Texts → State
 opened_in texts = record { board = texts.board; classes = texts.classes; rules = plain_rules texts.rules }
+
+-- ---- calls
+
+abbrev pub files_in : Scripted → List ℕ × List ℕ
+files_in files = (files.board.now, files.script.now)
+
+abbrev pub numbered_in : Numbered → List ℕ × ℕ
+numbered_in found = (found.board.now, found.number)
+
+abbrev pub call_in : Call → PlainCall
+call_in (Nothing usage) = nothing usage.now
+call_in (Check request) = check (reading_in request)
+call_in (Undo files) = undo files.board.now files.script.now
+call_in (Try files workers) = try files.board.now files.script.now workers
+call_in (Steal found) = steal found.board.now found.number
+call_in (Write files) = write files.board.now files.script.now
+
+abbrev pub CallFits : Call → Type 0
+CallFits (Nothing usage) = Unit {0}
+CallFits (Check request) = Fits request
+CallFits (Undo files) = Unit {0}
+CallFits (Try files workers) = (1 ≤ workers) × (workers ≤ 8)
+CallFits (Steal found) = (1 ≤ found.number) × (found.number ≤ 64)
+CallFits (Write files) = Unit {0}

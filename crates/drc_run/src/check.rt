@@ -1,79 +1,30 @@
 //! From the texts to the reports, or to the line that stands in their place.
 
-ghost use Rattle.std.specs.Prelude.{◌≡◌, ◌≤◌, ℕ, List, length, map, All, false, Option, None, MatchResult};
+ghost use Rattle.std.specs.Prelude.{◌≡◌, ◌≤◌, length, map, All, false};
 ghost use Rattle.drc_io.specs.Causes.{Rose};
 ghost use Rattle.edit_script.specs.Commands.{plain_command};
 ghost use Rattle.edit_script.specs.Fits.{Fits as CommandFits};
 ghost use Rattle.drc_state.specs.States.{checked_in};
 ghost use Rattle.drc_state.specs.Recheck.{IsHeldCount};
 ghost use Rattle.drc_run.specs.declared.status.Status.{Status};
-ghost use Rattle.drc_run.specs.Calls.{check_if, check};
+ghost use Rattle.drc_run.specs.Calls.{check};
 ghost use Rattle.drc_run.specs.Views.{source_in, reading_in, Fits, opened_in};
-ghost use Rattle.drc_run.specs.Output.{IsOutputFor, IsBegunFor, ReadFails, IsTold, IsToldSoFar, IsStatusOf, is_short};
-ghost use Rattle.drc_run.specs.Refusing.{IsLineOf};
-ghost use Rattle.drc_run.specs.Endings.{Ends, IsTextOfOne, number_of};
+ghost use Rattle.drc_run.specs.Output.{IsOutputFor, IsBegunFor, ReadFails, IsTold, IsToldSoFar, is_short};
+ghost use Rattle.drc_run.specs.Endings.{Ends};
 
-use crate::lines::{write_refusal, write_unread};
+use crate::finish::{session_status, write_stop};
 use crate::reporting::write_report;
 use crate::status::Status;
-use crate::texts::{Stop, Texts, commands_of, script_text, texts_of};
+use crate::texts::{Texts, commands_of, script_text, texts_of};
 use crate::turns::{Break, Way, tiles_of, turns};
 use crate::words::{Request, Source};
 use crate::writing::Tiles;
-use drc_io::{Failed, Shelf, Sink, put_all};
+use drc_io::{Failed, Shelf, Sink};
 use drc_session::Session;
 use edit_script::Command;
 use std::alloc::AllocGlobal;
 use std::thread::Threads;
 use tile_pool::Gate;
-
-/// The status after a text was written, or not.
-fn after(written: Result<(), Failed>, status: Status) -> Status
-    ensures { MatchResult written (λ _. result ≡ status) (λ _. result ≡ Status.WriteFault) }
-{
-    match written {
-        Ok(()) => status,
-        Err(Failed) => Status::WriteFault,
-    }
-}
-
-/// Writes how the program is called.
-pub(crate) fn usage<W: Sink>(out: &mut W) -> Status
-    ensures ends { (told : Option (List (List ℕ × List ℕ))) (before now : List ℕ → ℕ)
-        → Ends (IsOutputFor (check_if None) told) (IsBegunFor (check_if None) told) (ReadFails (check_if None) told before now) (W.written out.old) (W.written out.new) result }
-    ensures fault { result ≡ Status.WriteFault → Rose (W.faults out.old) (W.faults out.new) }
-{
-    after(
-        put_all(
-            out,
-            b"usage: drc [BOARD] [--project FILE] [--rules FILE] [--script FILE] [--workers N] [--make N]\n",
-        ),
-        Status::Usage,
-    )
-}
-
-/// Writes why there is no report. Want of memory is not written.
-fn write_stop<W: Sink>(stop: Stop, out: &mut W) -> Status
-    ensures ends { Ends (IsLineOf stop) (IsTextOfOne (IsLineOf stop)) (λ which. stop ≡ Stop.Unread which) (W.written out.old) (W.written out.new) result }
-    ensures fault { result ≡ Status.WriteFault → Rose (W.faults out.old) (W.faults out.new) }
-{
-    match stop {
-        Stop::Refused(why) => after(write_refusal(why, out), Status::Refused),
-        Stop::Unread(which) => after(write_unread(which, out), Status::ReadFault),
-        Stop::OutOfMemory => Status::OutOfMemory,
-    }
-}
-
-/// The status of a session that is not stopped: whether it has a row.
-fn session_status(session: &Session) -> Status
-    requires { session.now.stopped ≡ false }
-    ensures { IsStatusOf session.now.state (number_of result) }
-{
-    match session.rows() {
-        [] => Status::Clean,
-        _ => Status::Rows,
-    }
-}
 
 /// Writes the report of a session that begins, and then what each command makes of it.
 fn go_through<R: Threads + Sync + AllocGlobal, W: Sink, G: Gate>(

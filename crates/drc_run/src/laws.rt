@@ -4,12 +4,15 @@ ghost use Rattle.std.specs.Prelude.{◌≡◌, ◌++◌, ℕ, List, Some};
 ghost use Rattle.drc_run.specs.Calls.{Call};
 ghost use Rattle.drc_run.specs.Output.{Output, IsOutputFor, IsBegunFor};
 
+use board_write::laws::one_outcome;
 use drc_state::laws::{one_answer, one_list_held, one_recheck};
 use edit_script::laws::one_reading as one_script_reading;
 use kept_nets::laws::one_list_of_parts;
 use pcb_read::laws::one_reading;
 use row_check::laws::one_list;
 use rule_text::laws::one_reading as one_rules_reading;
+use undo_log::laws::one_step;
+use what_if::laws::{one_survey, one_trial};
 
 /// The words and the files have one output at most.
 pub fn one_output()
@@ -23,6 +26,10 @@ pub fn one_output()
     one_list_held();
     one_answer();
     one_recheck();
+    one_step();
+    one_trial();
+    one_survey();
+    one_outcome();
 }
 
 /// What the output begins with after some of the commands is a front part of it, where there is an output.
@@ -37,4 +44,8 @@ pub fn begun_is_front()
     one_list_held();
     one_answer();
     one_recheck();
+    one_step();
+    one_trial();
+    one_survey();
+    one_outcome();
 }

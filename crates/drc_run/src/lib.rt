@@ -2,28 +2,68 @@
 #![tactic(auto)]
 
 ghost use Rattle.std.specs.Prelude.{◌≡◌, ℕ, List, Option};
-ghost use Rattle.drc_run.specs.Calls.{call_of, words_of};
-ghost use Rattle.drc_run.specs.Endings.{Promises};
+ghost use Rattle.drc_io.specs.Causes.{Rose};
+ghost use Rattle.drc_run.specs.declared.status.Status.{Status};
+ghost use Rattle.drc_run.specs.Calls.{check_call, call_of, words_of};
+ghost use Rattle.drc_run.specs.Views.{call_in, CallFits};
+ghost use Rattle.drc_run.specs.Output.{IsOutputFor, IsBegunFor, ReadFails};
+ghost use Rattle.drc_run.specs.Endings.{Ends, Promises};
 
+mod calls;
 mod check;
+mod finish;
 pub mod laws;
 mod lines;
 mod made;
 mod reporting;
+mod rewriting;
 mod status;
+mod stealing;
+mod steps;
 mod texts;
+mod trying;
 mod turns;
+mod undoing;
 mod words;
 mod writing;
 
-use crate::check::{check, usage};
+use crate::calls::{Call, call_of, check_call};
+use crate::check::check;
+use crate::finish::usage;
 use crate::laws::{begun_is_front, one_output};
+use crate::rewriting::rewrite;
 use crate::status::Status;
-use crate::words::request_of;
+use crate::stealing::steal;
+use crate::trying::try_each;
+use crate::undoing::undo;
 use drc_io::{Shelf, Sink};
 use std::thread::Threads;
 pub use texts::Which;
 use tile_pool::Gate;
+
+/// Does what is asked for, and says how the run ended.
+fn carry_out<R: Threads + Sync + AllocGlobal, F: Shelf, W: Sink, G: Gate>(
+    rt: &R,
+    gate: &G,
+    call: Call<'_>,
+    shelf: &mut F,
+    out: &mut W,
+) -> Status
+    requires { CallFits call }
+    ensures ends { Ends (IsOutputFor (call_in call.entry) (F.files shelf.old)) (IsBegunFor (call_in call.entry) (F.files shelf.old))
+        (ReadFails (call_in call.entry) (F.files shelf.old) (F.faults shelf.old) (F.faults shelf.new)) (W.written out.old) (W.written out.new) result }
+    ensures fault { result ≡ Status.WriteFault → Rose (W.faults out.old) (W.faults out.new) }
+    ensures same { F.files shelf.new ≡ F.files shelf.old }
+{
+    match call {
+        Call::Nothing(line) => usage(line, out),
+        Call::Check(request) => check(rt, gate, request, shelf, out),
+        Call::Undo(files) => undo(rt, gate, files, shelf, out),
+        Call::Try { files, workers } => try_each(rt, gate, files, workers, shelf, out),
+        Call::Steal(found) => steal(rt, gate, found, shelf, out),
+        Call::Write(files) => rewrite(rt.alloc(), files, shelf, out),
+    }
+}
 
 /// Checks the board that the words name, under the classes of the project and the rules of the rule file if they name these, and writes
 /// its report. Then it carries out the commands of the script, if they name one, and writes for each the report of the board as it then
@@ -40,7 +80,7 @@ pub fn run<R: Threads + Sync + AllocGlobal, F: Shelf, W: Sink, G: Gate>(
     gate: &G,
 ) -> u8
     // What was written, and that each fault has its cause.
-    ensures promises { Promises (call_of (words_of words.now)) (F.files shelf.old) (F.faults shelf.old) (F.faults shelf.new)
+    ensures promises { Promises (check_call (words_of words.now)) (F.files shelf.old) (F.faults shelf.old) (F.faults shelf.new)
         (W.written out.old) (W.written out.new) (W.faults out.old) (W.faults out.new) result }
     // The files stay as they were.
     ensures same { F.files shelf.new ≡ F.files shelf.old }
@@ -48,9 +88,37 @@ pub fn run<R: Threads + Sync + AllocGlobal, F: Shelf, W: Sink, G: Gate>(
     // What is written whole is the one output, and what is begun a front part of it.
     one_output();
     begun_is_front();
-    let status = match request_of(rt.alloc(), words) {
-        Ok(Some(request)) => check(rt, gate, request, shelf, out),
-        Ok(None) => usage(out),
+    let status = match check_call(rt.alloc(), words) {
+        Ok(call) => carry_out(rt, gate, call, shelf, out),
+        Err(_) => Status::OutOfMemory,
+    };
+    status as u8
+}
+
+/// The same, but where the first word is one of these; a board whose file is called so is named with its folder, as `./undo`.
+///
+/// - `undo BOARD SCRIPT`: a script that may also undo what its commands did, and do it again.
+/// - `try BOARD SCRIPT N`: what each command of the script would do alone to the board as its file has it, by N workers, from 1 to 8: the rows
+///   that would go and come, and at the end the first of the commands that leave the fewest rows. The status is 1 where a row would come.
+/// - `steal BOARD N`: the rows alone, by N workers, from 1 to 64, that steal tiles from each other.
+/// - `write BOARD SCRIPT`: the text of the board after the commands of the script. The status is 1 where one of them is refused.
+pub fn run_all<R: Threads + Sync + AllocGlobal, F: Shelf, W: Sink, G: Gate>(
+    rt: &R,
+    words: &[&str],
+    shelf: &mut F,
+    out: &mut W,
+    gate: &G,
+) -> u8
+    // What was written, and that each fault has its cause.
+    ensures promises { Promises (call_of (words_of words.now)) (F.files shelf.old) (F.faults shelf.old) (F.faults shelf.new)
+        (W.written out.old) (W.written out.new) (W.faults out.old) (W.faults out.new) result }
+    // The files stay as they were.
+    ensures same { F.files shelf.new ≡ F.files shelf.old }
+{
+    one_output();
+    begun_is_front();
+    let status = match call_of(rt.alloc(), words) {
+        Ok(call) => carry_out(rt, gate, call, shelf, out),
         Err(_) => Status::OutOfMemory,
     };
     status as u8

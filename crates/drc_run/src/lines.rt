@@ -4,7 +4,7 @@ ghost use Rattle.std.specs.Prelude.{◌≡◌, ◌++◌, ℕ, List};
 ghost use Rattle.drc_io.specs.Sinks.{Writes};
 ghost use Rattle.drc_run.specs.Output.{refusal, cannot_read};
 ghost use Rattle.drc_run.specs.Refusing.{plus_text, digits_text, why_of};
-ghost use Rattle.drc_run.specs.Reports.{why_edit, refused_line};
+ghost use Rattle.drc_run.specs.Reports.{why_edit, why_step, refused_behind, refused_line, refused_trial};
 ghost use Rattle.drc_run.specs.Running.{at_text, inner_behind};
 
 use crate::texts::{Refusal, Which};
@@ -12,6 +12,7 @@ use drc_io::{Failed, Sink};
 use drc_rows::write_pieces;
 use drc_state::EditError;
 use itoa::Buffer;
+use undo_log::HistoryError;
 
 /// What stands between a place and the place in a condition.
 fn plus(inner: Option<u32>) -> &'static [u8]
@@ -84,13 +85,14 @@ pub(crate) fn write_unread<W: Sink>(which: Which, out: &mut W) -> Result<(), Fai
     write_pieces(&[b"cannot read ", which.word(), b"\n"], out)
 }
 
-/// Writes `command NUMBER refused: NAME (CODE)`, behind it ` at PLACE` where there is a place, and for a condition ` + PLACE`.
-pub(crate) fn write_refused<W: Sink>(
+/// Writes, behind a text, `NUMBER refused: NAME (CODE)`, behind that ` at PLACE` where there is a place, and for a condition ` + PLACE`.
+fn write_refused_behind<W: Sink>(
+    before: &'static [u8],
     number: u64,
     why: &EditError,
     out: &mut W,
 ) -> Result<(), Failed>
-    ensures { Writes (W.written out.old) (W.written out.new) (W.faults out.old) (W.faults out.new) (refused_line number (why_edit why.now)) result }
+    ensures { Writes (W.written out.old) (W.written out.new) (W.faults out.old) (W.faults out.new) (refused_behind before.now number (why_edit why.now)) result }
 {
     let name = why.name();
     let code = why.code();
@@ -101,7 +103,7 @@ pub(crate) fn write_refused<W: Sink>(
     let mut digits_of_inner = Buffer::new();
     write_pieces(
         &[
-            b"command ",
+            before,
             digits.format(number).as_bytes(),
             b" refused: ",
             name.front.as_bytes(),
@@ -114,6 +116,61 @@ pub(crate) fn write_refused<W: Sink>(
             place_digits(place, &mut digits_of_place),
             plus(inner),
             place_digits(inner, &mut digits_of_inner),
+            b"\n",
+        ],
+        out,
+    )
+}
+
+/// Writes the line of the command of this number, which is refused: `command NUMBER refused: NAME (CODE)` and the places.
+pub(crate) fn write_refused<W: Sink>(
+    number: u64,
+    why: &EditError,
+    out: &mut W,
+) -> Result<(), Failed>
+    ensures { Writes (W.written out.old) (W.written out.new) (W.faults out.old) (W.faults out.new) (refused_line number (why_edit why.now)) result }
+{
+    write_refused_behind(b"command ", number, why, out)
+}
+
+/// The same of a command that is tried: `trial NUMBER refused: NAME (CODE)` and the places.
+pub(crate) fn write_refused_trial<W: Sink>(
+    number: u64,
+    why: &EditError,
+    out: &mut W,
+) -> Result<(), Failed>
+    ensures { Writes (W.written out.old) (W.written out.new) (W.faults out.old) (W.faults out.new) (refused_trial number (why_edit why.now)) result }
+{
+    write_refused_behind(b"trial ", number, why, out)
+}
+
+/// The same of a step. One that is a refused command is told as that command.
+pub(crate) fn write_refused_step<W: Sink>(
+    number: u64,
+    why: &HistoryError,
+    out: &mut W,
+) -> Result<(), Failed>
+    ensures { Writes (W.written out.old) (W.written out.new) (W.faults out.old) (W.faults out.new) (refused_line number (why_step why.now)) result }
+{
+    if let HistoryError::Edit(edit) = why {
+        return write_refused(number, edit, out);
+    }
+    let name = why.name();
+    let code = why.code();
+    let mut digits = Buffer::new();
+    write_pieces(
+        &[
+            b"command ",
+            digits.format(number).as_bytes(),
+            b" refused: ",
+            name.front.as_bytes(),
+            name.rest.front.as_bytes(),
+            name.rest.rest.as_bytes(),
+            b" (",
+            code.front.as_bytes(),
+            code.rest.front.as_bytes(),
+            code.rest.rest.as_bytes(),
+            b")",
             b"\n",
         ],
         out,

@@ -3,9 +3,9 @@
 /// The status of the program.
 #[derive(Clone, Copy, Debug, PartialEq, Eq)]
 pub(crate) enum Status {
-    /// All was written, and the board has no row.
+    /// All was written, and the board has no row; or, of the text of a board, no command was refused.
     Clean = 0,
-    /// All was written, and the board has a row.
+    /// All was written, and the board has a row; or a command was refused.
     Rows = 1,
     /// The words are no command line.
     Usage = 2,

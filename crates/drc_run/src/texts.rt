@@ -1,23 +1,25 @@
 //! The texts that the words name: they are fetched and read in their order, each before the next.
 
-ghost use Rattle.std.specs.Prelude.{◌≡◌, ◌≤◌, ℕ, List, [], Option, IfOk, IfErr, MatchResult, Ok, Err, length, map, All, option_map};
+ghost use Rattle.std.specs.Prelude.{◌≡◌, ◌≤◌, ℕ, List, [], Option, Some, IfOk, IfErr, MatchResult, MatchOption, Ok, Err, length, map, All, option_map, slice_get};
 ghost use Rattle.drc_io.specs.Files.{IsWhole};
 ghost use Rattle.net_class.specs.Classes.{plain_classes};
 ghost use Rattle.rule_text.specs.RulesOf.{no_rules};
 ghost use Rattle.rule_text.specs.Views.{plain_rules};
-ghost use Rattle.edit_script.specs.Commands.{plain_command};
-ghost use Rattle.edit_script.specs.Fits.{Fits as CommandFits};
-ghost use Rattle.drc_run.specs.Calls.{check};
+ghost use Rattle.edit_script.specs.Commands.{PlainCommand, place_of, plain_command, plain_step};
+ghost use Rattle.edit_script.specs.Fits.{Fits as CommandFits, StepFits};
+ghost use Rattle.drc_run.specs.Calls.{Call, check, write};
 ghost use Rattle.drc_run.specs.MadeBoard.{made_text};
 ghost use Rattle.drc_run.specs.Views.{source_in, reading_in, SourceFits, Fits, opened_in};
-ghost use Rattle.drc_run.specs.Texts.{named, word_of, a_board, a_project, a_rules, a_script, accepted, ReaderSays, AreBytesOf, SourceSays};
-ghost use Rattle.drc_run.specs.Refusing.{StopsReading, StopsText, StopsTexts, StopsOption, StopsReadingOption, AreBytesOfOption, Gives, GivesReading, AreOpened, stop_of};
+ghost use Rattle.drc_run.specs.Texts.{named, word_of, texts_of, a_board, a_project, a_rules, a_script, some_steps, a_text, accepted, ReaderSays, AreBytesOf, SourceSays};
+ghost use Rattle.drc_run.specs.Refusing.{StopsReading, StopsText, StopsTexts, StopsOption, StopsReadingOption, AreBytesOfOption, Gives, GivesReading, AreOpened, stop_of, only_board, board_and_script};
 
+use crate::calls::Scripted;
 use crate::made::made_text;
 use crate::words::{Request, Source};
 use board_items::Board;
 use drc_io::{FetchError, Shelf, fetch};
-use edit_script::{Command, read_script};
+use edit_script::laws::accepted_forms;
+use edit_script::{Command, Step, read_script, read_steps};
 use net_class::{Classes, read_project};
 use pcb_read::read_board;
 use rule_text::{RuleList, RuleNotes, Rules, read_rules};
@@ -27,13 +29,23 @@ use std::alloc::Global;
 /// The most bytes of a text.
 const LIMIT: u32 = 33_554_432;
 
+/// The most commands of a script whose commands are tried.
+const MOST_TRIALS: usize = 15_625;
+
 /// Which text, in the order in which they are read.
 #[derive(Clone, Copy, Debug, PartialEq, Eq)]
 pub enum Which {
     Board,
     Project,
     Rules,
+    /// A script of commands.
     Script,
+    /// A script of steps, among which undo and redo are.
+    Steps,
+    /// A script of commands that are tried: at most 15,625.
+    Trials,
+    /// A board whose own text is wanted.
+    Text,
 }
 
 impl Which {
@@ -42,10 +54,10 @@ impl Which {
         ensures { result.now ≡ word_of self }
     {
         match self {
-            Which::Board => b"board",
+            Which::Board | Which::Text => b"board",
             Which::Project => b"project",
             Which::Rules => b"rules",
-            Which::Script => b"script",
+            Which::Script | Which::Steps | Which::Trials => b"script",
         }
     }
 }
@@ -191,14 +203,57 @@ fn rules_in(alloc: Global, text: &[u8]) -> Result<Rules, Stop>
 }
 
 /// The commands of the text of a script, which they borrow.
-fn script_in<'t>(alloc: Global, text: &'t [u8]) -> Result<Vec<Command<'t>>, Stop>
+pub(crate) fn script_in<'t>(alloc: Global, text: &'t [u8]) -> Result<Vec<Command<'t>>, Stop>
     requires { length text.now ≤ 33_554_432 }
     ensures says { MatchResult result (λ commands. ReaderSays Which.Script text.entry.now (accepted (a_script (map plain_command commands.items)))) (StopsReading Which.Script text.entry.now) }
     ensures fit { IfOk result (λ commands. All CommandFits (map plain_command commands.items)) }
+    ensures few { IfOk result (λ commands. length commands.items ≤ 33_554_432) }
 {
+    // A script has no more commands than bytes.
+    spans_in_order();
+    accepted_forms();
     match read_script(alloc, text) {
         Ok(commands) => Ok(commands),
         Err(e) => Err(refused(Which::Script, e.name(), e.code(), e.place(), None)),
+    }
+}
+
+/// The steps of the text of a script, which they borrow.
+pub(crate) fn steps_in<'t>(alloc: Global, text: &'t [u8]) -> Result<Vec<Step<'t>>, Stop>
+    requires { length text.now ≤ 33_554_432 }
+    ensures says { MatchResult result (λ steps. ReaderSays Which.Steps text.entry.now (accepted (some_steps (map plain_step steps.items)))) (StopsReading Which.Steps text.entry.now) }
+    ensures fit { IfOk result (λ steps. All StepFits (map plain_step steps.items)) }
+{
+    match read_steps(alloc, text) {
+        Ok(steps) => Ok(steps),
+        Err(e) => Err(refused(Which::Steps, e.name(), e.code(), e.place(), None)),
+    }
+}
+
+/// The place of the first command that is too many to be tried.
+fn first_too_many(commands: &[Command<'_>]) -> Option<u32>
+    ensures { MatchOption result (length commands.now ≤ 15_625) (λ at. (command : PlainCommand) × (slice_get (map plain_command commands.now) 15_625 ≡ Some command) × (at ≡ place_of command)) }
+{
+    match commands.get(MOST_TRIALS) {
+        Some(command) => Some(command.at()),
+        None => None,
+    }
+}
+
+/// The commands of the text of a script that are tried, which they borrow.
+pub(crate) fn trials_in<'t>(alloc: Global, text: &'t [u8]) -> Result<Vec<Command<'t>>, Stop>
+    requires { length text.now ≤ 33_554_432 }
+    ensures says { MatchResult result (λ commands. ReaderSays Which.Trials text.entry.now (accepted (a_script (map plain_command commands.items)))) (StopsReading Which.Trials text.entry.now) }
+    ensures fit { IfOk result (λ commands. All CommandFits (map plain_command commands.items)) }
+    ensures few { IfOk result (λ commands. length commands.items ≤ 15_625) }
+{
+    let commands = match read_script(alloc, text) {
+        Ok(commands) => commands,
+        Err(e) => return Err(refused(Which::Trials, e.name(), e.code(), e.place(), None)),
+    };
+    match first_too_many(&commands) {
+        Some(at) => Err(refused(Which::Trials, "TooMany", "9", Some(at), None)),
+        None => Ok(commands),
     }
 }
 
@@ -347,5 +402,104 @@ pub(crate) fn commands_of<'t>(
     match name {
         Some(_) => script_in(alloc, text),
         None => Ok(Vec::new(alloc)),
+    }
+}
+
+/// A board alone, under the plain classes and no rules, as one worker checks it.
+pub(crate) fn board_alone(name: &str) -> Request<'_>
+    ensures reading { reading_in result ≡ only_board name.entry.now }
+    ensures fits { Fits result }
+{
+    Request {
+        board: Source::File(name),
+        project: None,
+        rules: None,
+        script: None,
+        workers: 1,
+    }
+}
+
+/// Fetches and reads the board's text, and then fetches the script's, which is of this sort.
+pub(crate) fn scripted_texts<F: Shelf>(
+    alloc: Global,
+    which: Which,
+    files: Scripted<'_>,
+    shelf: &mut F,
+) -> Result<(Texts, Vec<u8>), Stop>
+    ensures ok { IfOk result (λ r. AreOpened (F.files shelf.old) (only_board files.entry.board.now) (opened_in r.0)) }
+    ensures few { IfOk result (λ r. length r.0.rules.rules ≤ 33_554_432) }
+    ensures whole { IfOk result (λ r. IsWhole (F.files shelf.old) files.entry.script.now r.1.items) }
+    ensures short { IfOk result (λ r. length r.1.items ≤ 33_554_432) }
+    ensures stop { IfErr result (λ stop. (call : Call) → texts_of call ≡ board_and_script which files.entry.board.now files.entry.script.now → StopsTexts (F.files shelf.old) call (F.faults shelf.old) (F.faults shelf.new) stop) }
+    ensures same { F.files shelf.new ≡ F.files shelf.old }
+    ensures counts { (other : List ℕ) → F.faults shelf.old other ≤ F.faults shelf.new other }
+{
+    let texts = match texts_of(alloc, board_alone(files.board), shelf) {
+        Ok(texts) => texts,
+        Err(stop) => return Err(stop),
+    };
+    match fetch_text(alloc, which, files.script, shelf) {
+        Ok(script) => Ok((texts, script)),
+        Err(stop) => Err(stop),
+    }
+}
+
+/// Whether a board is read of the text.
+fn holds_board(alloc: Global, text: &[u8]) -> Result<(), Stop>
+    requires { length text.now ≤ 33_554_432 }
+    ensures { MatchResult result (λ _. ReaderSays Which.Text text.now (accepted (a_text text.now))) (StopsReading Which.Text text.now) }
+{
+    match read_board(alloc, text) {
+        Ok(_) => Ok(()),
+        Err(e) => Err(refused(Which::Text, e.name(), e.code(), e.place(), None)),
+    }
+}
+
+/// Fetches the text of a board.
+fn text_of_board<F: Shelf>(alloc: Global, name: &str, shelf: &mut F) -> Result<Vec<u8>, Stop>
+    ensures ok { IfOk result (λ text. SourceSays (F.files shelf.old) (named Which.Text name.now) (accepted (a_text text.items))) }
+    ensures short { IfOk result (λ text. length text.items ≤ 33_554_432) }
+    ensures stop { IfErr result (StopsText (F.files shelf.old) (F.faults shelf.old) (F.faults shelf.new) (named Which.Text name.now)) }
+    ensures same { F.files shelf.new ≡ F.files shelf.old }
+    ensures counts { (other : List ℕ) → F.faults shelf.old other ≤ F.faults shelf.new other }
+{
+    let text = match fetch_text(alloc, Which::Text, name, shelf) {
+        Ok(text) => text,
+        Err(stop) => return Err(stop),
+    };
+    match holds_board(alloc, &text) {
+        Ok(()) => Ok(text),
+        Err(stop) => Err(stop),
+    }
+}
+
+/// The text of a board, and that of a script.
+#[derive(Drop)]
+pub(crate) struct Written {
+    pub(crate) board: Vec<u8>,
+    pub(crate) script: Vec<u8>,
+}
+
+/// Fetches the board's text, and where a board is read of it, then the script's.
+pub(crate) fn written_texts<F: Shelf>(
+    alloc: Global,
+    files: Scripted<'_>,
+    shelf: &mut F,
+) -> Result<Written, Stop>
+    ensures ok { IfOk result (λ texts. SourceSays (F.files shelf.old) (named Which.Text files.entry.board.now) (accepted (a_text texts.board.items))) }
+    ensures short { IfOk result (λ texts. length texts.board.items ≤ 33_554_432) }
+    ensures whole { IfOk result (λ texts. IsWhole (F.files shelf.old) files.entry.script.now texts.script.items) }
+    ensures script { IfOk result (λ texts. length texts.script.items ≤ 33_554_432) }
+    ensures stop { IfErr result (StopsTexts (F.files shelf.old) (write files.entry.board.now files.entry.script.now) (F.faults shelf.old) (F.faults shelf.new)) }
+    ensures same { F.files shelf.new ≡ F.files shelf.old }
+    ensures counts { (other : List ℕ) → F.faults shelf.old other ≤ F.faults shelf.new other }
+{
+    let board = match text_of_board(alloc, files.board, shelf) {
+        Ok(board) => board,
+        Err(stop) => return Err(stop),
+    };
+    match fetch_text(alloc, Which::Script, files.script, shelf) {
+        Ok(script) => Ok(Written { board, script }),
+        Err(stop) => Err(stop),
     }
 }

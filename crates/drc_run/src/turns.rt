@@ -6,7 +6,8 @@ ghost use Rattle.drc_io.specs.Causes.{Rose};
 ghost use Rattle.edit_script.specs.Commands.{plain_command};
 ghost use Rattle.edit_script.specs.Fits.{Fits};
 ghost use Rattle.drc_run.specs.declared.turns.Break.{Break};
-ghost use Rattle.drc_run.specs.Running.{IsAnswered, IsTaken, IsBroken, AreTaken, AreBroken};
+ghost use Rattle.drc_run.specs.Turns.{IsTurn};
+ghost use Rattle.drc_run.specs.Running.{IsEditAnswered, IsTaken, IsBroken, AreTaken, AreBroken};
 
 use crate::lines::write_refused;
 use crate::reporting::write_report;
@@ -36,7 +37,7 @@ pub(crate) enum Break {
 }
 
 /// What became of a text.
-fn told(written: Result<(), Failed>) -> Result<(), Break>
+pub(crate) fn told(written: Result<(), Failed>) -> Result<(), Break>
     ensures { MatchResult written (λ u. result ≡ Ok u) (λ _. result ≡ Err Break.Unwritten) }
 {
     match written {
@@ -58,7 +59,7 @@ pub(crate) fn tiles_of(applied: &Applied) -> Tiles
 
 /// Writes the line of the command of this number, which is refused. Want of memory is not written.
 fn refused<W: Sink>(number: u64, why: EditError, out: &mut W) -> Result<(), Break>
-    ensures { IsAnswered number why (W.written out.old) (W.written out.new) (W.faults out.old) (W.faults out.new) result }
+    ensures { IsEditAnswered number why (W.written out.old) (W.written out.new) (W.faults out.old) (W.faults out.new) result }
 {
     match why {
         EditError::OutOfMemory => Err(Break::OutOfMemory),
@@ -80,9 +81,9 @@ fn turn<R: Threads + Sync + AllocGlobal, W: Sink, G: Gate>(
     requires workers { (1 ≤ way.workers) × (way.workers ≤ 64) }
     requires running { session.old.stopped ≡ false }
     requires fits { Fits (plain_command command.now) }
-    ensures taken { IfOk result (λ _. IsTaken way.short number session.old.state (plain_command command.now) session.new.state (W.written out.old) (W.written out.new)) }
+    ensures taken { IfOk result (λ _. IsTaken (IsTurn way.short) number session.old.state (plain_command command.now) session.new.state (W.written out.old) (W.written out.new)) }
     ensures running { IfOk result (λ _. session.new.stopped ≡ false) }
-    ensures broken { IfErr result (λ _. Keeps (W.written out.old) (W.written out.new) ⊎ IsBroken way.short number session.old.state (plain_command command.now) (W.written out.old) (W.written out.new)) }
+    ensures broken { IfErr result (λ _. Keeps (W.written out.old) (W.written out.new) ⊎ IsBroken (IsTurn way.short) number session.old.state (plain_command command.now) (W.written out.old) (W.written out.new)) }
     ensures fault { result ≡ Err Break.Unwritten → Rose (W.faults out.old) (W.faults out.new) }
     ensures later { W.faults out.old ≤ W.faults out.new }
 {
@@ -104,9 +105,9 @@ pub(crate) fn turns<R: Threads + Sync + AllocGlobal, W: Sink, G: Gate>(
     requires workers { (1 ≤ way.workers) × (way.workers ≤ 64) }
     requires running { session.old.stopped ≡ false }
     requires fit { All Fits (map plain_command commands.now) }
-    ensures taken { IfOk result (λ _. AreTaken way.short session.old.state (map plain_command commands.now) session.new.state (W.written out.old) (W.written out.new)) }
+    ensures taken { IfOk result (λ _. AreTaken (IsTurn way.short) session.old.state (map plain_command commands.now) session.new.state (W.written out.old) (W.written out.new)) }
     ensures running { IfOk result (λ _. session.new.stopped ≡ false) }
-    ensures broken { IfErr result (λ _. AreBroken way.short session.old.state (map plain_command commands.now) (W.written out.old) (W.written out.new)) }
+    ensures broken { IfErr result (λ _. AreBroken (IsTurn way.short) session.old.state (map plain_command commands.now) (W.written out.old) (W.written out.new)) }
     ensures fault { result ≡ Err Break.Unwritten → Rose (W.faults out.old) (W.faults out.new) }
 {
     let mut number: u64 = 0;

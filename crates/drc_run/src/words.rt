@@ -11,7 +11,7 @@ use exact_dec::count_of;
 use std::alloc::{AllocError, Global};
 
 /// The most workers.
-const MOST_WORKERS: u32 = 64;
+pub(crate) const MOST_WORKERS: u32 = 64;
 
 /// The greatest generated board.
 const MOST_MADE: u32 = 90_000;
@@ -141,7 +141,7 @@ fn workers_of(count: Option<&str>) -> Option<u32>
 }
 
 /// The number that the text spells, from 1 to `most`.
-fn number_in(text: &str, most: u32) -> Option<u32>
+pub(crate) fn number_in(text: &str, most: u32) -> Option<u32>
     ensures number { result ≡ number_in 1 most text.now }
     ensures fits { IfSome result (λ number. (1 ≤ number) × (number ≤ most)) }
 {

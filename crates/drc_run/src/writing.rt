@@ -1,6 +1,6 @@
 //! Reports of a board, whole and short.
 
-ghost use Rattle.std.specs.Prelude.{◌≡◌, ◌++◌, ℕ, List, All, map, length, filter};
+ghost use Rattle.std.specs.Prelude.{◌≡◌, ◌++◌, ℕ, List, [], All, map, length, filter};
 ghost use Rattle.std.specs.List.{flat_map};
 ghost use Rattle.drc_io.specs.Sinks.{Writes};
 ghost use Rattle.cond_lang.specs.Rules.{plain_rule};
@@ -17,8 +17,11 @@ use drc_io::{Failed, Sink};
 use drc_rows::{count_notes, write_line, write_net, write_notes, write_pieces, write_rows};
 use itoa::Buffer;
 use kept_nets::NetPart;
+use net_class::Classes;
 use row_check::{CheckView, Row};
+use rule_pick::FactsById;
 use rule_text::Rules;
+use std::alloc::Global;
 
 /// Writes the rows, and how many they are.
 fn write_counted_rows<W: Sink>(
@@ -134,6 +137,29 @@ fn write_items<W: Sink>(
     write_line(b"report ", number, b"", out)?;
     write_counted_rows(view, rows, out)?;
     write_counted_notes(view.board, rules, out)
+}
+
+/// Writes the line that opens a report, the rows, and how many they are. No rule stands behind them.
+pub(crate) fn write_rows_alone<W: Sink>(
+    alloc: Global,
+    board: &Board,
+    classes: &Classes,
+    rows: &[Row],
+    out: &mut W,
+) -> Result<(), Failed>
+    requires items { All (HasItems board.now) rows.now }
+    requires sources { All (HasSource []) rows.now }
+    ensures { Writes (W.written out.old) (W.written out.new) (W.faults out.old) (W.faults out.new) (first_line 0 ++ rows_text board.now [] rows.now) result }
+{
+    write_line(b"report ", 0, b"", out)?;
+    // The line of a row looks at no facts.
+    let view = CheckView {
+        board,
+        facts: &FactsById::new(alloc),
+        rules: &[],
+        classes,
+    };
+    write_counted_rows(&view, rows, out)
 }
 
 /// Writes the whole report of this number: the board's rows, its notes, its open nets, and how many tiles were gone through. `Failed`

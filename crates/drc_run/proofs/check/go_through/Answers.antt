@@ -1,5 +1,7 @@
 use Rattle.std.proofs.Common.{Err, inl, ap, map, ◌∙◌}
 use Rattle.edit_script.specs.Commands.{plain_command}
+use Rattle.drc_run.specs.Turns.{IsTurn}
+use Rattle.drc_run.specs.Output.{itself}
 use Rattle.drc_run.proofs.Turning.{opening_is, told_whole, told_front, first_front, no_fault, rose_since}
 use Rattle.drc_run.proofs.check.go_through.Goals as goal
 
@@ -8,7 +10,7 @@ returns-in-Err-clause-ends g c =
     let short = c.args.way.short in
     let session = c.args.session.now in
     let first = opening_is short session c.args.tiles.done c.args.tiles.held c.write_report.ensures.found c.requires.whole in
-    inl (first_front short session.state (map plain_command c.args.commands.now) (g.W.Sink.written c.args.out.now) (g.W.Sink.written c.write_report.new.out) (g.W.Sink.written c.write_report.new.out) _ first
+    inl (first_front (IsTurn short) itself short session.state (map plain_command c.args.commands.now) (g.W.Sink.written c.args.out.now) (g.W.Sink.written c.write_report.new.out) (g.W.Sink.written c.write_report.new.out) _ first
     c.in-Err.ensures.writes.bytes)
 
 pub returns-in-Ok-turns-clause-ends : goal.returns-in-Ok-turns-clause-ends
@@ -16,7 +18,7 @@ returns-in-Ok-turns-clause-ends g c =
     let short = c.args.way.short in
     let session = c.args.session.now in
     let first = opening_is short session c.args.tiles.done c.args.tiles.held c.write_report.ensures.found c.requires.whole in
-    told_whole short session.state (map plain_command c.args.commands.now) _ _ _ _ first c.turns.new.session.state c.session_status.result c.in-Ok.ensures.writes.bytes c.in-Ok-turns.ensures.taken c.session_status.ensures
+    told_whole (IsTurn short) itself short session.state (map plain_command c.args.commands.now) _ _ _ _ first c.turns.new.session.state c.session_status.result c.in-Ok.ensures.writes.bytes c.in-Ok-turns.ensures.taken c.session_status.ensures
 
 pub returns-in-Ok-turns-clause-fault : goal.returns-in-Ok-turns-clause-fault
 returns-in-Ok-turns-clause-fault g c e = absurd (no_fault c.turns.new.session.state c.session_status.result c.session_status.ensures e)
@@ -26,7 +28,7 @@ returns-in-Err-Unwritten-clause-ends g c =
     let short = c.args.way.short in
     let session = c.args.session.now in
     let first = opening_is short session c.args.tiles.done c.args.tiles.held c.write_report.ensures.found c.requires.whole in
-    inl (told_front short session.state (map plain_command c.args.commands.now) _ (g.W.Sink.written c.write_report.new.out) _ _ first c.in-Ok.ensures.writes.bytes c.in-Err-Unwritten.ensures.broken)
+    inl (told_front (IsTurn short) itself short session.state (map plain_command c.args.commands.now) _ (g.W.Sink.written c.write_report.new.out) _ _ first c.in-Ok.ensures.writes.bytes c.in-Err-Unwritten.ensures.broken)
 
 pub returns-in-Err-Unwritten-clause-fault : goal.returns-in-Err-Unwritten-clause-fault
 returns-in-Err-Unwritten-clause-fault g c e =
@@ -37,4 +39,4 @@ returns-in-Err-OutOfMemory-clause-ends g c =
     let short = c.args.way.short in
     let session = c.args.session.now in
     let first = opening_is short session c.args.tiles.done c.args.tiles.held c.write_report.ensures.found c.requires.whole in
-    told_front short session.state (map plain_command c.args.commands.now) _ (g.W.Sink.written c.write_report.new.out) _ _ first c.in-Ok.ensures.writes.bytes c.in-Err-OutOfMemory.ensures.broken
+    told_front (IsTurn short) itself short session.state (map plain_command c.args.commands.now) _ (g.W.Sink.written c.write_report.new.out) _ _ first c.in-Ok.ensures.writes.bytes c.in-Err-OutOfMemory.ensures.broken

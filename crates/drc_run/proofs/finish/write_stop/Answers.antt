@@ -5,7 +5,7 @@ use Rattle.drc_run.specs.Output.{refusal}
 use Rattle.drc_run.specs.Refusing.{IsLineOf, why_of}
 use Rattle.drc_run.specs.Endings.{IsTextOfOne}
 use Rattle.drc_run.proofs.Written.{written, its_text}
-use Rattle.drc_run.proofs.check.write_stop.Goals as goal
+use Rattle.drc_run.proofs.finish.write_stop.Goals as goal
 
 pub returns-in-Refused-clause-ends : goal.returns-in-Refused-clause-ends
 returns-in-Refused-clause-ends g c =

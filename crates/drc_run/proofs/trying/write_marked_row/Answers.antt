@@ -1,0 +1,28 @@
+use Rattle.std.proofs.Common.{sym, subst, map, ◌++◌, All}
+use Rattle.std.proofs.lemmas.Result.{err_from_is_err_and}
+use Rattle.drc_io.proofs.Writing.{Writes-then, Writes-stop, Writes-text}
+use Rattle.cond_lang.specs.Rules.{plain_rule}
+use Rattle.pair_check.specs.Rows.{HasItems, HasSource}
+use Rattle.drc_rows.specs.Report.{row_line}
+use Rattle.drc_run.proofs.Trials.{all_one, one_alone}
+use Rattle.drc_run.proofs.trying.write_marked_row.Goals as goal
+
+pub write_rows-requires-clause-items : goal.write_rows-requires-clause-items
+write_rows-requires-clause-items g c =
+    let has = HasItems c.args.view.now.board.now in
+    subst (All has) (sym c.from_ref.ensures.value) (all_one has c.args.row.now c.requires.items)
+
+pub write_rows-requires-clause-sources : goal.write_rows-requires-clause-sources
+write_rows-requires-clause-sources g c =
+    let has = HasSource (map plain_rule c.args.view.now.rules.now) in
+    subst (All has) (sym c.from_ref.ensures.value) (all_one has c.args.row.now c.requires.source)
+
+pub returns-in_err-put_all : goal.returns-in_err-put_all
+returns-in_err-put_all g c =
+    let p = err_from_is_err_and c.from_residual.result c.from_residual.ensures.1 in
+    Writes-stop _ _ _ _ _ _ _ _ _ p.1 c.in_err-put_all.ensures
+
+pub returns : goal.returns
+returns g c =
+    let line = row_line c.args.view.now.board.now (map plain_rule c.args.view.now.rules.now) in
+    Writes-then _ _ _ _ _ _ _ _ _ _ c.in_ok-put_all.ensures (Writes-text _ _ _ _ _ _ _ (one_alone line c.from_ref.result.now c.args.row.now c.from_ref.ensures.value) c.write_rows.ensures)

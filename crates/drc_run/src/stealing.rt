@@ -1,0 +1,80 @@
+//! From a board to its rows, or to the line that stands in their place.
+
+ghost use Rattle.std.specs.Prelude.{◌≡◌, ◌≤◌, []};
+ghost use Rattle.drc_io.specs.Causes.{Rose};
+ghost use Rattle.drc_run.specs.declared.status.Status.{Status};
+ghost use Rattle.drc_run.specs.Calls.{steal};
+ghost use Rattle.drc_run.specs.Views.{opened_in};
+ghost use Rattle.drc_run.specs.Output.{IsOutputFor, IsBegunFor, ReadFails, AreRowsTold, status_of};
+ghost use Rattle.drc_run.specs.Endings.{Ends, IsTextOfOne, number_of};
+
+use crate::calls::Numbered;
+use crate::finish::{after, write_stop};
+use crate::status::Status;
+use crate::texts::{Texts, board_alone, texts_of};
+use crate::writing::write_rows_alone;
+use drc_io::{Shelf, Sink};
+use row_check::Row;
+use row_check::laws::{rows_have_items, rows_have_sources};
+use std::alloc::AllocGlobal;
+use std::thread::Threads;
+use stolen_rows::rows_by_stealing;
+use tile_pool::Gate;
+
+/// The status of these rows: whether there is one.
+fn status_of(rows: &[Row]) -> Status
+    ensures { number_of result ≡ status_of rows.now }
+{
+    match rows {
+        [] => Status::Clean,
+        _ => Status::Rows,
+    }
+}
+
+/// Finds the rows of the board of the texts and writes them.
+fn report<R: Threads + Sync + AllocGlobal, W: Sink, G: Gate>(
+    rt: &R,
+    gate: &G,
+    workers: u32,
+    texts: Texts,
+    out: &mut W,
+) -> Status
+    requires workers { (1 ≤ workers) × (workers ≤ 64) }
+    requires unruled { (opened_in texts).rules.rules ≡ [] }
+    ensures ends { Ends (AreRowsTold (opened_in texts)) (IsTextOfOne (AreRowsTold (opened_in texts))) (λ _. ⊥) (W.written out.old) (W.written out.new) result }
+    ensures fault { result ≡ Status.WriteFault → Rose (W.faults out.old) (W.faults out.new) }
+{
+    rows_have_items();
+    rows_have_sources();
+    let alloc = rt.alloc();
+    match rows_by_stealing(rt, alloc, workers, &texts.board, &texts.classes, gate) {
+        Ok(rows) => {
+            let status = status_of(&rows);
+            after(
+                write_rows_alone(alloc, &texts.board, &texts.classes, &rows, out),
+                status,
+            )
+        }
+        Err(_) => Status::OutOfMemory,
+    }
+}
+
+/// Fetches and reads the board, and writes its rows.
+pub(crate) fn steal<R: Threads + Sync + AllocGlobal, F: Shelf, W: Sink, G: Gate>(
+    rt: &R,
+    gate: &G,
+    found: Numbered<'_>,
+    shelf: &mut F,
+    out: &mut W,
+) -> Status
+    requires { (1 ≤ found.number) × (found.number ≤ 64) }
+    ensures ends { Ends (IsOutputFor (steal found.entry.board.now found.entry.number) (F.files shelf.old)) (IsBegunFor (steal found.entry.board.now found.entry.number) (F.files shelf.old))
+        (ReadFails (steal found.entry.board.now found.entry.number) (F.files shelf.old) (F.faults shelf.old) (F.faults shelf.new)) (W.written out.old) (W.written out.new) result }
+    ensures fault { result ≡ Status.WriteFault → Rose (W.faults out.old) (W.faults out.new) }
+    ensures same { F.files shelf.new ≡ F.files shelf.old }
+{
+    match texts_of(rt.alloc(), board_alone(found.board), shelf) {
+        Ok(texts) => report(rt, gate, found.number, texts, out),
+        Err(stop) => write_stop(stop, out),
+    }
+}
