@@ -7,6 +7,7 @@ mod boxes;
 mod extents;
 mod frames;
 mod gaps;
+mod guesses;
 mod near;
 mod points;
 mod polygon;

@@ -1,7 +1,7 @@
 // How near points and segments are, with no rounding. Most pairs of a board are far apart, so boxes
 // are compared first, and products are formed only where these do not decide.
 
-ghost use Rattle.std.specs.Prelude.{◌≡◌, ◌≤ℤ◌, ◌≤◌, ◌*ℤ◌, pos, unsigned_abs, IsTrue, ◌↔◌};
+ghost use Rattle.std.specs.Prelude.{◌≡◌, ◌≤ℤ◌, ◌≤◌, ◌*ℤ◌, pos, true, unsigned_abs, IsTrue, ◌↔◌};
 ghost use Rattle.geo_seg.specs.Points.{IsAt, IsOn};
 ghost use Rattle.geo_seg.specs.Nearer.{IsDistance, square, AreApart, AreWithin, DoMeet};
 ghost use Rattle.geo_seg.specs.Gap.{IsLeastGap, IsFramed, IsCrossing, IsEndReached, AreEndsApart};
@@ -97,7 +97,7 @@ fn is_framed(whole: i64, part_a: i64, part_b: i64) -> bool
 }
 
 // Whether the segments are not parallel, and meet.
-fn crosses(a: Seg, b: Seg) -> bool
+pub fn crosses(a: Seg, b: Seg) -> bool
     ensures { IsTrue result ↔ IsCrossing a b }
 {
     let way_a = between(a.a, a.b);
@@ -137,6 +137,14 @@ fn are_close(a: Seg, b: Seg, d: i64) -> bool
     ensures { IsTrue result ↔ AreWithin (IsOn a) (IsOn b) d }
 {
     crosses(a, b) || ends_within(a, b, d) || ends_within(b, a, d)
+}
+
+// Whether boxes alone tell that the segments are apart at d. Only a yes is sure.
+pub fn boxes_apart(a: Seg, b: Seg, d: i64) -> bool
+    requires { IsDistance d }
+    ensures { result ≡ true → AreApart (IsOn a) (IsOn b) d }
+{
+    a.bounds().is_clear(b.bounds(), d)
 }
 
 /// Whether no point of `a` and point of `b` are nearer to each other than `d`, which is from 0 to
