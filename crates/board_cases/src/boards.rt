@@ -2,10 +2,11 @@
 
 ghost use Rattle.std.specs.Prelude.{◌≡◌, ◌≤◌, length, IfOk};
 
-use board_items::{Board, Item, ItemError, LayerSet, Part, Parts, What};
+use board_items::{Board, Item, ItemError, Part, Parts, What};
 use case_lines::{
     Fault, add, crosses_threads, first_word, number, parts_of, refused, small, text_of, told,
 };
+use copper_layers::LayerSet;
 use drc_io::Name;
 use geo_seg::{Core, Point, Seg, Shape};
 use pcb_read::{Spans, read_board, read_item, read_with_spans};

@@ -6,10 +6,10 @@ use Rattle.std.specs.Option.{option_copied}
 use Rattle.std.specs.List.{list_all}
 use Rattle.std.specs.Map.{lookup}
 use Rattle.board_items.specs.declared.errors.ItemError.TheVariants.{OutOfBoard, UnknownNet, UnknownLayer, TooMany}
-use Rattle.board_items.specs.declared.layers.LayerSet.{LayerSet}
+use Rattle.copper_layers.specs.declared.set.LayerSet.{LayerSet}
 use Rattle.board_items.specs.declared.parts.Part.{Part}
 use Rattle.board_items.specs.declared.item.Item.{Item}
-use Rattle.board_items.specs.Layers.{is_within}
+use Rattle.copper_layers.specs.Layers.{is_within}
 use Rattle.board_items.specs.Parts.{parts_of}
 use Rattle.board_items.specs.Boards.{PlainBoard, name_of, item_at, is_on_board, has_layers_of, is_admitted, AllAdmitted}
 use Rattle.board_items.specs.Refusals.{refusal_of}

@@ -1,4 +1,3 @@
-pub mod LayerLemmas
 mod Around
 pub mod Rising
 mod Admitted
@@ -11,6 +10,7 @@ mod Walking
 mod SlotLists
 mod Adding
 mod UnitRows
+mod TagRows
 mod Named
 mod Moving
 mod OneMove
@@ -22,3 +22,4 @@ mod Copies
 mod TakenOut
 mod Placed
 mod AllPlaced
+mod UnitPlaces

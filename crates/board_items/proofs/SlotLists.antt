@@ -3,10 +3,9 @@ use Rattle.std.proofs.Common.{◌≡◌, ◌≢◌, ◌∙◌, ap, sym, subst, r
 use Rattle.std.specs.List.{AllZip, list_all, slice_get}
 use Rattle.std.proofs.lemmas.Bool.{eqb-true, ne_eqb}
 use Rattle.board_items.specs.declared.item.Item.{Item}
-use Rattle.board_items.specs.Boards.{PlainBoard, Rise, item_at}
+use Rattle.board_items.specs.Boards.{PlainBoard, item_at}
 use Rattle.board_items.specs.Moves.{IsMovedEntry, moves, item_stays, unit_stays}
 use Rattle.board_items.specs.Slots.{present, at_slot, without_id, is_slot_of, slot_stays, IsMovedSlot}
-use Rattle.board_items.proofs.Rising.{rise_ends}
 
 -- ---- numbers
 is_lt : (a b : ℕ) → a < b → nat_lt a b ≡ true
@@ -172,26 +171,6 @@ part unit n slots d b lt e = subst (λ (i : ℕ). without_part i unit (present 0
 -- ---- all items of the unit whose ids are below one
 abbrev pub passed_unit : ℕ → ℕ → List (ℕ × Item) → List (ℕ × Item)
 passed_unit unit k items = filter (λ entry. not (nat_eq entry.1.unit unit && nat_lt entry.0 k)) items
-
-pub none_passed : (unit : ℕ) (items : List (ℕ × Item)) → passed_unit unit 0 items ≡ items
-none_passed unit [] = refl
-none_passed unit (e ∷ es) = by (none_passed unit es) (nat_eq e.1.unit unit)
-  where
-    by : passed_unit unit 0 es ≡ es → (t : Bool) → cond (not (t && nat_lt e.0 0)) (e ∷ passed_unit unit 0 es) (passed_unit unit 0 es) ≡ e ∷ es
-    by again true = ap (λ l. cond (not l) (e ∷ passed_unit unit 0 es) (passed_unit unit 0 es)) (not_lt e.0 0 (omega arith)) ∙ ap (λ xs. e ∷ xs) again
-    by again false = ap (λ xs. e ∷ xs) again
-
-pub all_passed : (unit first high k : ℕ) (items : List (ℕ × Item)) → high ≤ k → Rise first high items → passed_unit unit k items ≡ filter (λ entry. not (nat_eq entry.1.unit unit)) items
-all_passed unit first high k [] le h = refl
-all_passed unit first high k (e ∷ es) le h = by (all_passed unit (e.0 + 1) high k es le h.1) (nat_eq e.1.unit unit)
-  where
-    ends : e.0 < k
-    ends = let below = rise_ends (e.0 + 1) high es h.1 in omega (arith, below, le)
-
-    by : passed_unit unit k es ≡ filter (λ entry. not (nat_eq entry.1.unit unit)) es → (t : Bool) → cond (not (t && nat_lt e.0 k)) (e ∷ passed_unit unit k es) (passed_unit unit k es)
-        ≡ cond (not t) (e ∷ filter (λ entry. not (nat_eq entry.1.unit unit)) es) (filter (λ entry. not (nat_eq entry.1.unit unit)) es)
-    by again true = ap (λ l. cond (not l) (e ∷ passed_unit unit k es) (passed_unit unit k es)) (is_lt e.0 k ends) ∙ again
-    by again false = ap (λ xs. e ∷ xs) again
 
 pub one_passed : (unit k : ℕ) (items : List (ℕ × Item)) → without_part k unit (passed_unit unit k items) ≡ passed_unit unit (k + 1) items
 one_passed unit k [] = refl

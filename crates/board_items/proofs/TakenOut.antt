@@ -5,7 +5,6 @@ use Rattle.board_items.specs.declared.item.Item.{Item}
 use Rattle.board_items.specs.Boards.{Rise, item_at}
 use Rattle.board_items.specs.Slots.{without_id}
 use Rattle.board_items.specs.Back.{entries_of, own_at}
-use Rattle.board_items.proofs.Rising.{rise_ends}
 use Rattle.board_items.proofs.SlotLists.{without_part, passed_unit}
 
 is_lt : (a b : ℕ) → a < b → nat_lt a b ≡ true
@@ -77,25 +76,6 @@ own_none unit id (x ∷ xs) low high r free = by (λ other. own_none unit id xs 
 -- ---- the items of the unit whose ids are below one
 abbrev pub taken_to : ℕ → ℕ → List (ℕ × Item) → List (ℕ × Item)
 taken_to unit k items = filter (λ entry. nat_eq entry.1.unit unit && nat_lt entry.0 k) items
-
-pub none_taken : (unit : ℕ) (items : List (ℕ × Item)) → taken_to unit 0 items ≡ []
-none_taken unit [] = refl
-none_taken unit (e ∷ es) = by (none_taken unit es) (nat_eq e.1.unit unit)
-  where
-    by : taken_to unit 0 es ≡ [] → (t : Bool) → cond (t && nat_lt e.0 0) (e ∷ taken_to unit 0 es) (taken_to unit 0 es) ≡ []
-    by again true = ap (λ l. cond l (e ∷ taken_to unit 0 es) (taken_to unit 0 es)) (not_lt e.0 0 (omega arith)) ∙ again
-    by again false = again
-
-pub all_taken : (unit low high k : ℕ) (items : List (ℕ × Item)) → high ≤ k → Rise low high items → taken_to unit k items ≡ entries_of unit items
-all_taken unit low high k [] le h = refl
-all_taken unit low high k (e ∷ es) le h = by (all_taken unit (e.0 + 1) high k es le h.1) (nat_eq e.1.unit unit)
-  where
-    ends : e.0 < k
-    ends = let below = rise_ends (e.0 + 1) high es h.1 in omega (arith, below, le)
-
-    by : taken_to unit k es ≡ entries_of unit es → (t : Bool) → cond (t && nat_lt e.0 k) (e ∷ taken_to unit k es) (taken_to unit k es) ≡ cond t (e ∷ entries_of unit es) (entries_of unit es)
-    by again true = ap (λ l. cond l (e ∷ taken_to unit k es) (taken_to unit k es)) (is_lt e.0 k ends) ∙ ap (λ xs. e ∷ xs) again
-    by again false = again
 
 none_from : (unit k low high : ℕ) (items : List (ℕ × Item)) → k ≤ low → Rise low high items → taken_to unit k items ≡ []
 none_from unit k low high [] le r = refl

@@ -1,5 +1,5 @@
 -- The row of units beside the slots.
-use Rattle.std.proofs.Common.{◌≡◌, ◌∙◌, ap, sym, subst, refl, ℕ, ◌+◌, ◌<◌, ◌≤◌, zero, suc, ℤ, Bool, true, false, cond, not, ◌&&◌, nat_eq, List, [], ◌∷◌, ◌++◌, length, get_or, set, drop, Option, None, Some, Vec, arith, eq-eqb}
+use Rattle.std.proofs.Common.{◌≡◌, ◌∙◌, ap, sym, subst, refl, ℕ, ◌+◌, ◌<◌, zero, suc, ℤ, Bool, true, false, cond, not, ◌&&◌, nat_eq, List, [], ◌∷◌, ◌++◌, length, get_or, set, drop, Option, None, Some, Vec, arith, eq-eqb}
 use Rattle.std.proofs.lemmas.Bool.{and_from}
 use Rattle.std.proofs.lemmas.List.{with_items_is}
 use Rattle.std.specs.Prelude.{MatchBool}
@@ -9,7 +9,7 @@ use Rattle.std.specs.declared.alloc.Global.{Global}
 use Rattle.board_items.specs.declared.item.Item.{Item}
 use Rattle.board_items.specs.Moves.{IsShiftedItem, moves, is_note, item_stays}
 use Rattle.board_items.specs.Slots.{present, unit_items, only_of, without_id, is_slot_of, IsUnitIn, AreUnitsIn, is_unit_in, are_units_in, slot_stays, IsMovedSlot}
-use Rattle.board_items.proofs.Walking.{left_at, none_left}
+use Rattle.board_items.proofs.Walking.{left_at}
 use Rattle.board_items.proofs.SlotLists.{part, without_part, empty_slot}
 
 pub as_many : (slots : List (Option Item)) (units : List ℕ) → AreUnitsIn slots units → length units ≡ length slots
@@ -73,9 +73,6 @@ units_moved unit dx dy v from ws units h f long zip =
 -- ---- walks over slots
 pub stays_on : {X : Type 0} (f : X → Bool) (xs : List X) (i : ℕ) (d : X) → list_all f xs ≡ list_all f (drop i xs) → i < length xs → list_all f xs ≡ f (get_or xs i d) && list_all f (drop (suc i) xs)
 stays_on f xs i d h lt = h ∙ ap (list_all f) (left_at xs i d lt)
-
-pub stays_to : {X : Type 0} (f : X → Bool) (xs : List X) (i : ℕ) → list_all f xs ≡ list_all f (drop i xs) → length xs ≤ i → list_all f xs ≡ true
-stays_to f xs i h le = h ∙ ap (list_all f) (none_left xs i le)
 
 -- ---- a slot whose unit is known
 slot_told : (unit own : ℕ) (s : Option Item) → IsUnitIn s own → nat_eq own unit ≡ false → is_slot_of unit s ≡ false

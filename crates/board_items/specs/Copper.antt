@@ -5,7 +5,7 @@ use Rattle.std.specs.List.{Any}
 use Rattle.geo_seg.specs.Distances.{Apart, Meet}
 use Rattle.board_items.specs.declared.parts.Part.{Part}
 use Rattle.board_items.specs.declared.item.Item.{Item}
-use Rattle.board_items.specs.Layers.{has_layer}
+use Rattle.copper_layers.specs.Layers.{has_layer}
 
 -- the parts that lie on the layer
 abbrev pub on_layer : ℕ → List Part → List Part

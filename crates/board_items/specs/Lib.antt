@@ -1,4 +1,3 @@
-pub mod Layers
 pub mod Parts
 pub mod Measures
 pub mod Extents
@@ -12,5 +11,6 @@ pub mod Kept
 pub mod Units
 pub mod Moves
 pub mod Slots
+pub mod Tags
 pub mod Notes
 pub mod Back

@@ -1,5 +1,5 @@
 -- Items by id, kept as a row of slots: slot k is for the id k, and it is empty once its item was taken out.
-use Rattle.std.specs.Prelude.{◌≡◌, ◌≤◌, ℕ, ◌+◌, ℤ, Bool, true, false, ◌&&◌, not, nat_eq, List, [], ◌∷◌, length, filter, Option, None, Some, MatchBool, if◌then◌else◌}
+use Rattle.std.specs.Prelude.{◌≡◌, ◌<◌, ◌≤◌, ℕ, ◌+◌, ℤ, Bool, true, false, ◌&&◌, not, nat_eq, List, [], ◌∷◌, length, get_or, filter, Option, None, Some, MatchBool, if◌then◌else◌}
 use Rattle.board_items.specs.declared.item.Item.{Item}
 use Rattle.board_items.specs.Boards.{is_on_board}
 use Rattle.board_items.specs.Moves.{IsShiftedItem, moves, item_stays}
@@ -57,6 +57,17 @@ are_units_in [] [] = true
 are_units_in [] (unit ∷ units) = false
 are_units_in (slot ∷ slots) [] = false
 are_units_in (slot ∷ slots) (unit ∷ units) = is_unit_in slot unit && are_units_in slots units
+
+-- all slots of the unit are among those from one place on and before another
+pub record ArePlacesOf (unit : ℕ) (units : List ℕ) (from end : ℕ) : Type 0 where
+  pub ordered : from ≤ end
+  pub within : end ≤ length units
+  pub all : (n : ℕ) → n < length units → get_or units n 0 ≡ unit → (from ≤ n) × (n < end)
+
+-- each item of the unit has one of the ids from one on and before another
+abbrev pub HaveIdsIn : ℕ → ℕ → ℕ → List (ℕ × Item) → Type 0
+HaveIdsIn unit from end [] = Unit {0}
+HaveIdsIn unit from end (entry ∷ entries) = (entry.1.unit ≡ unit → (from ≤ entry.0) × (entry.0 < end)) × HaveIdsIn unit from end entries
 
 -- the items of the unit, where the first slot is for the id k
 abbrev pub unit_items : ℕ → ℕ → List (Option Item) → List (ℕ × Item)

@@ -26,6 +26,10 @@ first_named name items = option_map (λ entry. entry.1.unit) (find (λ entry. by
 abbrev pub is_shared : ℕ → List ℕ → List (ℕ × Item) → Bool
 is_shared unit name items = list_any (λ entry. bytes_eq entry.1.name name && not (nat_eq entry.1.unit unit)) items
 
+-- one of these is of another unit
+abbrev pub has_other_unit : ℕ → List (ℕ × Item) → Bool
+has_other_unit unit items = list_any (λ entry. not (nat_eq entry.1.unit unit)) items
+
 abbrev pub is_body : What → Bool
 is_body (Body reference front back on_back) = true
 is_body _ = false

@@ -10,6 +10,7 @@ ghost use Rattle.board_items.specs.declared.item.Item.{Item};
 
 use crate::board::Board;
 use crate::item::Item;
+use crate::tags::tag_of;
 use std::alloc::AllocError;
 
 /// An item that was taken out of a board, with the id under which it stood there.
@@ -61,7 +62,8 @@ impl Board {
         ensures taken { self.new ≡ without_unit self.old unit }
         ensures items { map kept_entry items.new.items ≡ map kept_entry items.old.items ++ entries_of unit self.old.items }
     {
-        for id in 0..self.slot_count() {
+        let places = self.places_of(unit);
+        for id in places.from..places.end {
             self.take_own(id, unit, items);
         }
     }
@@ -196,6 +198,7 @@ impl Board {
         put_if(&mut self.notes, id, kept.item.what.is_note());
         let in_order = put_unit(self.in_order, &mut self.units, id, unit);
         self.in_order = in_order;
+        self.tags[id as usize] = tag_of(&kept.item.name);
         self.live += 1;
         self.slots[id as usize] = Some(kept.item);
         Ok(())

@@ -3,7 +3,7 @@
 ghost use Rattle.std.specs.Prelude.{◌≡◌, ◌<◌, ◌≤◌, ℕ, List, is_some, true, false, None, Some, Err, ◌≢◌, not, nat_eq, filter, ◌&&◌, ◌++◌, ◌∷◌, [], IfOk, IfErr, OnOk, OnErr, IfSome, IsUtf8, length, vec_len, vec_capacity};
 ghost use Rattle.std.specs.Option.{option_copied};
 ghost use Rattle.std.specs.List.{list_all};
-ghost use Rattle.board_items.specs.Layers.{is_within};
+ghost use Rattle.copper_layers.specs.Layers.{is_within};
 ghost use Rattle.board_items.specs.Parts.{parts_of};
 ghost use Rattle.board_items.specs.Refusals.{refusal_of, reason_in, room_of};
 ghost use Rattle.board_items.specs.Boards.{PlainBoard, IsSound, Rise, empty_board, name_of, with_net, item_at, with_item, is_near, is_admitted, is_mark, marks_of, ids_of_net};
@@ -16,13 +16,15 @@ ghost use Rattle.board_items.specs.Walks.{items_left, unit_left, nets_left};
 
 use crate::errors::{Found, ItemError};
 use crate::item::{Item, Nm, What};
-use crate::layers::LayerSet;
 use crate::moves::{Step, shift_unit, unit_stays};
 use crate::notes::{goes_on, last_body};
 use crate::parts::Part;
+use crate::places::places_in;
 use crate::slots::{drop_id, drop_if, item_at};
+use crate::tags::tag_of;
 use crate::units::found_of;
 use crate::walk::{BoardIter, BoardNets, UnitIter};
+use copper_layers::LayerSet;
 use drc_io::Name;
 use indexmap::IndexMap;
 use std::alloc::{AllocError, Global};
@@ -49,7 +51,9 @@ pub struct Board {
     pub(crate) of_nets: Vec<Vec<u32>>,
     // slot k is for the id k, and is empty once its item was taken out
     pub(crate) slots: Vec<Option<Item>>,
-    // of each slot the unit of its item, which stays when it is taken out
+    // of each slot the tag of its item, by which names are sought; it stays when the item is taken out
+    pub(crate) tags: Vec<u32>,
+    // of each slot the unit of its item, which stays too
     pub(crate) units: Vec<u32>,
     // whether no unit stands behind a greater one
     pub(crate) in_order: bool,
@@ -70,7 +74,7 @@ impl Model for Board {
 
     ghost view = { λ b. record { copper = b.copper; nets = b.names.entries; items = present 0 b.slots.items; next_id = length b.slots.items; next_unit = b.next_unit } };
 
-    ghost invariant = { λ b. IsWhole (record { copper = b.copper; nets = b.names.entries; items = present 0 b.slots.items; next_id = length b.slots.items; next_unit = b.next_unit }) b.marks.items b.notes.items b.of_nets.items b.live b.slots.items b.units.items b.in_order };
+    ghost invariant = { λ b. IsWhole (record { copper = b.copper; nets = b.names.entries; items = present 0 b.slots.items; next_id = length b.slots.items; next_unit = b.next_unit }) b.marks.items b.notes.items b.of_nets.items b.live b.slots.items b.tags.items b.units.items b.in_order };
 }
 
 // Whether all these parts lie on layers of the board.
@@ -124,6 +128,7 @@ impl Board {
             names,
             of_nets,
             slots: Vec::new(alloc),
+            tags: Vec::new(alloc),
             units: Vec::new(alloc),
             in_order: true,
             live: 0,
@@ -162,6 +167,7 @@ impl Board {
     pub fn reserve(&mut self, more: usize) -> Result<(), AllocError>
         ensures { self.new ≡ self.old }
     {
+        self.tags.reserve(more)?;
         self.units.reserve(more)?;
         self.slots.reserve(more)
     }
@@ -178,13 +184,16 @@ impl Board {
     {
         let place = self.admit(&item)?;
         let id = self.slot_count();
+        let tag = tag_of(&item.name);
         let next_unit = self.next_unit.max(item.unit + 1);
         let in_order = goes_on(self.in_order, &self.units, item.unit);
+        self.tags.reserve(1)?;
         let of_net = &mut self.of_nets[place];
         let units = &mut self.units;
         let marks = &mut self.marks;
         let notes = &mut self.notes;
         push_slot(&mut self.slots, units, marks, notes, of_net, id, item)?;
+        self.tags.push_reserved(tag);
         self.in_order = in_order;
         self.live += 1;
         self.next_unit = next_unit;
@@ -217,7 +226,8 @@ impl Board {
     pub fn remove(&mut self, unit: u32)
         ensures { self.new ≡ without_unit self.old unit }
     {
-        for id in 0..self.slot_count() {
+        let places = self.places_of(unit);
+        for id in places.from..places.end {
             self.drop_if_of(id, unit);
         }
     }
@@ -267,14 +277,16 @@ impl Board {
         ensures unchanged { OnErr result (self.new ≡ self.old) }
     {
         let step = Step { dx, dy };
-        if !unit_stays(&self.slots, &self.units, unit, step) {
+        let places = places_in(&self.units, self.in_order, unit);
+        if !unit_stays(&self.slots, &self.units, places, unit, step) {
             return Err(ItemError::OutOfBoard);
         }
-        shift_unit(&mut self.slots, &self.units, unit, step);
+        shift_unit(&mut self.slots, &self.units, places, unit, step);
         Ok(())
     }
 
-    /// What the name stands for: no unit, several, a part of a footprint, or one unit. It takes no memory.
+    /// What the name stands for: no unit, several, a part of a footprint, or one unit. It takes no memory. It walks a row of
+    /// tags of names, and looks at an item of another name only where the two names have one tag.
     pub fn find(&self, name: &Name) -> Found
         ensures { result ≡ found_of name.now self.now.items }
     {
@@ -310,16 +322,19 @@ impl Board {
         }
     }
 
-    /// The items of the unit with their ids, by rising id. It walks a row of unit numbers, and looks at no item of
-    /// another unit.
+    /// The items of the unit with their ids, by rising id. It looks at no item of another unit: it walks a row of unit
+    /// numbers, and where units rise along the items, as all readers give them, only those of the unit.
     pub fn of_unit(&self, unit: u32) -> UnitIter<'_>
         ensures items { unit_left result ≡ filter (λ entry. nat_eq entry.1.unit unit) self.now.items }
         ensures sound { IsSound self.now }
     {
+        let places = places_in(&self.units, self.in_order, unit);
+        let from = places.from as usize;
+        let end = places.end as usize;
         UnitIter {
-            slots: &self.slots,
-            units: &self.units,
-            first: 0,
+            slots: &self.slots[from..end],
+            units: &self.units[from..end],
+            first: places.from,
             unit,
         }
     }

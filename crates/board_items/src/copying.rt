@@ -245,6 +245,7 @@ impl Board {
         let names = copy_nets(alloc, nets, self.names.len())?;
         let of_nets = copy_ids(alloc, &self.of_nets)?;
         let slots = copy_slots(alloc, &self.slots)?;
+        let tags = Vec::from_slice(alloc, &self.tags)?;
         let units = Vec::from_slice(alloc, &self.units)?;
         let marks = Vec::from_slice(alloc, &self.marks)?;
         let notes = Vec::from_slice(alloc, &self.notes)?;
@@ -253,6 +254,7 @@ impl Board {
             names,
             of_nets,
             slots,
+            tags,
             units,
             in_order: self.in_order,
             live: self.live,

@@ -4,8 +4,8 @@ ghost use Rattle.drc_io.specs.Lengths.{IsLength, IsLengthIfSome};
 ghost use Rattle.board_items.specs.Measures.{HasLengths};
 
 use crate::boxed::Boxed;
-use crate::layers::LayerSet;
 use crate::parts::{Part, Parts};
+use copper_layers::LayerSet;
 use drc_io::Name;
 use geo_seg::Shape;
 use std::mem::size_of;

@@ -6,11 +6,12 @@ ghost use Rattle.geo_seg.specs.Shifts.{core_stays};
 ghost use Rattle.board_items.specs.Boards.{is_near, is_on_board};
 ghost use Rattle.board_items.specs.Parts.{parts_of, hole_parts, kind_parts};
 ghost use Rattle.board_items.specs.Moves.{is_note, moves, item_stays, IsShiftedItem, IsShiftedPart, AreShifted, HoleIsShifted, KindIsShifted};
-ghost use Rattle.board_items.specs.Slots.{IsUnitIn, AreUnitsIn, is_slot_on_board, slot_stays, IsMovedSlot};
+ghost use Rattle.board_items.specs.Slots.{IsUnitIn, AreUnitsIn, ArePlacesOf, is_slot_on_board, slot_stays, IsMovedSlot};
 
 use crate::board::is_near;
 use crate::item::{Hole, Item, Nm, What};
 use crate::parts::{Part, Parts};
+use crate::places::Places;
 use geo_seg::Shift;
 
 /// How far positions are moved, in nanometres.
@@ -132,13 +133,20 @@ fn own_stays(slot: &Option<Item>, own: u32, unit: u32, step: Step) -> bool
     own != unit || slot_stays(slot, unit, step)
 }
 
-// Whether each item that moves with the unit stays on the board.
-pub(crate) fn unit_stays(slots: &[Option<Item>], units: &[u32], unit: u32, step: Step) -> bool
+// Whether each item that moves with the unit stays on the board; the slots of the unit are among the places.
+pub(crate) fn unit_stays(
+    slots: &[Option<Item>],
+    units: &[u32],
+    places: Places,
+    unit: u32,
+    step: Step,
+) -> bool
     requires units { AreUnitsIn slots.now units.now }
+    requires places { ArePlacesOf unit units.now places.from places.end }
     requires on_board { All (λ slot. is_slot_on_board slot ≡ true) slots.now }
     ensures { result ≡ list_all (λ slot. slot_stays unit step.dx step.dy slot) slots.now }
 {
-    for place in 0..units.len() {
+    for place in places.from as usize..places.end as usize {
         if !own_stays(&slots[place], units[place], unit, step) {
             return false;
         }
@@ -251,13 +259,20 @@ fn shift_own(slot: &mut Option<Item>, own: u32, unit: u32, step: Step)
 }
 
 // Moves each item that moves with the unit.
-pub(crate) fn shift_unit(slots: &mut [Option<Item>], units: &[u32], unit: u32, step: Step)
+pub(crate) fn shift_unit(
+    slots: &mut [Option<Item>],
+    units: &[u32],
+    places: Places,
+    unit: u32,
+    step: Step,
+)
     requires units { AreUnitsIn slots.old units.now }
+    requires places { ArePlacesOf unit units.now places.from places.end }
     requires on_board { All (λ slot. is_slot_on_board slot ≡ true) slots.old }
     requires stays { list_all (λ slot. slot_stays unit step.dx step.dy slot) slots.old ≡ true }
     ensures { AllZip (IsMovedSlot unit step.dx step.dy) slots.old slots.new }
 {
-    for place in 0..units.len() {
+    for place in places.from as usize..places.end as usize {
         shift_own(&mut slots[place], units[place], unit, step);
     }
 }

@@ -1,6 +1,6 @@
 //! Parts of items.
 
-use crate::layers::LayerSet;
+use copper_layers::LayerSet;
 use geo_seg::{Core, Point, Seg, Shape};
 use smallvec::SmallVec;
 use std::alloc::Allocator;

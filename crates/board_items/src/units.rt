@@ -1,13 +1,13 @@
 //! Units: the items that came from one list of the board file.
 
-ghost use Rattle.std.specs.Prelude.{◌≡◌, Some, None, MatchOption};
-ghost use Rattle.board_items.specs.Walks.{items_left, unit_left};
-ghost use Rattle.board_items.specs.Units.{found_of, is_body, first_named, is_shared, has_body_named_otherwise, is_footprint_named_otherwise};
+ghost use Rattle.std.specs.Prelude.{◌≡◌};
+ghost use Rattle.board_items.specs.Walks.{named_left, unit_left};
+ghost use Rattle.board_items.specs.Units.{found_of, is_body, has_other_unit, has_body_named_otherwise, is_footprint_named_otherwise};
 
 use crate::board::Board;
 use crate::errors::Found;
 use crate::item::{Item, What};
-use crate::walk::{BoardIter, UnitIter};
+use crate::walk::{NamedIter, UnitIter};
 use drc_io::Name;
 
 // ---- names
@@ -20,25 +20,12 @@ impl What {
     }
 }
 
-// The first item of that name: its unit, and the items behind it, among which all other units of the name are.
-fn first_named<'a>(items: BoardIter<'a>, name: &Name) -> Option<(u32, BoardIter<'a>)>
-    ensures { MatchOption result (first_named name.now (items_left items.entry) ≡ None) (λ r. (first_named name.now (items_left items.entry) ≡ Some r.0) × (is_shared r.0 name.now (items_left items.entry) ≡ is_shared r.0 name.now (items_left r.1))) }
-{
-    let mut left = items;
-    'walk: while let Some((_, item)) = left.next() {
-        if item.name == *name {
-            return Some((item.unit, left));
-        }
-    }
-    None
-}
-
-// Whether another unit has an item of that name.
-fn is_shared(items: BoardIter<'_>, unit: u32, name: &Name) -> bool
-    ensures { result ≡ is_shared unit name.now (items_left items.entry) }
+// Whether one of these is of another unit.
+fn has_other_unit(items: NamedIter<'_>, unit: u32) -> bool
+    ensures { result ≡ has_other_unit unit (named_left items.entry) }
 {
     for (_, item) in items {
-        if item.name == *name && item.unit != unit {
+        if item.unit != unit {
             return true;
         }
     }
@@ -64,17 +51,19 @@ fn is_footprint_named_otherwise(board: &Board, unit: u32, name: &Name) -> bool
     has_body_named_otherwise(board.of_unit(unit), name)
 }
 
-// What the name stands for. All items are gone through once, and those of its unit once more.
+// What the name stands for. The items of the name are gone through once, and those of its unit.
 pub(crate) fn found_of(board: &Board, name: &Name) -> Found
     ensures { result ≡ found_of name.now board.now.items }
 {
     if name.bytes().is_empty() {
         return Found::None;
     }
-    let Some((unit, behind)) = first_named(board.iter(), name) else {
+    let mut items = board.named(name);
+    let Some((_, item)) = items.next() else {
         return Found::None;
     };
-    if is_shared(behind, unit, name) {
+    let unit = item.unit;
+    if has_other_unit(items, unit) {
         Found::Shared
     } else if is_footprint_named_otherwise(board, unit, name) {
         Found::Inside

@@ -2,9 +2,11 @@
 
 ghost use Rattle.std.specs.Prelude.{◌≡◌, ◌+◌, ◌≤◌, true, length};
 ghost use Rattle.board_items.specs.Slots.{are_units_in};
+ghost use Rattle.board_items.specs.Tags.{tag_of, are_tags_in};
 
 use crate::item::Item;
 use crate::slots::{next_full, next_of_unit};
+use crate::tags::next_named;
 use drc_io::Name;
 use indexmap::map::Slice;
 
@@ -61,6 +63,37 @@ impl<'a> Iterator for UnitIter<'a> {
         let (id, item, behind, rest) = next_of_unit(self.slots, self.units, self.first, self.unit)?;
         self.slots = behind;
         self.units = rest;
+        self.first = id + 1;
+        Some((id, item))
+    }
+}
+
+// The items of a name that are still to come, each with its id, by rising id.
+#[derive(Clone, Copy)]
+pub(crate) struct NamedIter<'a> {
+    // all slots with their tags, and the id from which on the items are sought
+    pub(crate) slots: &'a [Option<Item>],
+    pub(crate) tags: &'a [u32],
+    pub(crate) first: u32,
+    pub(crate) tag: u32,
+    pub(crate) name: &'a Name,
+    pub(crate) ghost room: { length slots.now ≤ 4294967295 },
+    pub(crate) ghost tags_in: { are_tags_in slots.now tags.now ≡ true },
+    pub(crate) ghost own: { tag ≡ tag_of name.now },
+}
+
+impl<'a> Iterator for NamedIter<'a> {
+    ghost use Rattle.std.specs.Iterator.{YieldsFirstBy, item_count};
+    ghost use Rattle.board_items.specs.Walks.{entry_of, named_left};
+
+    type Item = (u32, &'a Item);
+
+    ghost next_gives = { YieldsFirstBy entry_of named_left };
+
+    ghost remaining = { item_count named_left };
+
+    fn next(&mut self) -> Option<(u32, &'a Item)> {
+        let (id, item) = next_named(self.slots, self.tags, self.first, self.tag, self.name)?;
         self.first = id + 1;
         Some((id, item))
     }

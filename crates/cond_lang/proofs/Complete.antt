@@ -6,7 +6,7 @@ use Rattle.cond_lang.specs.Signs.{is_blank, after_blanks, side}
 use Rattle.cond_lang.specs.Trees.{Tree, Trees, any, all}
 use Rattle.cond_lang.specs.Values.{atom, head, member}
 use Rattle.cond_lang.specs.Conditions.{joined, begins_with, link, links, chain, alternatives, closed, bang, bracket, plain, shallow, shallow_at, nested_at, negation, disjunction, reading}
-use Rattle.cond_lang.specs.Atoms.{AreBlanks, Blanks, Atom}
+use Rattle.cond_lang.specs.Atoms.{Blanks}
 use Rattle.cond_lang.specs.Grammar.{Members, Chain, Alternatives, Negation, Spells}
 use Rattle.cond_lang.proofs.Steps.{then_read}
 use Rattle.cond_lang.proofs.Turns.{nested_plain}

@@ -1,7 +1,7 @@
 -- What is read is spelled.
 use Rattle.std.proofs.Common.{◌≡◌, ◌⊎◌, inl, inr, ℕ, zero, suc, Bool, true, false, ◌==◌, List, [], ◌∷◌, ◌++◌, length, refl, sym, ◌∙◌, ap, subst, arith}
-use Rattle.cond_lang.specs.Found.{Found, read, fault, and_then, byte}
-use Rattle.cond_lang.specs.Signs.{is_blank, after_blanks}
+use Rattle.cond_lang.specs.Found.{Found, read, byte}
+use Rattle.cond_lang.specs.Signs.{after_blanks}
 use Rattle.cond_lang.specs.Trees.{Tree, Trees, any, all}
 use Rattle.cond_lang.specs.Conditions.{begins_with, twice, link, links, chain, alternatives, closed, Begin, bang, bracket, plain, begin_of, shallow, nested, shallow_at, nested_at, negation, disjunction, ended, reading}
 use Rattle.cond_lang.specs.Atoms.{AreBlanks, Blanks, Atom}

@@ -95,9 +95,9 @@ module _ {B : Type 0} (P : Found B → Type 0) (Spoils : ℕ → List ℕ → �
 
   -- ---- one reader and then another
 
-  module _ {A C : Type 0} (f : Reader A) (g : A → Reader C) (Q : A → Type 0) (R : C → Type 0) (S T S2 T2 : List ℕ → Type 0) (first : (z : List ℕ) → T2 z → S z) where
-    pub both_kept : (u : List ℕ) (a : A) (r : List ℕ) (c : C) (q : List ℕ) → KeptAt f S u a r → KeptAt (g a) S2 r c q
-        → (r ≡ q → (z : List ℕ) → S2 z → S z) → KeptAt (both f g) S2 u c q
+  module _ {A C : Type 0} (f : Reader A) (g : A → Reader C) (Q : A → Type 0) (R : C → Type 0) (S T Trailing Leading : List ℕ → Type 0) (first : (z : List ℕ) → Leading z → S z) where
+    pub both_kept : (u : List ℕ) (a : A) (r : List ℕ) (c : C) (q : List ℕ) → KeptAt f S u a r → KeptAt (g a) Trailing r c q
+        → (r ≡ q → (z : List ℕ) → Trailing z → S z) → KeptAt (both f g) Trailing u c q
     both_kept u a r c q (w, eq, one) (v, eq2, two) quiet = (
       w ++ v,
       eq ∙ ap (λ y. w ++ y) eq2 ∙ sym (append_assoc w v q),
@@ -106,21 +106,21 @@ module _ {B : Type 0} (P : Found B → Type 0) (Spoils : ℕ → List ℕ → �
           ∙ then_read (f d (w ++ (v ++ z))) _ a (v ++ z) (read c z) (one d (v ++ z) (between v eq2 z next)) (two d z next),
     )
       where
-        between : (x : List ℕ) → r ≡ x ++ q → (z : List ℕ) → Next S2 q z → Next S r (x ++ z)
+        between : (x : List ℕ) → r ≡ x ++ q → (z : List ℕ) → Next Trailing q z → Next S r (x ++ z)
         between [] e z (inl h) = inl (quiet e z h)
         between [] e z (inr h) = inr (subst (λ y. SameHead y z) (sym e) h)
         between (b ∷ x) e z h = inr (subst (λ y. SameHead y (b ∷ (x ++ z))) (sym e) refl)
 
-    module _ (opening : (a : A) → Q a → OpensTo (g a) R S2 T2) where
-      later : (K : (ℕ × List ℕ) → C → List ℕ → Found B) → Finish R S2 K → Finish Q S (λ e a z. and_then (g a e z) (K e))
+    module _ (opening : (a : A) → Q a → OpensTo (g a) R Trailing Leading) where
+      later : (K : (ℕ × List ℕ) → C → List ℕ → Found B) → Finish R Trailing K → Finish Q S (λ e a z. and_then (g a e z) (K e))
       later K ends a q = let o = opening a q K ends in (o.0, first o.0 o.1, o.2)
 
-      pub both_opens : OpensTo f Q S T → OpensTo (both f g) R S2 T
+      pub both_opens : OpensTo f Q S T → OpensTo (both f g) R Trailing T
       both_opens opens K ends =
           let o = opens (λ e a z. and_then (g a e z) (K e)) (later K ends) in
           (o.0, o.1, λ e. subst P (sym (then_assoc (f e o.0) (λ a r. g a e r) (K e))) (o.2 e))
 
-      pub both_left : (n : ℕ) (u : List ℕ) (k : ℕ) → BarredAt f Q S T n u k → BarredAt (both f g) R S2 T n u k
+      pub both_left : (n : ℕ) (u : List ℕ) (k : ℕ) → BarredAt f Q S T n u k → BarredAt (both f g) R Trailing T n u k
       both_left n u k (w, v, eq, why, on) = (
         w,
         v,
@@ -135,7 +135,7 @@ module _ {B : Type 0} (P : Found B → Type 0) (Spoils : ℕ → List ℕ → �
           cause (inl m) = inl (m.0, λ c s e d z. then_fault (f d (w ++ (c ∷ z))) _ (Bad (place d.0 (c ∷ z))) (m.1 c s e d z))
           cause (inr s) = inr s
 
-    pub both_right : (n : ℕ) (u : List ℕ) (a : A) (r : List ℕ) (k : ℕ) → KeptAt f S u a r → BarredAt (g a) R S2 T2 n r k → (u ≡ r → (z : List ℕ) → T2 z → T z) → BarredAt (both f g) R S2 T n u k
+    pub both_right : (n : ℕ) (u : List ℕ) (a : A) (r : List ℕ) (k : ℕ) → KeptAt f S u a r → BarredAt (g a) R Trailing Leading n r k → (u ≡ r → (z : List ℕ) → Leading z → T z) → BarredAt (both f g) R Trailing T n u k
     both_right n u a r k (w, eq, one) (x, v, eq2, why, on) early =
         (w ++ x, v, eq ∙ ap (λ y. w ++ y) eq2 ∙ sym (append_assoc w x v), cause why, onward)
       where
@@ -149,12 +149,12 @@ module _ {B : Type 0} (P : Found B → Type 0) (Spoils : ℕ → List ℕ → �
         )
         cause (inr s) = inr s
 
-        begins : (y : List ℕ) → u ≡ y ++ r → (z : List ℕ) → Next T2 r z → Next T u (y ++ z)
+        begins : (y : List ℕ) → u ≡ y ++ r → (z : List ℕ) → Next Leading r z → Next T u (y ++ z)
         begins [] e z (inl h) = inl (early e z h)
         begins [] e z (inr h) = inr (subst (λ y. SameHead y z) (sym e) h)
         begins (b ∷ y) e z h = inr (subst (λ q. SameHead q (b ∷ (y ++ z))) (sym e) refl)
 
-        onward : OnwardFrom (both f g) R S2 T u (w ++ x)
+        onward : OnwardFrom (both f g) R Trailing T u (w ++ x)
         onward K ends =
             let o = on K ends in (
               o.0,
@@ -162,28 +162,28 @@ module _ {B : Type 0} (P : Found B → Type 0) (Spoils : ℕ → List ℕ → �
               λ d.
                   subst P (sym (ap (λ y. and_then (both f g d y) (K d)) (append_assoc w x o.0)
                   ∙ then_assoc (f d (w ++ (x ++ o.0))) (λ b r2. g b d r2) (K d)
-                  ∙ then_read (f d (w ++ (x ++ o.0))) _ a (x ++ o.0) _ (one d (x ++ o.0) (next_wider T2 S r (x ++ o.0) (first (x ++ o.0)) o.1)) refl)) (o.2 d),
+                  ∙ then_read (f d (w ++ (x ++ o.0))) _ a (x ++ o.0) _ (one d (x ++ o.0) (next_wider Leading S r (x ++ o.0) (first (x ++ o.0)) o.1)) refl)) (o.2 d),
             )
 
-  module _ {A C : Type 0} (f : Reader A) (g : A → Reader C) (Q : A → Type 0) (R : C → Type 0) (S T S2 T2 : List ℕ → Type 0) (first : (z : List ℕ) → T2 z → S z)
-      (one : Steady f Q S T) (two : (a : A) → Q a → Steady (g a) R S2 T2) (early : (e : ℕ × List ℕ) (u : List ℕ) (a : A) → f e u ≡ read a u → (z : List ℕ) → T2 z → T z) where
-    both_barred : (e : ℕ × List ℕ) (u : List ℕ) (k : ℕ) (x : Found A) → f e u ≡ x → and_then x (λ a r. g a e r) ≡ fault (Bad k) → BarredAt (both f g) R S2 T e.0 u k
+  module _ {A C : Type 0} (f : Reader A) (g : A → Reader C) (Q : A → Type 0) (R : C → Type 0) (S T Trailing Leading : List ℕ → Type 0) (first : (z : List ℕ) → Leading z → S z)
+      (one : Steady f Q S T) (two : (a : A) → Q a → Steady (g a) R Trailing Leading) (early : (e : ℕ × List ℕ) (u : List ℕ) (a : A) → f e u ≡ read a u → (z : List ℕ) → Leading z → T z) where
+    both_barred : (e : ℕ × List ℕ) (u : List ℕ) (k : ℕ) (x : Found A) → f e u ≡ x → and_then x (λ a r. g a e r) ≡ fault (Bad k) → BarredAt (both f g) R Trailing T e.0 u k
     both_barred e u k (read a r) h i =
-        both_right f g Q R S T S2 T2 first e.0 u a r k (one.kept e u a r h) ((two a (one.reads e u a r h)).barred e r k i)
+        both_right f g Q R S T Trailing Leading first e.0 u a r k (one.kept e u a r h) ((two a (one.reads e u a r h)).barred e r k i)
         (λ same. early e u a (subst (λ y. f e u ≡ read a y) (sym same) h))
-    both_barred e u k (fault x) h i = both_left f g Q R S T S2 T2 first (λ a q. (two a q).opens) e.0 u k (one.barred e u k (h ∙ ap fault (bad_error {A = C} x k i)))
+    both_barred e u k (fault x) h i = both_left f g Q R S T Trailing Leading first (λ a q. (two a q).opens) e.0 u k (one.barred e u k (h ∙ ap fault (bad_error {A = C} x k i)))
 
   -- quiet and early: where one of the two reads nothing, what may follow the other may follow it
-  pub both_steady : {A C : Type 0} {f : Reader A} {g : A → Reader C} {Q : A → Type 0} {R : C → Type 0} {S T S2 T2 : List ℕ → Type 0}
-      → Steady f Q S T → ((a : A) → Q a → Steady (g a) R S2 T2) → ((z : List ℕ) → T2 z → S z)
-      → ((e : ℕ × List ℕ) (u : List ℕ) (a : A) (c : C) → g a e u ≡ read c u → (z : List ℕ) → S2 z → S z)
-      → ((e : ℕ × List ℕ) (u : List ℕ) (a : A) → f e u ≡ read a u → (z : List ℕ) → T2 z → T z)
-      → Steady (both f g) R S2 T
-  both_steady {f = f} {g = g} {Q = Q} {R = R} {S = S} {T = T} {S2 = S2} {T2 = T2} one two first quiet early = record {
+  pub both_steady : {A C : Type 0} {f : Reader A} {g : A → Reader C} {Q : A → Type 0} {R : C → Type 0} {S T Trailing Leading : List ℕ → Type 0}
+      → Steady f Q S T → ((a : A) → Q a → Steady (g a) R Trailing Leading) → ((z : List ℕ) → Leading z → S z)
+      → ((e : ℕ × List ℕ) (u : List ℕ) (a : A) (c : C) → g a e u ≡ read c u → (z : List ℕ) → Trailing z → S z)
+      → ((e : ℕ × List ℕ) (u : List ℕ) (a : A) → f e u ≡ read a u → (z : List ℕ) → Leading z → T z)
+      → Steady (both f g) R Trailing T
+  both_steady {f = f} {g = g} {Q = Q} {R = R} {S = S} {T = T} {Trailing = Trailing} {Leading = Leading} one two first quiet early = record {
     reads = λ e u c q h. let b = then_back (f e u) (λ a r. g a e r) c q h in (two b.0 (one.reads e u b.0 b.1 b.2)).reads e b.1 c q b.3;
     kept = λ e u c q h. let b = then_back (f e u) (λ a r. g a e r) c q h in
-        both_kept f g Q R S T S2 T2 first u b.0 b.1 c q (one.kept e u b.0 b.1 b.2) ((two b.0 (one.reads e u b.0 b.1 b.2)).kept e b.1 c q b.3)
+        both_kept f g Q R S T Trailing Leading first u b.0 b.1 c q (one.kept e u b.0 b.1 b.2) ((two b.0 (one.reads e u b.0 b.1 b.2)).kept e b.1 c q b.3)
         (λ same. quiet e b.1 b.0 c (subst (λ y. g b.0 e b.1 ≡ read c y) (sym same) b.3));
-    barred = λ e u k h. both_barred f g Q R S T S2 T2 first one two early e u k (f e u) refl h;
-    opens = both_opens f g Q R S T S2 T2 first (λ a q. (two a q).opens) one.opens;
+    barred = λ e u k h. both_barred f g Q R S T Trailing Leading first one two early e u k (f e u) refl h;
+    opens = both_opens f g Q R S T Trailing Leading first (λ a q. (two a q).opens) one.opens;
   }

@@ -57,21 +57,21 @@ module _ (sign : ℕ) where
 module _ (P : Found Tree → Type 0) (Spoils : ℕ → List ℕ → ℕ → Type 0) where
   -- ---- one reader and then another, at one text
 
-  module _ {A : Type 0} (f : Reader A) (g : A → Reader Tree) (S T S2 T2 : List ℕ → Type 0) (first : (z : List ℕ) → T2 z → S z) (taken : Eating P Spoils f Anything S T) where
-    both_kept_at : (e : ℕ × List ℕ) (u : List ℕ) (t : Tree) (q : List ℕ) → ((z : List ℕ) → S2 z → S z)
-        → ((a : A) (r : List ℕ) → f e u ≡ read a r → g a e r ≡ read t q → KeptAt (g a) S2 r t q) → both f g e u ≡ read t q → KeptAt (both f g) S2 u t q
+  module _ {A : Type 0} (f : Reader A) (g : A → Reader Tree) (S T Trailing Leading : List ℕ → Type 0) (first : (z : List ℕ) → Leading z → S z) (taken : Eating P Spoils f Anything S T) where
+    both_kept_at : (e : ℕ × List ℕ) (u : List ℕ) (t : Tree) (q : List ℕ) → ((z : List ℕ) → Trailing z → S z)
+        → ((a : A) (r : List ℕ) → f e u ≡ read a r → g a e r ≡ read t q → KeptAt (g a) Trailing r t q) → both f g e u ≡ read t q → KeptAt (both f g) Trailing u t q
     both_kept_at e u t q quiet two h =
         let b = then_back (f e u) (λ a r. g a e r) t q h in
-        both_kept P Spoils f g Anything Anything S T S2 T2 first u b.0 b.1 t q (taken.steady.kept e u b.0 b.1 b.2) (two b.0 b.1 b.2 b.3) (λ same. quiet)
+        both_kept P Spoils f g Anything Anything S T Trailing Leading first u b.0 b.1 t q (taken.steady.kept e u b.0 b.1 b.2) (two b.0 b.1 b.2 b.3) (λ same. quiet)
 
-    both_barred_at : (e : ℕ × List ℕ) (u : List ℕ) (k : ℕ) → ((a : A) → OpensTo P Spoils (g a) Anything S2 T2)
-        → ((a : A) (r : List ℕ) → f e u ≡ read a r → g a e r ≡ fault (Bad k) → BarredAt P Spoils (g a) Anything S2 T2 e.0 r k) → both f g e u ≡ fault (Bad k)
-        → BarredAt P Spoils (both f g) Anything S2 T e.0 u k
+    both_barred_at : (e : ℕ × List ℕ) (u : List ℕ) (k : ℕ) → ((a : A) → OpensTo P Spoils (g a) Anything Trailing Leading)
+        → ((a : A) (r : List ℕ) → f e u ≡ read a r → g a e r ≡ fault (Bad k) → BarredAt P Spoils (g a) Anything Trailing Leading e.0 r k) → both f g e u ≡ fault (Bad k)
+        → BarredAt P Spoils (both f g) Anything Trailing T e.0 u k
     both_barred_at e u k opening two h = by_first (f e u) refl h
       where
-        by_first : (x : Found A) → f e u ≡ x → and_then x (λ a r. g a e r) ≡ fault (Bad k) → BarredAt P Spoils (both f g) Anything S2 T e.0 u k
-        by_first (read a r) i j = both_right P Spoils f g Anything Anything S T S2 T2 first e.0 u a r k (taken.steady.kept e u a r i) (two a r i j) (λ same. absurd (taken.eats e u a (i ∙ ap (read a) (sym same))))
-        by_first (fault x) i j = both_left P Spoils f g Anything Anything S T S2 T2 first (λ a q. opening a) e.0 u k (taken.steady.barred e u k (i ∙ ap fault (bad_error {A = Tree} x k j)))
+        by_first : (x : Found A) → f e u ≡ x → and_then x (λ a r. g a e r) ≡ fault (Bad k) → BarredAt P Spoils (both f g) Anything Trailing T e.0 u k
+        by_first (read a r) i j = both_right P Spoils f g Anything Anything S T Trailing Leading first e.0 u a r k (taken.steady.kept e u a r i) (two a r i j) (λ same. absurd (taken.eats e u a (i ∙ ap (read a) (sym same))))
+        by_first (fault x) i j = both_left P Spoils f g Anything Anything S T Trailing Leading first (λ a q. opening a) e.0 u k (taken.steady.barred e u k (i ∙ ap fault (bad_error {A = Tree} x k j)))
 
   -- ---- chains
 

@@ -105,24 +105,24 @@ module _ {B : Type 0} (P : Found B → Type 0) (Spoils : ℕ → List ℕ → �
     pub eats : Eats f
 
   -- other texts may follow, and the completion may begin otherwise
-  pub wider : {A : Type 0} {f : Reader A} {Q : A → Type 0} {S S2 T T2 : List ℕ → Type 0}
-      → ((z : List ℕ) → S2 z → S z) → ((z : List ℕ) → T z → T2 z) → Steady P Spoils f Q S T → Steady P Spoils f Q S2 T2
-  wider {S = S} {S2 = S2} {T = T} {T2 = T2} less more h = record {
+  pub wider : {A : Type 0} {f : Reader A} {Q : A → Type 0} {S Trailing T Leading : List ℕ → Type 0}
+      → ((z : List ℕ) → Trailing z → S z) → ((z : List ℕ) → T z → Leading z) → Steady P Spoils f Q S T → Steady P Spoils f Q Trailing Leading
+  wider {S = S} {Trailing = Trailing} {T = T} {Leading = Leading} less more h = record {
     reads = h.reads;
-    kept = λ e u a r eq. let k = h.kept e u a r eq in (k.0, k.1, λ d z next. k.2 d z (next_wider S2 S r z (less z) next));
+    kept = λ e u a r eq. let k = h.kept e u a r eq in (k.0, k.1, λ d z next. k.2 d z (next_wider Trailing S r z (less z) next));
     barred = λ e u k eq. let b = h.barred e u k eq in (
       b.0,
       b.1,
       b.2,
       b.3,
       λ K ends.
-          let o = b.4 K (λ a q. let z = ends a q in (z.0, less z.0 z.1, z.2)) in (o.0, next_wider T T2 u (b.0 ++ o.0) (more (b.0 ++ o.0)) o.1, o.2),
+          let o = b.4 K (λ a q. let z = ends a q in (z.0, less z.0 z.1, z.2)) in (o.0, next_wider T Leading u (b.0 ++ o.0) (more (b.0 ++ o.0)) o.1, o.2),
     );
     opens = λ K ends. let o = h.opens K (λ a q. let z = ends a q in (z.0, less z.0 z.1, z.2)) in (o.0, more o.0 o.1, o.2);
   }
 
-  wider_eating : {A : Type 0} {f : Reader A} {Q : A → Type 0} {S S2 T T2 : List ℕ → Type 0}
-      → ((z : List ℕ) → S2 z → S z) → ((z : List ℕ) → T z → T2 z) → Eating f Q S T → Eating f Q S2 T2
+  wider_eating : {A : Type 0} {f : Reader A} {Q : A → Type 0} {S Trailing T Leading : List ℕ → Type 0}
+      → ((z : List ℕ) → Trailing z → S z) → ((z : List ℕ) → T z → Leading z) → Eating f Q S T → Eating f Q Trailing Leading
   wider_eating less more one = record { steady = wider less more one.steady; eats = one.eats }
 
   -- nothing is read
@@ -149,8 +149,8 @@ module _ {B : Type 0} (P : Found B → Type 0) (Spoils : ℕ → List ℕ → �
 
   -- ---- one reader and then another, where the first takes a byte at least
 
-  both_eats : {A C : Type 0} {f : Reader A} {g : A → Reader C} {Q : A → Type 0} {R : C → Type 0} {S T S2 T2 : List ℕ → Type 0}
-      → Eating f Q S T → ((a : A) → Q a → Steady P Spoils (g a) R S2 T2) → Eats (both f g)
+  both_eats : {A C : Type 0} {f : Reader A} {g : A → Reader C} {Q : A → Type 0} {R : C → Type 0} {S T Trailing Leading : List ℕ → Type 0}
+      → Eating f Q S T → ((a : A) → Q a → Steady P Spoils (g a) R Trailing Leading) → Eats (both f g)
   both_eats {A = A} {f = f} {g = g} one two e u c h =
       let b = then_back (f e u) (λ a r. g a e r) c u h in
       let k = one.steady.kept e u b.0 b.1 b.2 in
@@ -165,16 +165,16 @@ module _ {B : Type 0} (P : Found B → Type 0) (Spoils : ℕ → List ℕ → �
           let k : length r ≡ length (x ++ u) = ap length again in
           let l = length-append x u in omega (arith, i, j, k, l)
 
-  pub both_eating : {A C : Type 0} {f : Reader A} {g : A → Reader C} {Q : A → Type 0} {R : C → Type 0} {S T S2 T2 : List ℕ → Type 0}
-      → Eating f Q S T → ((a : A) → Q a → Steady P Spoils (g a) R S2 T2) → ((z : List ℕ) → T2 z → S z) → ((z : List ℕ) → S2 z → S z) → Eating (both f g) R S2 T
+  pub both_eating : {A C : Type 0} {f : Reader A} {g : A → Reader C} {Q : A → Type 0} {R : C → Type 0} {S T Trailing Leading : List ℕ → Type 0}
+      → Eating f Q S T → ((a : A) → Q a → Steady P Spoils (g a) R Trailing Leading) → ((z : List ℕ) → Leading z → S z) → ((z : List ℕ) → Trailing z → S z) → Eating (both f g) R Trailing T
   both_eating one two first quiet = record {
     steady = both_steady P Spoils one.steady two first (λ e u a c same. quiet) (λ e u a same. absurd (one.eats e u a same));
     eats = both_eats one two;
   }
 
   -- where the second takes a byte too
-  pub each_eating : {A C : Type 0} {f : Reader A} {g : A → Reader C} {R : C → Type 0} {S T S2 T2 : List ℕ → Type 0}
-      → Eating f Anything S T → ((a : A) → Eating (g a) R S2 T2) → ((z : List ℕ) → T2 z → S z) → Eating (both f g) R S2 T
+  pub each_eating : {A C : Type 0} {f : Reader A} {g : A → Reader C} {R : C → Type 0} {S T Trailing Leading : List ℕ → Type 0}
+      → Eating f Anything S T → ((a : A) → Eating (g a) R Trailing Leading) → ((z : List ℕ) → Leading z → S z) → Eating (both f g) R Trailing T
   each_eating one two first = record {
     steady = both_steady P Spoils one.steady (λ a q. (two a).steady) first (λ e u a c same. absurd ((two a).eats e u c same)) (λ e u a same. absurd (one.eats e u a same));
     eats = both_eats one (λ a q. (two a).steady);
@@ -192,8 +192,8 @@ module _ {B : Type 0} (P : Found B → Type 0) (Spoils : ℕ → List ℕ → �
     pub taken : Eating chosen Q S Anything
     pub same : (e : ℕ × List ℕ) (cs : List ℕ) → F e (c ∷ cs) ≡ chosen e (c ∷ cs)
 
-  pub chosen_as : {A : Type 0} {F G : Reader A} {Q : A → Type 0} {S S2 T : List ℕ → Type 0} {c : ℕ} → Eating G Q S T → ((z : List ℕ) → S2 z → S z)
-      → ((e : ℕ × List ℕ) (cs : List ℕ) → F e (c ∷ cs) ≡ G e (c ∷ cs)) → Chosen F Q S2 c
+  pub chosen_as : {A : Type 0} {F G : Reader A} {Q : A → Type 0} {S Trailing T : List ℕ → Type 0} {c : ℕ} → Eating G Q S T → ((z : List ℕ) → Trailing z → S z)
+      → ((e : ℕ × List ℕ) (cs : List ℕ) → F e (c ∷ cs) ≡ G e (c ∷ cs)) → Chosen F Q Trailing c
   chosen_as {G = G} one less same = record { chosen = G; taken = wider_eating less (λ z t. tt) one; same = same }
 
   abbrev pub StuckWith : {A : Type 0} → Reader A → ℕ → Type 0

@@ -193,8 +193,8 @@ module _ {B : Type 0} (P : Found B → Type 0) (Spoils : ℕ → List ℕ → �
   closing_eating t = both_eating P Spoils (past_eating (begins_stays 41 refl) (sign_eating 41)) (λ _ q. pure_steady P Spoils tt) (λ z h. h) (λ z h. h)
 
   -- a sign, and what stands behind it
-  pub chosen_behind : {A : Type 0} {F : Reader A} {g : Reader A} {Q : A → Type 0} {S S2 T : List ℕ → Type 0} {c : ℕ} (b : ℕ) → (c == b) ≡ true → Steady P Spoils g Q S T → ((z : List ℕ) → S2 z → S z)
-      → ((e : ℕ × List ℕ) (cs : List ℕ) → F e (c ∷ cs) ≡ g e cs) → Chosen P Spoils F Q S2 c
+  pub chosen_behind : {A : Type 0} {F : Reader A} {g : Reader A} {Q : A → Type 0} {S Trailing T : List ℕ → Type 0} {c : ℕ} (b : ℕ) → (c == b) ≡ true → Steady P Spoils g Q S T → ((z : List ℕ) → Trailing z → S z)
+      → ((e : ℕ × List ℕ) (cs : List ℕ) → F e (c ∷ cs) ≡ g e cs) → Chosen P Spoils F Q Trailing c
   chosen_behind {F = F} {g = g} {c = c} b here one less same =
       chosen_as P Spoils (both_eating P Spoils (sign_eating b) (λ _ q. one) (λ z t. tt) (λ z s. tt)) less
       (λ e cs. same e cs ∙ sym (ap (λ x. and_then (if x then read tt cs else stuck e.0 (c ∷ cs)) (λ _ r. g e r)) here))

@@ -8,5 +8,6 @@ pub mod Numbers
 pub mod Reasons
 pub mod Rules
 pub mod Signs
+pub mod TreeCode
 pub mod Trees
 pub mod Values

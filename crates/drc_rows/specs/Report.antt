@@ -5,7 +5,7 @@ use Rattle.exact_dec.specs.Written.{mm_text}
 use Rattle.board_items.specs.declared.item.What.{What}
 use Rattle.board_items.specs.declared.item.What.TheVariants.{Track, Via, Pad, Graphic, Fill, Edge, Area, Body, Note}
 use Rattle.board_items.specs.declared.item.Item.{Item}
-use Rattle.board_items.specs.Layers.{layer_names}
+use Rattle.copper_layers.specs.Layers.{layer_names}
 use Rattle.board_items.specs.Boards.{PlainBoard, item_at}
 use Rattle.cond_lang.specs.declared.kind.Kind.{Kind}
 use Rattle.cond_lang.specs.declared.kind.Kind.TheVariants.{Short, Keepout, TrackWidth, ViaDiameter, HoleSize, AnnularWidth, Disallow, Assertion}

@@ -1,10 +1,10 @@
 -- What a session holds, said of plain values.
-use Rattle.std.proofs.Common.{◌≡◌, refl, sym, ap, subst, ◌∙◌, ℕ, ◌<◌, ℤ, List, length, map, Option}
+use Rattle.std.proofs.Common.{◌≡◌, sym, subst, ℕ, ◌<◌, ℤ, List, length, Option}
 use Rattle.std.proofs.lemmas.List.{length-map}
 use Rattle.drc_io.specs.Lengths.{IsLength}
 use Rattle.board_items.specs.Boards.{PlainBoard}
 use Rattle.net_class.specs.Classes.{PlainClasses}
-use Rattle.cond_lang.specs.Rules.{PlainRule, plain_rule}
+use Rattle.cond_lang.specs.Rules.{plain_rule}
 use Rattle.rule_text.specs.RulesOf.{PlainRules}
 use Rattle.rule_text.specs.Views.{plain_rules}
 use Rattle.rule_pick.specs.declared.facts.Facts.{Facts}
@@ -15,7 +15,7 @@ use Rattle.pair_check.specs.Rows.{AreRows}
 use Rattle.row_check.specs.Tiles.{IsIndexOf}
 use Rattle.net_groups.specs.NetParts.{NetPart, AreParts}
 use Rattle.drc_session.specs.declared.parts.Parts.{Parts}
-use Rattle.drc_session.specs.Holding.{IsKept, IsKeptOf}
+use Rattle.drc_session.specs.Holding.{IsKept}
 
 record IsWholeOf (board : PlainBoard) (classes : PlainClasses) (rules : PlainRules) (facts : List (Option Facts)) (reach : ℤ) (index : PlainIndex) (rows : List PlainRow) (nets : List NetPart) : Type 0 where
   facts_are : HasFacts board classes facts

@@ -1,11 +1,10 @@
 -- What is looked up of the items that an edit touches serves for all its ids: the old board has no item of any other.
-use Rattle.std.proofs.Common.{◌≡◌, ◌⊎◌, inl, inr, refl, sym, subst, ◌∙◌, ℕ, ◌<◌, ℤ, true, false, List, [], length, get_or, Contains, Option, None, Some, All}
-use Rattle.std.specs.Option.{option_flatten}
+use Rattle.std.proofs.Common.{◌≡◌, inl, inr, refl, sym, subst, ◌∙◌, ℕ, ℤ, List, [], get_or, Contains, Option, None, Some}
 use Rattle.std.proofs.lemmas.List.Elements.{All-contains, Contains-get_or}
 use Rattle.board_index.proofs.OneList.{nothing}
 use Rattle.board_items.specs.declared.item.Item.{Item}
 use Rattle.board_items.specs.Boards.{PlainBoard, item_at}
-use Rattle.board_laws.specs.Edits.{IsEdit, WasOrIs}
+use Rattle.board_laws.specs.Edits.{WasOrIs}
 use Rattle.kept_facts.specs.Kept.{mark_of, mark_at, mark_if}
 use Rattle.kept_nets.specs.Touched.{AreTouched}
 use Rattle.board_edits.specs.Touched.{AreKnown, touched_before, brought}

@@ -1,5 +1,5 @@
 -- What a call went through: the tiles that an index of what is checked finds, and how many hold an item.
-use Rattle.std.proofs.Common.{◌≡◌, ◌≢◌, ◌⊎◌, inl, inr, refl, sym, subst, ap, ◌∙◌, ℕ, ℤ, Bool, true, false, List, [], ◌++◌, length, Option}
+use Rattle.std.proofs.Common.{◌≡◌, ◌≢◌, ◌⊎◌, inr, refl, sym, subst, ap, ◌∙◌, ℕ, ℤ, Bool, true, false, List, [], ◌++◌, length, Option}
 use Rattle.geo_seg.specs.declared.boxes.Bounds.{Bounds}
 use Rattle.board_items.specs.Boards.{PlainBoard}
 use Rattle.net_class.specs.Classes.{PlainClasses}
@@ -9,12 +9,11 @@ use Rattle.rule_pick.specs.AllFacts.{HasFacts}
 use Rattle.box_index.specs.Tiles.{PlainIndex, dirty_of, held_of}
 use Rattle.board_index.specs.TilesHeld.{AreTilesHeld}
 use Rattle.board_index.proofs.Held.{all_held, all_dirty, dirty_is_held}
-use Rattle.pair_check.specs.Rows.{Checked}
 use Rattle.row_check.specs.Tiles.{IsIndexOf}
 use Rattle.kept_facts.specs.Kept.{AreChanged}
 use Rattle.board_edits.specs.Touched.{AreEdited}
 use Rattle.drc_state.specs.States.{State, checked_in}
-use Rattle.drc_state.specs.Recheck.{IsFarthest, AreHeld, ReachDiffers, AreRechecked, IsHeldCount}
+use Rattle.drc_state.specs.Recheck.{IsFarthest, ReachDiffers, AreRechecked, IsHeldCount}
 use Rattle.drc_state.specs.Boxes.{AreBoxesOf}
 use Rattle.drc_state.proofs.FoundTiles.{all_tiles, near_tiles}
 use Rattle.drc_session.specs.declared.applied.Applied.{Applied}

@@ -2,4 +2,3 @@ pub mod Sessions
 pub mod Holding
 pub mod Looks
 pub mod Steps
-pub mod TreeCode

@@ -25,7 +25,7 @@ pub struct Session {
 impl Model for Session {
     ghost use Rattle.std.specs.Prelude.{◌≡◌, false};
     ghost use Rattle.std.specs.Coded.{codes};
-    ghost use Rattle.drc_session.specs.TreeCode.{coded_tree};
+    ghost use Rattle.cond_lang.specs.TreeCode.{coded_tree};
     ghost use Rattle.drc_session.specs.Sessions.{PlainSession};
     ghost use Rattle.drc_session.specs.Holding.{state_of, IsKept};
 

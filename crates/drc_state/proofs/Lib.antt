@@ -1,5 +1,4 @@
 pub mod OneAnswer
 pub mod OneRecheck
 pub mod FoundTiles
-pub mod FewRules
 pub mod Planned

@@ -5,7 +5,7 @@ use Rattle.std.specs.List.{Any, AllWithin, filter}
 use Rattle.geo_seg.specs.Distances.{Meet}
 use Rattle.board_items.specs.declared.parts.Part.{Part}
 use Rattle.board_items.specs.declared.item.Item.{Item}
-use Rattle.board_items.specs.Layers.{has_layer}
+use Rattle.copper_layers.specs.Layers.{has_layer}
 use Rattle.board_items.specs.Copper.{on_layer, PartsMeet, CopperMeets}
 
 pub any_here : {X : Type 0} (P : X → Type 0) (x : X) (xs : List X) → P x → Any P (x ∷ xs)

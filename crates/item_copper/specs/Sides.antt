@@ -1,7 +1,7 @@
 -- A side: some parts of an item, which face some parts of another.
 use Rattle.std.specs.Prelude.{ℕ, Bool, true, List, [], ◌∷◌, Option, None, Some}
 use Rattle.board_items.specs.declared.parts.Part.{Part}
-use Rattle.board_items.specs.Layers.{has_layer}
+use Rattle.copper_layers.specs.Layers.{has_layer}
 use Rattle.board_items.specs.Copper.{on_layer}
 use Rattle.item_copper.specs.declared.side.Side.{Side}
 use Rattle.item_copper.specs.declared.side.Side.TheVariants.{Nothing, Listed, Single}

@@ -1,9 +1,9 @@
 //! Layers that two parts share.
 
 ghost use Rattle.std.specs.Prelude.{ℕ, IsTrue, ◌↔◌};
-ghost use Rattle.board_items.specs.Layers.{has_layer};
+ghost use Rattle.copper_layers.specs.Layers.{has_layer};
 
-use board_items::LayerSet;
+use copper_layers::LayerSet;
 
 /// Whether some layer is in both sets. It takes no memory.
 pub fn share_layer(a: LayerSet, b: LayerSet) -> bool

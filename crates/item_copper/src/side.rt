@@ -2,7 +2,8 @@
 
 ghost use Rattle.item_copper.specs.Stack.{IsLayerIfSome};
 
-use board_items::{LayerSet, Part};
+use board_items::Part;
+use copper_layers::LayerSet;
 use geo_seg::Shape;
 
 /// The parts of a list, or those of them that lie on one copper layer.

@@ -9,7 +9,7 @@ use Rattle.board_items.specs.declared.item.What.{What}
 use Rattle.board_items.specs.declared.item.What.TheVariants as what
 use Rattle.board_items.specs.declared.item.Item.{Item}
 use Rattle.board_items.specs.Boards.{is_mark}
-use Rattle.board_items.specs.Layers.{has_layer}
+use Rattle.copper_layers.specs.Layers.{has_layer}
 use Rattle.board_items.specs.Copper.{PartsMeet, on_layer}
 use Rattle.board_items.specs.Parts.{parts_of, hole_parts, kind_parts}
 use Rattle.item_copper.proofs.Meeting.{any_of_chosen}

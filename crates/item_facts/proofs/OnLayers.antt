@@ -5,9 +5,9 @@ use Rattle.std.proofs.Math.Seq.{drop-cons}
 use Rattle.std.proofs.Math.ListN.{drop_of_length-le}
 use Rattle.std.proofs.lemmas.Bool.{cases_eq}
 use Rattle.std.proofs.lemmas.Nat.Bits.{bit_at-zero, bit_at-pow_same, bit_at-pow_other}
-use Rattle.board_items.specs.declared.layers.LayerSet.{LayerSet}
+use Rattle.copper_layers.specs.declared.set.LayerSet.{LayerSet}
 use Rattle.board_items.specs.declared.parts.Part.{Part}
-use Rattle.board_items.specs.Layers.{has_layer, single_layer}
+use Rattle.copper_layers.specs.Layers.{has_layer, single_layer}
 use Rattle.item_copper.proofs.Meeting.{any_here, any_later, any_none, any_cases}
 use Rattle.board_items.specs.declared.item.Bans.{Bans}
 use Rattle.board_items.specs.declared.item.What.{What}

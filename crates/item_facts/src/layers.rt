@@ -1,10 +1,11 @@
 //! The layers of an item.
 
 ghost use Rattle.std.specs.Prelude.{◌≡◌, ◌<◌, ℕ, IsTrue, ◌↔◌, if◌then◌else◌};
-ghost use Rattle.board_items.specs.Layers.{has_layer};
+ghost use Rattle.copper_layers.specs.Layers.{has_layer};
 ghost use Rattle.rule_pick.specs.FactsOf.{SomeOn, AreLayersOf};
 
-use board_items::{Item, LayerSet, Part, What};
+use board_items::{Item, Part, What};
+use copper_layers::LayerSet;
 
 // The layers of all the parts.
 fn union_of(parts: &[Part]) -> LayerSet

@@ -3,7 +3,7 @@
 ghost use Rattle.std.specs.Prelude.{◌≡◌, ◌<◌, true, codes, is_some, IfOk, IfSome, IsTrue};
 ghost use Rattle.sexpr_read.specs.Views.{tree_of};
 ghost use Rattle.board_items.specs.Boards.{name_of};
-ghost use Rattle.board_items.specs.Layers.{is_within};
+ghost use Rattle.copper_layers.specs.Layers.{is_within};
 ghost use Rattle.part_read.specs.Elements.{element, in_needed, needed};
 ghost use Rattle.part_read.specs.LayersOf.{layers_named};
 ghost use Rattle.part_read.specs.Nodes.{Gives};
@@ -27,7 +27,8 @@ use crate::pads::Frame;
 use crate::postures::clearance_of;
 use crate::primitives::primitives_fit;
 use crate::turning::{Clearances, local_of, sizes_fit, some_fit};
-use board_items::{Board, BoardError, Boxed, Hole, Item, LayerSet, Nm, Parts, What};
+use board_items::{Board, BoardError, Boxed, Hole, Item, Nm, Parts, What};
+use copper_layers::LayerSet;
 use drc_io::Name;
 use part_read::{
     Spot, element, first_atom, fits_board, is_length, layers_named, missing, name_from,

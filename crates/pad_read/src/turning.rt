@@ -9,7 +9,8 @@ use crate::pads::{PadType, PadWord};
 use crate::postures::{Posture, quarters_of};
 use crate::sizes::{Drilling, Sizes, are_equal};
 use crate::words::has_hole;
-use board_items::{LayerSet, Nm};
+use board_items::Nm;
+use copper_layers::LayerSet;
 use part_read::{Spot, is_length};
 
 /// The sizes of the hole of a pad, if it has one.

@@ -7,14 +7,14 @@ use Rattle.sexpr_read.specs.Tree.{Tree, parts}
 use Rattle.geo_seg.specs.declared.points.Point.{Point}
 use Rattle.geo_seg.specs.declared.shapes.Core.{Core}
 use Rattle.board_items.specs.declared.errors.BoardError.{BoardError}
-use Rattle.board_items.specs.declared.layers.LayerSet.{LayerSet}
+use Rattle.copper_layers.specs.declared.set.LayerSet.{LayerSet}
 use Rattle.board_items.specs.declared.parts.Part.{Part}
 use Rattle.board_items.specs.declared.item.About.{About}
 use Rattle.board_items.specs.declared.item.What.TheVariants.{Graphic, Edge, Note}
 use Rattle.board_items.specs.declared.item.Item.{Item}
-use Rattle.board_items.specs.Layers.{has_layer, is_within, single_layer}
+use Rattle.copper_layers.specs.Layers.{has_layer, is_within, single_layer}
 use Rattle.board_items.specs.Boards.{PlainBoard, name_of, is_admitted}
-use Rattle.board_items.proofs.LayerLemmas.{single_within}
+use Rattle.copper_layers.proofs.LayerLemmas.{single_within}
 use Rattle.part_read.specs.declared.numbers.Spot.{Spot}
 use Rattle.part_read.specs.declared.stances.Stance.{Stance}
 use Rattle.part_read.specs.declared.radii.Radius.{Radius}

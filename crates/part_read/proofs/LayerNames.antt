@@ -5,7 +5,7 @@ use Rattle.sexpr_read.specs.Tree.{Tree, value}
 use Rattle.std.specs.Prelude.{codes}
 use Rattle.part_read.specs.Elements.{is_text, is_value}
 use Rattle.part_read.specs.LayersOf.{layer_number}
-use Rattle.board_items.specs.Layers.{layer_names}
+use Rattle.copper_layers.specs.Layers.{layer_names}
 use Rattle.std.specs.List.{position_from}
 
 pub number_step : (n k : ℕ) (names : List (List ℕ)) (atom : Tree) (name : List ℕ) → slice_get names k ≡ Some name

@@ -9,9 +9,9 @@ use Rattle.std.specs.Int.{bit_at}
 use Rattle.std.specs.List.{list_any}
 use Rattle.sexpr_read.specs.Tree.{Tree}
 use Rattle.board_items.specs.declared.errors.BoardError.{BoardError}
-use Rattle.board_items.specs.declared.layers.LayerSet.{LayerSet}
-use Rattle.board_items.specs.Layers.{has_layer, is_within, single_layer, union_of}
-use Rattle.board_items.proofs.LayerLemmas.{within_layers}
+use Rattle.copper_layers.specs.declared.set.LayerSet.{LayerSet}
+use Rattle.copper_layers.specs.Layers.{has_layer, is_within, single_layer, union_of}
+use Rattle.copper_layers.proofs.LayerLemmas.{within_layers}
 use Rattle.part_read.specs.Elements.{◌>>=◌}
 use Rattle.part_read.specs.LayersWhere.{layers_below, layers_where, layers_of_any}
 use Rattle.part_read.specs.LayersOf.{each_set}

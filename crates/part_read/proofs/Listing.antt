@@ -2,8 +2,8 @@
 use Rattle.std.proofs.Common.{◌≡◌, refl, ℕ, [], ◌∷◌, Option, None, Some, Result, Ok, Err, true, false, List}
 use Rattle.sexpr_read.specs.Tree.{Tree, is_list}
 use Rattle.board_items.specs.declared.errors.BoardError.{BoardError}
-use Rattle.board_items.specs.declared.layers.LayerSet.{LayerSet}
-use Rattle.board_items.specs.Layers.{single_layer}
+use Rattle.copper_layers.specs.declared.set.LayerSet.{LayerSet}
+use Rattle.copper_layers.specs.Layers.{single_layer}
 use Rattle.part_read.specs.Elements.{atom_of}
 use Rattle.part_read.specs.LayersOf.{layer_number, listed, layer_in, is_all_copper, is_outer, outer_of, named}
 

@@ -4,13 +4,13 @@ use Rattle.std.specs.Prelude.{ℕ, ℤ, pos, Bool, true, false, not, List, [], �
 use Rattle.sexpr_read.specs.Tree.{Tree}
 use Rattle.board_items.specs.declared.errors.BoardError.{BoardError}
 use Rattle.board_items.specs.declared.errors.BoardError.TheVariants.{OutOfBoard, Arc, Ring}
-use Rattle.board_items.specs.declared.layers.LayerSet.{LayerSet}
+use Rattle.copper_layers.specs.declared.set.LayerSet.{LayerSet}
 use Rattle.board_items.specs.declared.parts.Part.{Part}
 use Rattle.board_items.specs.declared.item.About.{About}
 use Rattle.board_items.specs.declared.item.What.{What}
 use Rattle.board_items.specs.declared.item.What.TheVariants.{Graphic, Edge, Note}
 use Rattle.board_items.specs.declared.item.Item.{Item}
-use Rattle.board_items.specs.Layers.{single_layer}
+use Rattle.copper_layers.specs.Layers.{single_layer}
 use Rattle.board_items.specs.Boards.{PlainBoard}
 use Rattle.part_read.specs.declared.numbers.Spot.{Spot}
 use Rattle.part_read.specs.declared.stances.Stance.{Stance}

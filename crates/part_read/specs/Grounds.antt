@@ -1,7 +1,7 @@
 -- What is known of the ground of a graphic.
 use Rattle.std.specs.Prelude.{ℕ, ◌<◌, IsTrue, ⊤}
-use Rattle.board_items.specs.declared.layers.LayerSet.{LayerSet}
-use Rattle.board_items.specs.Layers.{has_layer}
+use Rattle.copper_layers.specs.declared.set.LayerSet.{LayerSet}
+use Rattle.copper_layers.specs.Layers.{has_layer}
 use Rattle.part_read.specs.declared.graphics.Ground.{Ground}
 use Rattle.part_read.specs.declared.graphics.Ground.TheVariants.{Copper, Outlines, Front, Back, Elsewhere}
 

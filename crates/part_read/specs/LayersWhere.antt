@@ -1,8 +1,8 @@
 -- Sets of copper layers by what is said of each layer.
 use Rattle.std.specs.Prelude.{ℕ, zero, suc, Bool, List, if◌then◌else◌}
 use Rattle.std.specs.List.{list_any}
-use Rattle.board_items.specs.declared.layers.LayerSet.{LayerSet}
-use Rattle.board_items.specs.Layers.{has_layer, single_layer, union_of}
+use Rattle.copper_layers.specs.declared.set.LayerSet.{LayerSet}
+use Rattle.copper_layers.specs.Layers.{has_layer, single_layer, union_of}
 
 -- the layers below this number that pass the test
 unfoldable pub layers_below : ℕ → (ℕ → Bool) → LayerSet

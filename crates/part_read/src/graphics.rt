@@ -3,7 +3,7 @@
 ghost use Rattle.std.specs.Prelude.{◌≡◌, ◌<◌, ◌∷◌, [], ℕ, true, false, Some, is_some, IfOk, IfSome, IsTrue, OnOk, All, codes, option_map};
 ghost use Rattle.std.specs.List.{list_all};
 ghost use Rattle.board_items.specs.Boards.{name_of, is_admitted};
-ghost use Rattle.board_items.specs.Layers.{has_layer};
+ghost use Rattle.copper_layers.specs.Layers.{has_layer};
 ghost use Rattle.board_items.specs.declared.item.Item.{Item};
 ghost use Rattle.sexpr_read.specs.Views.{tree_of};
 ghost use Rattle.part_read.specs.Nodes.{Gives};
@@ -23,7 +23,8 @@ use crate::names::name_in;
 use crate::nets::net_of;
 use crate::numbers::Spot;
 use crate::stances::{Stance, stand};
-use board_items::{About, Board, BoardError, Boxed, Item, LayerSet, Part, Parts, What};
+use board_items::{About, Board, BoardError, Boxed, Item, Part, Parts, What};
+use copper_layers::LayerSet;
 use drc_io::Name;
 use geo_seg::Shape;
 use sexpr_read::Node;

@@ -1,7 +1,7 @@
 //! Copper layers by their names.
 
 ghost use Rattle.std.specs.Prelude.{◌≡◌, ◌<◌, IfOk, IfSome, IsTrue, option_map};
-ghost use Rattle.board_items.specs.Layers.{has_layer, is_within};
+ghost use Rattle.copper_layers.specs.Layers.{has_layer, is_within};
 ghost use Rattle.sexpr_read.specs.Tree.{parts};
 ghost use Rattle.sexpr_read.specs.Views.{tree_of, trees_left};
 ghost use Rattle.part_read.specs.Elements.{in_needed};
@@ -10,7 +10,8 @@ ghost use Rattle.part_read.specs.LayersWhere.{layers_of_any};
 ghost use Rattle.part_read.specs.LayerSets.{GivesSet};
 
 use crate::atoms::{first_atom, missing, place, second_atom};
-use board_items::{BoardError, LayerSet, layer_name};
+use board_items::BoardError;
+use copper_layers::{LayerSet, layer_name};
 use sexpr_read::Node;
 
 /// The layer that an atom names, if it is one of copper: all names are tried.

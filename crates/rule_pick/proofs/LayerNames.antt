@@ -3,8 +3,8 @@ use Rattle.std.proofs.Common.{◌≡◌, refl, sym, ap, subst, ◌∙◌, ℕ, z
 use Rattle.std.proofs.Math.Seq.{drop-cons}
 use Rattle.std.proofs.Math.ListN.{drop_of_length-le}
 use Rattle.std.proofs.lemmas.Option.{slice_get_within, get_or_from_slice_get}
-use Rattle.board_items.specs.declared.layers.LayerSet.{LayerSet}
-use Rattle.board_items.specs.Layers.{has_layer, layer_names}
+use Rattle.copper_layers.specs.declared.set.LayerSet.{LayerSet}
+use Rattle.copper_layers.specs.Layers.{has_layer, layer_names}
 use Rattle.rule_pick.specs.Meaning.{some_layer}
 
 plus-one : (n : ℕ) → n + 1 ≡ suc n

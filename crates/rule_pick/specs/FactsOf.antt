@@ -3,7 +3,7 @@ use Rattle.std.specs.Prelude.{◌≡◌, ◌⊎◌, ◌↔◌, ℕ, ℤ, nat_eq,
 use Rattle.std.specs.Option.{option_map}
 use Rattle.std.specs.List.{Any}
 use Rattle.geo_seg.specs.Distances.{Meet}
-use Rattle.board_items.specs.declared.layers.LayerSet.{LayerSet}
+use Rattle.copper_layers.specs.declared.set.LayerSet.{LayerSet}
 use Rattle.board_items.specs.declared.parts.Part.{Part}
 use Rattle.board_items.specs.declared.item.Hole.{Hole}
 use Rattle.board_items.specs.declared.item.What.{What}
@@ -11,7 +11,7 @@ use Rattle.board_items.specs.declared.item.What.TheVariants as what
 use Rattle.board_items.specs.declared.item.Item.{Item}
 use Rattle.board_items.specs.Boards.{PlainBoard, name_of, item_at}
 use Rattle.board_items.specs.Copper.{PartsMeet, SomeMeet, on_layer}
-use Rattle.board_items.specs.Layers.{has_layer}
+use Rattle.copper_layers.specs.Layers.{has_layer}
 use Rattle.board_items.specs.Parts.{hole_parts}
 use Rattle.net_class.specs.Classes.{PlainClass, PlainClasses, class_of}
 use Rattle.rule_pick.specs.declared.kinds.ItemKind.{ItemKind}

@@ -5,8 +5,8 @@ use Rattle.std.specs.Prelude.{ℕ, ◌+◌, ℤ, Bool, true, false, not, ◌&&�
 use Rattle.std.specs.Ordering.{int_eq}
 use Rattle.std.specs.Str.{str_eq_ignore_ascii_case}
 use Rattle.std.specs.List.{list_any}
-use Rattle.board_items.specs.declared.layers.LayerSet.{LayerSet}
-use Rattle.board_items.specs.Layers.{has_layer, layer_names}
+use Rattle.copper_layers.specs.declared.set.LayerSet.{LayerSet}
+use Rattle.copper_layers.specs.Layers.{has_layer, layer_names}
 use Rattle.net_class.specs.Wild.{matches}
 use Rattle.cond_lang.specs.declared.terms.Side.{Side}
 use Rattle.cond_lang.specs.declared.terms.Side.TheVariants.{A, B}

@@ -4,7 +4,8 @@ ghost use Rattle.drc_io.specs.Lengths.{IsLength, IsLengthIfSome};
 
 use crate::kinds::ItemKind;
 use crate::names::Names;
-use board_items::{LayerSet, Nm};
+use board_items::Nm;
+use copper_layers::LayerSet;
 use drc_io::Name;
 
 /// What rules may ask of an item. Lengths are in nanometres, from 0 to 500 mm. Which facts an item of a board has is defined

@@ -1,10 +1,10 @@
 //! Laws of facts and picks. The functions do nothing: each clause holds for all values.
 
 ghost use Rattle.std.specs.Prelude.{◌≡◌, ℕ, List, Option, IsTrue, ◌↔◌};
-ghost use Rattle.board_items.specs.declared.layers.LayerSet.{LayerSet};
+ghost use Rattle.copper_layers.specs.declared.set.LayerSet.{LayerSet};
 ghost use Rattle.board_items.specs.declared.item.Item.{Item};
 ghost use Rattle.board_items.specs.Boards.{PlainBoard};
-ghost use Rattle.board_items.specs.Layers.{has_layer};
+ghost use Rattle.copper_layers.specs.Layers.{has_layer};
 ghost use Rattle.net_class.specs.Classes.{PlainClasses, PlainMins};
 ghost use Rattle.cond_lang.specs.declared.kind.Kind.{Kind};
 ghost use Rattle.cond_lang.specs.Rules.{PlainRule};

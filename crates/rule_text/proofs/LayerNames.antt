@@ -2,10 +2,8 @@
 use Rattle.std.proofs.Common.{◌≡◌, ℕ, zero, suc, ◌+◌, refl, List, [], ◌∷◌, drop, slice_get, Option, Some, None, Bool, IsTrue, ◌↔◌, true, false, sym, ap, bytes_eq, arith, cond}
 use Rattle.std.proofs.lemmas.Slice.Eq.{bytes_eq-Decides}
 use Rattle.sexpr_read.specs.Tree.{Tree, value}
-use Rattle.std.specs.Prelude.{codes}
 use Rattle.rule_text.specs.Forms.{is_text, is_value}
-use Rattle.rule_text.specs.LayersOf.{layer_number}
-use Rattle.rule_text.specs.LayersOf.{layer_names}
+use Rattle.copper_layers.specs.Layers.{layer_names}
 use Rattle.std.specs.List.{position_from}
 
 pub number_step : (n k : ℕ) (names : List (List ℕ)) (atom : Tree) (name : List ℕ) → slice_get names k ≡ Some name

@@ -1,3 +1,4 @@
+pub mod FewRules
 pub mod LayerNames
 pub mod Moved
 pub mod Places

@@ -1,8 +1,7 @@
 -- A refusal of the forms of a text stands in the text.
-use Rattle.std.proofs.Common.{◌≡◌, ◌≤◌, ◌<◌, ◌+◌, ◌-◌, ◌==◌, ◌||◌, ◌&&◌, not, ℕ, zero, suc, ℤ, Bool, true, false, List, [], ◌∷◌, length, sym, subst, ap, refl, arith}
+use Rattle.std.proofs.Common.{◌≡◌, ◌≤◌, ◌||◌, not, ℕ, ℤ, Bool, true, false, List, [], ◌∷◌, length, sym, subst, refl, arith}
 use Rattle.std.specs.Prelude.{Option, None, Some, Result, Ok, Err, codes, is_some, if◌then◌else◌}
-use Rattle.sexpr_read.specs.declared.place.TextError.{TextError}
-use Rattle.sexpr_read.specs.Tree.{Forest, none, atom, list, Tree, leaf, branch, trees, parts, is_list, content}
+use Rattle.sexpr_read.specs.Tree.{Tree, leaf, branch, parts, is_list, content}
 use Rattle.exact_dec.specs.declared.DecError.{DecError}
 use Rattle.exact_dec.specs.Computed.{with_unit_answer}
 use Rattle.cond_lang.specs.declared.kind.Kind.{Kind}
@@ -12,13 +11,13 @@ use Rattle.cond_lang.specs.Found.{Found, read, fault}
 use Rattle.cond_lang.specs.Conditions.{reading}
 use Rattle.cond_lang.specs.Trees.{Tree as CondTree}
 use Rattle.rule_text.specs.declared.error.RuleError.{RuleError}
-use Rattle.rule_text.specs.declared.error.RuleError.TheVariants.{Text, Version, Bad, Cond, BadNumber, OutOfMemory}
+use Rattle.rule_text.specs.declared.error.RuleError.TheVariants.{Version, Bad, BadNumber}
 use Rattle.rule_text.specs.Forms.{◌>>=◌, needed, check, place, bad, text_of, is_text, has_head, has_word_head, as_atom, second_among, name_at, single_among, atom_at, clauses}
 use Rattle.rule_text.specs.LayersOf.{layer_named, layer_in}
 use Rattle.rule_text.specs.Limits.{kind_named, is_length, length_from, length_in, PlainLimits, with_least, with_wished, with_most, with_limit, with_limits, unlimited, bans_nothing, with_ban, with_bans, cond_from, cond_in}
 use Rattle.rule_text.specs.RulesOf.{PlainRules, PlainDraft, severity_named, severity_in, limited, banned, claim_among, claimed, constraint_in, has_kind, with_layer, with_severity, with_cond, with_kind, with_constraint, with_clause, with_clauses, is_asked, blank, with_rule, with_rules, is_version, no_rules, rules_of}
 use Rattle.rule_text.specs.ListText.{behind_one, no_form, nothing_more, list_among, list_of}
-use Rattle.rule_text.specs.Short.{AreShort, AllShort, IsShort}
+use Rattle.rule_text.specs.Short.{AllShort, IsShort}
 use Rattle.rule_text.specs.Near.{IsNear, NearIfErr}
 use Rattle.rule_text.proofs.Shortness.{head_short, tail_short, parts_short, behind_one_short, clauses_short, atom_short, claim_short}
 

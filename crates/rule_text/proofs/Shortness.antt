@@ -1,11 +1,10 @@
 -- What stands in a text is no longer than the text.
-use Rattle.std.proofs.Common.{◌≡◌, ◌≤◌, ◌<◌, ◌+◌, ◌-◌, ◌==◌, ℕ, Bool, true, false, List, [], ◌∷◌, length, take, drop, All, sym, subst, ap, refl, arith}
-use Rattle.std.specs.Prelude.{Result, Ok, Err, slice_range}
+use Rattle.std.proofs.Common.{◌≡◌, ◌≤◌, ◌+◌, ◌-◌, ◌==◌, ℕ, Bool, true, false, List, [], ◌∷◌, length, drop, sym, subst, refl, arith}
+use Rattle.std.specs.Prelude.{Ok, slice_range}
 use Rattle.std.proofs.lemmas.List.{length-take, length-drop}
-use Rattle.sexpr_read.specs.Tree.{Forest, none, atom, list, Tree, leaf, branch, trees, parts, is_list, unescaped, meant}
+use Rattle.sexpr_read.specs.Tree.{Forest, none, atom, list, Tree, leaf, branch, trees, parts, is_list, unescaped}
 use Rattle.sexpr_read.specs.Places.{IsSlice, StandBetween, PartsStandBetween}
-use Rattle.rule_text.specs.declared.error.RuleError.{RuleError}
-use Rattle.rule_text.specs.Forms.{text_of, second_among, single_among, as_atom, name_at, atom_at, behind_two, clauses, bad, ◌>>=◌}
+use Rattle.rule_text.specs.Forms.{text_of, single_among, as_atom, atom_at, behind_two, clauses, ◌>>=◌}
 use Rattle.rule_text.specs.RulesOf.{claim_among}
 use Rattle.rule_text.specs.ListText.{behind_one}
 use Rattle.rule_text.specs.Short.{AreShort, AllShort, IsShort}

@@ -1,6 +1,6 @@
 -- What a constraint says of its kind: lengths, or words of what is banned, or a condition.
 use Rattle.std.specs.Prelude.{ℕ, ℤ, pos, int_le, List, [], ◌∷◌, codes, Bool, true, false, ◌&&◌, is_some, Option, None, Some, Result, Ok, Err, if◌then◌else◌}
-use Rattle.sexpr_read.specs.Tree.{Tree, content, is_list}
+use Rattle.sexpr_read.specs.Tree.{Tree, content}
 use Rattle.exact_dec.specs.declared.DecError.{DecError}
 use Rattle.exact_dec.specs.Computed.{with_unit_answer}
 use Rattle.cond_lang.specs.declared.kind.Kind.{Kind}
@@ -10,7 +10,7 @@ use Rattle.cond_lang.specs.Found.{Found, read, fault}
 use Rattle.cond_lang.specs.Trees.{Tree as CondTree}
 use Rattle.cond_lang.specs.Conditions.{reading}
 use Rattle.rule_text.specs.declared.error.RuleError.{RuleError}
-use Rattle.rule_text.specs.declared.error.RuleError.TheVariants.{Bad, Cond, BadNumber}
+use Rattle.rule_text.specs.declared.error.RuleError.TheVariants.{Cond, BadNumber}
 use Rattle.rule_text.specs.Forms.{◌>>=◌, needed, place, bad, text_of, is_text, has_head, atom_at}
 
 -- ---- kinds

@@ -1,5 +1,5 @@
 -- Places of a text of at most 33,554,432 bytes.
-use Rattle.std.specs.Prelude.{ℕ, ◌≤◌, Result, Ok, Err}
+use Rattle.std.specs.Prelude.{◌≤◌, Result, Ok, Err}
 use Rattle.sexpr_read.specs.declared.place.TextError.{TextError}
 use Rattle.sexpr_read.specs.declared.place.TextError.TheVariants.{NotUtf8, CloseWithoutOpen, EndInside, TooDeep, ExtraText, EmptyText, OutOfMemory as NoMemory}
 use Rattle.rule_text.specs.declared.error.RuleError.{RuleError}

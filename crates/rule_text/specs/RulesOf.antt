@@ -1,7 +1,7 @@
 -- The rules of a rule file: (version 1), and then forms (rule NAME CLAUSE ..). The language is that of the custom design rules
 -- of KiCad 7 (PCB editor manual). A second clause with one head is passed over unread, and so is a second constraint of one
 -- kind.
-use Rattle.std.specs.Prelude.{ℕ, ℤ, List, [], ◌∷◌, ◌++◌, length, find, codes, Bool, true, false, ◌&&◌, ◌||◌, ◌==◌, not, is_some, unwrap_or, Option, None, Some, Result, Ok, Err, if◌then◌else◌}
+use Rattle.std.specs.Prelude.{ℕ, List, [], ◌∷◌, ◌++◌, length, codes, Bool, false, ◌&&◌, ◌||◌, ◌==◌, not, is_some, unwrap_or, Option, None, Some, Result, Ok, Err, if◌then◌else◌}
 use Rattle.std.specs.List.{list_any}
 use Rattle.sexpr_read.specs.Tree.{Tree, parts, is_list}
 use Rattle.cond_lang.specs.declared.kind.Kind.{Kind}

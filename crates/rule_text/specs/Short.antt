@@ -1,6 +1,6 @@
 -- Trees that stand in a text of at most 33,554,432 bytes: no place is beyond, no atom stands for more, and no list has more
 -- parts.
-use Rattle.std.specs.Prelude.{ℕ, ◌≤◌, List, [], ◌∷◌, length}
+use Rattle.std.specs.Prelude.{◌≤◌, List, [], ◌∷◌, length}
 use Rattle.sexpr_read.specs.Tree.{Forest, none, atom, list, Tree, leaf, branch, trees}
 use Rattle.rule_text.specs.Forms.{text_of}
 

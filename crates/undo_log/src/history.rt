@@ -22,7 +22,7 @@ pub struct History {
 impl Model for History {
     ghost use Rattle.std.specs.Prelude.{◌≡◌, false};
     ghost use Rattle.std.specs.Coded.{codes};
-    ghost use Rattle.drc_session.specs.TreeCode.{coded_tree};
+    ghost use Rattle.cond_lang.specs.TreeCode.{coded_tree};
     ghost use Rattle.undo_log.specs.Ways.{PlainHistory, nearest_first};
     ghost use Rattle.undo_log.specs.Holding.{IsRunning};
 

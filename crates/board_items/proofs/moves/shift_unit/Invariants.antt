@@ -4,4 +4,5 @@ use Rattle.board_items.specs.Slots.{IsMovedSlot}
 use Rattle.board_items.proofs.moves.shift_unit.Given as goal
 
 abbrev pub invariant-loop-place : goal.invariant-loop-place
-invariant-loop-place l = Rewritten (IsMovedSlot l.unit l.step.dx l.step.dy) l.place l.fn.slots l.slots × (l.place-end ≡ length l.slots) × (length l.slots ≡ length l.fn.slots)
+invariant-loop-place l =
+    Rewritten (IsMovedSlot l.unit l.step.dx l.step.dy) l.place l.fn.slots l.slots × (l.place-end ≡ l.fn.places.end) × (length l.slots ≡ length l.fn.slots) × (length l.units ≡ length l.fn.slots)

@@ -5,4 +5,5 @@ use Rattle.board_items.proofs.moves.unit_stays.Given as goal
 
 abbrev pub invariant-loop-place : goal.invariant-loop-place
 invariant-loop-place l =
-    (list_all (λ slot. slot_stays l.unit l.step.dx l.step.dy slot) l.slots ≡ list_all (λ slot. slot_stays l.unit l.step.dx l.step.dy slot) (drop l.place l.slots)) × (l.place-end ≡ length l.slots)
+    (list_all (λ slot. slot_stays l.unit l.step.dx l.step.dy slot) l.slots ≡ list_all (λ slot. slot_stays l.unit l.step.dx l.step.dy slot) (drop l.place l.slots))
+    × (l.place-end ≡ l.fn.places.end) × (length l.units ≡ length l.slots)

@@ -1,4 +1,4 @@
-use Rattle.std.proofs.Common.{◌≡◌, ◌∙◌, refl, ℤ, List, sym, subst, false}
+use Rattle.std.proofs.Common.{◌∙◌, refl, ℤ, List, sym, subst, false}
 use Rattle.std.proofs.lemmas.List.{with_items_is}
 use Rattle.net_groups.specs.NetParts.{NetPart, AreParts}
 use Rattle.drc_io.specs.Lengths.{IsLength}

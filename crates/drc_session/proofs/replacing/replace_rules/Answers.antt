@@ -1,5 +1,4 @@
 use Rattle.std.proofs.Common.{inl, refl, true}
-use Rattle.rule_text.specs.Views.{plain_rules}
 use Rattle.drc_session.specs.Holding.{state_of}
 use Rattle.drc_session.proofs.Settled.{all_applied}
 use Rattle.drc_session.proofs.replacing.replace_rules.Goals as goal

@@ -1,6 +1,6 @@
 use Rattle.std.proofs.Common.{arith}
 use Rattle.rule_text.specs.Views.{plain_rules}
-use Rattle.drc_state.proofs.FewRules.{few_in_list}
+use Rattle.rule_text.proofs.FewRules.{few_in_list}
 use Rattle.drc_state.proofs.planning.rules_in.Goals as goal
 
 pub returns-in-Ok-clause-few : goal.returns-in-Ok-clause-few

@@ -1,5 +1,5 @@
 use Rattle.std.proofs.Common.{◌<◌, ◌^◌, arith}
-use Rattle.board_items.proofs.LayerLemmas.{shared_from, shared_to}
+use Rattle.copper_layers.proofs.LayerLemmas.{shared_from, shared_to}
 use Rattle.item_copper.proofs.layers.share_layer.Goals as goal
 
 pub returns : goal.returns

@@ -1,6 +1,6 @@
 use Rattle.std.proofs.Common.{◌≡◌, sym, subst, IsTrue, ◌↔◌}
-use Rattle.board_items.specs.declared.layers.LayerSet.{LayerSet}
-use Rattle.board_items.specs.Layers.{has_layer}
+use Rattle.copper_layers.specs.declared.set.LayerSet.{LayerSet}
+use Rattle.copper_layers.specs.Layers.{has_layer}
 use Rattle.item_facts.proofs.OnLayers.{single}
 use Rattle.item_facts.proofs.layers.only.Goals as goal
 

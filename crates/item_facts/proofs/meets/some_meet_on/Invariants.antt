@@ -1,7 +1,7 @@
 use Rattle.std.proofs.Common.{IsTrue}
 use Rattle.std.specs.List.{Any, AllWithin}
 use Rattle.geo_seg.specs.Distances.{Meet}
-use Rattle.board_items.specs.Layers.{has_layer}
+use Rattle.copper_layers.specs.Layers.{has_layer}
 use Rattle.item_facts.proofs.meets.some_meet_on.Given as goal
 
 abbrev pub invariant-loop-part : goal.invariant-loop-part

@@ -1,5 +1,5 @@
 use Rattle.std.proofs.Common.{◌∙◌, ap, sym}
-use Rattle.board_items.specs.declared.layers.LayerSet.{LayerSet}
+use Rattle.copper_layers.specs.declared.set.LayerSet.{LayerSet}
 use Rattle.pad_read.specs.PadOf.{placed}
 use Rattle.pad_read.proofs.Padding.{placed_ready}
 use Rattle.pad_read.proofs.pad.pad_on.Goals as goal

@@ -1,7 +1,7 @@
 use Rattle.std.proofs.Common.{◌≡◌, IsTrue}
 use Rattle.sexpr_read.specs.Tree.{parts}
 use Rattle.sexpr_read.specs.Views.{tree_of, trees_left}
-use Rattle.board_items.specs.Layers.{is_within}
+use Rattle.copper_layers.specs.Layers.{is_within}
 use Rattle.part_read.specs.LayersOf.{named}
 use Rattle.part_read.proofs.Layering.{no_layers, gathered}
 use Rattle.part_read.proofs.layers.layers_named.Given as goal

@@ -2,8 +2,8 @@ use Rattle.std.proofs.Common.{◌≡◌, ◌∙◌, sym, ap, List, ◌∷◌, []
 use Rattle.sexpr_read.specs.Tree.{Tree, parts, is_list}
 use Rattle.sexpr_read.specs.Views.{tree_of, trees_left}
 use Rattle.board_items.specs.declared.errors.BoardError.{BoardError}
-use Rattle.board_items.specs.declared.layers.LayerSet.{LayerSet}
-use Rattle.board_items.specs.Layers.{has_layer, is_within, single_layer, union_of}
+use Rattle.copper_layers.specs.declared.set.LayerSet.{LayerSet}
+use Rattle.copper_layers.specs.Layers.{has_layer, is_within, single_layer, union_of}
 use Rattle.part_read.specs.LayersOf.{named, is_all_copper, is_outer, outer_of}
 use Rattle.part_read.specs.Elements.{is_text}
 use Rattle.part_read.proofs.LayerNames.{text_is}

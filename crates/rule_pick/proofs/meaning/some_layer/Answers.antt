@@ -1,7 +1,7 @@
 -- The names are looked at one after the other.
 use Rattle.std.proofs.Common.{sym, subst, ◌∙◌, ◌<◌, ℕ, false, arith}
 use Rattle.net_class.specs.Wild.{matches}
-use Rattle.board_items.specs.Layers.{layer_names}
+use Rattle.copper_layers.specs.Layers.{layer_names}
 use Rattle.rule_pick.proofs.LayerNames.{found, other_name, not_there, count, at_end}
 use Rattle.rule_pick.proofs.meaning.some_layer.Goals.{else-has-via-then-has+else-wild, else-has-via-else-has}
 use Rattle.rule_pick.proofs.meaning.some_layer.Goals as goal

@@ -2,7 +2,7 @@
 use Rattle.std.proofs.Common.{◌≡◌, false}
 use Rattle.std.proofs.Math.ListN.{drop}
 use Rattle.net_class.specs.Wild.{matches}
-use Rattle.board_items.specs.Layers.{layer_names}
+use Rattle.copper_layers.specs.Layers.{layer_names}
 use Rattle.rule_pick.specs.Meaning.{some_layer}
 use Rattle.rule_pick.proofs.meaning.some_layer.Given as goal
 

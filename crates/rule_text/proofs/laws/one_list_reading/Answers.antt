@@ -1,4 +1,4 @@
-use Rattle.std.proofs.Common.{◌≡◌, ◌∙◌, sym, ap}
+use Rattle.std.proofs.Common.{◌∙◌, sym, ap}
 use Rattle.rule_text.specs.ListText.{moved}
 use Rattle.rule_text.proofs.laws.one_list_reading.Goals as goal
 

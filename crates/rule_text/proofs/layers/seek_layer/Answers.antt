@@ -1,6 +1,6 @@
 use Rattle.std.proofs.Common.{◌≡◌, ◌∙◌, sym, ap, arith, cond, Bool, Some, ◌+◌, drop}
 use Rattle.sexpr_read.specs.Views.{tree_of}
-use Rattle.rule_text.specs.LayersOf.{layer_names}
+use Rattle.copper_layers.specs.Layers.{layer_names}
 use Rattle.rule_text.specs.LayersOf.{layer_number}
 use Rattle.std.specs.List.{position_from}
 use Rattle.rule_text.specs.Forms.{is_text}

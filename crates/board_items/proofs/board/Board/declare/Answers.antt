@@ -31,6 +31,7 @@ invariant_of-self-2 c =
         count = c.self.invariant.kept.count;
       };
       notes = c.self.invariant.notes;
+      tags_in = c.self.invariant.tags_in;
       units_in = c.self.invariant.units_in;
       rise = c.self.invariant.rise;
     }

@@ -6,6 +6,7 @@ use Rattle.board_items.specs.Back.{kept_entry, placed, id_placed, FitsOne}
 use Rattle.board_items.proofs.NetIds.{net_at, place_fits, kept_lists, kept_same}
 use Rattle.board_items.proofs.Placed.{full, kept_put, notes_put, units_put}
 use Rattle.board_items.proofs.SlotLists.{slot_is, as_long}
+use Rattle.board_items.proofs.TagRows.{as_many as tags_many, tags_put}
 use Rattle.board_items.proofs.UnitRows.{as_many}
 use Rattle.board_items.proofs.board.Board.put_one.Goals as goal
 
@@ -23,6 +24,7 @@ invariant_of-self c =
       kept = kept_same before _ _ c.self.inside.marks.items _ _ _ c.self.invariant.kept.sound c.self.invariant.kept.marks c.self.invariant.kept.count refl refl c.make_room.ensures.marks_stay
           (kept_lists before c.args.kept.item.net _ c.self.inside.of_nets.items c.in-Some.place _ _ _ c.self.invariant.kept.of_nets at c.index_mut-ids.ensures.value c.make_room.ensures.ids_stay refl);
       notes = c.make_room.ensures.notes_stay ∙ c.self.invariant.notes;
+      tags_in = c.self.invariant.tags_in;
       units_in = c.self.invariant.units_in;
       rise = c.self.invariant.rise;
     }
@@ -32,6 +34,13 @@ put_unit-in_order-requires c =
     let lt : c.args.kept.id < length c.self.inside.slots.items = subst (λ (b : PlainBoard). c.args.kept.id < b.next_id) (sym c.self.view_is) c.requires.id in
     let many = as_many c.self.inside.slots.items c.self.inside.units.items c.self.invariant.units_in in
     let ok = c.self.inside.units.ok.0 in
+    omega (arith, lt, many, ok)
+
+pub index_mut-requires : goal.index_mut-requires
+index_mut-requires c =
+    let lt : c.args.kept.id < length c.self.inside.slots.items = subst (λ (b : PlainBoard). c.args.kept.id < b.next_id) (sym c.self.view_is) c.requires.id in
+    let many = tags_many c.self.inside.slots.items c.self.inside.tags.items c.self.invariant.tags_in in
+    let ok = c.self.inside.tags.ok.0 in
     omega (arith, lt, many, ok)
 
 pub invariant_of-self-2 : goal.invariant_of-self-2
@@ -51,6 +60,7 @@ invariant_of-self-2 c =
       notes = notes_put (kept_entry c.args.kept) before _ c.self.inside.notes.items _ c.self.invariant.kept.sound c.self.invariant.notes back
           (c.put_if-2.ensures ∙ ap (λ (ms : List ℕ). cond c.is_note.result (id_placed c.args.kept.id ms) ms) c.make_room.ensures.notes_stay
           ∙ ap (λ t. cond t (id_placed c.args.kept.id c.self.inside.notes.items) c.self.inside.notes.items) c.is_note.ensures);
+      tags_in = tags_put c.self.inside.slots.items c.self.inside.tags.items c.args.kept.id c.args.kept.item c.tag_of.result c.self.invariant.tags_in c.tag_of.ensures;
       units_in = subst (λ (us : List ℕ). AreUnitsIn (set c.self.inside.slots.items c.args.kept.id (Some c.args.kept.item)) us) (sym c.put_unit-in_order.ensures.row)
           (units_put c.self.inside.slots.items c.self.inside.units.items c.args.kept.id c.args.kept.item c.self.invariant.units_in);
       rise = c.put_unit-in_order.ensures.rise c.self.invariant.rise;

@@ -12,5 +12,4 @@ invariant-loop-id l = record {
   list : map kept_entry l.items.items ≡ map kept_entry l.fn.items.items ++ taken_to l.unit l.id l.fn.self.items;
   len : vec_len l.items ≡ vec_len l.fn.items + length (taken_to l.unit l.id l.fn.self.items);
   room : vec_capacity l.items ≡ vec_capacity l.fn.items;
-  end : l.id-end ≡ l.fn.self.next_id;
 }

@@ -6,6 +6,7 @@ use Rattle.board_items.proofs.Growing.{no_value}
 use Rattle.board_items.proofs.NetIds.{net_at, place_fits}
 use Rattle.board_items.proofs.Removing.{kept_left, notes_left}
 use Rattle.board_items.proofs.SlotLists.{in_row, absent, emptied, as_long, slot_is, board_left}
+use Rattle.board_items.proofs.TagRows.{tags_emptied}
 use Rattle.board_items.proofs.UnitRows.{units_emptied}
 use Rattle.board_items.proofs.board.Board.take_out.Goals as goal
 
@@ -56,6 +57,7 @@ invariant_of-self c =
           (ap (λ s. present 0 (set c.self.inside.slots.items c.args.id s)) c.take.ensures.after ∙ emptied c.args.id c.self.inside.slots.items lt)
           (c.drop_if-2.ensures ∙ ap (λ t. cond t (filter (λ other. not (nat_eq other c.args.id)) c.self.inside.notes.items) c.self.inside.notes.items) c.is_note-is_note.ensures);
       rise = c.self.invariant.rise;
+      tags_in = tags_emptied c.self.inside.slots.items c.self.inside.tags.items c.args.id c.take.new.self c.self.invariant.tags_in c.take.ensures.after;
       units_in = units_emptied c.self.inside.slots.items c.self.inside.units.items c.args.id c.take.new.self c.self.invariant.units_in c.take.ensures.after;
     }
 

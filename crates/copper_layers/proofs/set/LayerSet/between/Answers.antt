@@ -1,7 +1,7 @@
 use Rattle.std.proofs.Common.{◌≤◌, ℕ, IsTrue, ◌↔◌, min, max, bit_and, sym, subst, ap, arith}
-use Rattle.board_items.specs.Layers.{has_layer, is_within}
-use Rattle.board_items.proofs.LayerLemmas.{mask_fits, mask_is, between_within, between_layers}
-use Rattle.board_items.proofs.layers.LayerSet.between.Goals as goal
+use Rattle.copper_layers.specs.Layers.{has_layer, is_within}
+use Rattle.copper_layers.proofs.LayerLemmas.{mask_fits, mask_is, between_within, between_layers}
+use Rattle.copper_layers.proofs.set.LayerSet.between.Goals as goal
 
 pub overflow_sub-result : goal.overflow_sub-result
 overflow_sub-result c = mask_fits c.min.result c.max.result (omega arith) (omega arith)

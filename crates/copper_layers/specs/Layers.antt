@@ -1,7 +1,7 @@
 -- Copper layers, and sets of them. A board of KiCad has at most 32: F.Cu, In1.Cu to In30.Cu and B.Cu, numbered from 0 in stack order.
 use Rattle.std.specs.Prelude.{ℕ, ◌+◌, ◌-◌, ◌^◌, min, max, ◌==◌, Bool, List, [], ◌∷◌, codes, bit_and, bit_or}
 use Rattle.std.specs.Int.{bit_at}
-use Rattle.board_items.specs.declared.layers.LayerSet.{LayerSet}
+use Rattle.copper_layers.specs.declared.set.LayerSet.{LayerSet}
 
 -- their names, in stack order
 unfoldable pub layer_names : List (List ℕ)

@@ -1,4 +1,4 @@
--- A list of rules has no more rules than its text has bytes.
+-- A rule file, or a list of rules, has no more rules than its text has bytes.
 use Rattle.std.proofs.Common.{◌≡◌, ℕ, ◌≤◌, ◌+◌, List, [], ◌∷◌, ◌++◌, length, Option, Some, None, Result, Ok, Err, refl, sym, subst, ap, ◌∙◌, arith, length-append, codes}
 use Rattle.sexpr_read.specs.declared.place.TextError.{TextError}
 use Rattle.sexpr_read.specs.Tree.{Tree, parts}
@@ -9,9 +9,10 @@ use Rattle.rule_text.specs.declared.error.RuleError.{RuleError}
 use Rattle.rule_text.specs.declared.error.RuleError.TheVariants.{Version, Bad}
 use Rattle.rule_text.specs.Short.{AllShort}
 use Rattle.rule_text.specs.Forms.{◌>>=◌, check, place, text_of, has_head, has_word_head, name_at, clauses}
-use Rattle.rule_text.specs.RulesOf.{PlainRules, PlainDraft, rule_by, blank, is_asked, is_version, no_rules, with_clauses, with_rule, with_rules, rules_of}
+use Rattle.rule_text.specs.RulesOf.{PlainRules, PlainDraft, rule_by, blank, is_asked, is_version, no_rules, with_clauses, with_rule, with_rules, rules_of, file_of}
+use Rattle.rule_text.specs.RuleText.{Says, SaysAfter}
 use Rattle.rule_text.specs.ListText.{behind_one, no_form, nothing_more, list_among, list_of, moved, SaysListAfter, SaysList}
-use Rattle.rule_text.proofs.Shortness.{forms_short, behind_one_few}
+use Rattle.rule_text.proofs.Shortness.{forms_few, forms_short, behind_one_few}
 
 -- where both steps give a value, so does the first
 both_give : {A B : Type 0} (x : Result A RuleError) (f : A → Result B RuleError) (b : B) → (x >>= f) ≡ Ok b → (a : A) × (x ≡ Ok a) × (f a ≡ Ok b)
@@ -90,12 +91,25 @@ unmoved : (by : ℕ) (answer : Result PlainRules RuleError) (rules : PlainRules)
 unmoved by (Ok found) rules h = cc
 unmoved by (Err e) rules h = absurd (cc)
 
+-- ---- texts
+
 module _ (in_order : (text : List ℕ) (t : Tree) → SpellsAll text t → PartsStandBetween text 0 (length text) t) where
-  after : (text : List ℕ) (e : Option TextError) (rules : PlainRules) → length text ≤ 33554432 → SaysListAfter text e (Ok rules) → length rules.rules ≤ 33554432
-  after text (Some e) rules short says = absurd (cc)
-  after text None rules short says =
+  file_after : (text : List ℕ) (e : Option TextError) (rules : PlainRules) → length text ≤ 33554432 → SaysAfter text e (Ok rules) → length rules.rules ≤ 33554432
+  unfolding file_of
+  file_after text (Some e) rules short says = absurd (cc)
+  file_after text None rules short says =
+      let few = forms_few text says.0 (in_order text says.0 says.1) short in
+      let many = of_forms _ (parts says.0) rules (sym says.2) in
+      omega (arith, few, many)
+
+  pub few_in_file : (text : List ℕ) (rules : PlainRules) → length text ≤ 33554432 → Says text (Ok rules) → length rules.rules ≤ 33554432
+  few_in_file text rules short says = file_after text (refusal_of_all text) rules short says
+
+  list_after : (text : List ℕ) (e : Option TextError) (rules : PlainRules) → length text ≤ 33554432 → SaysListAfter text e (Ok rules) → length rules.rules ≤ 33554432
+  list_after text (Some e) rules short says = absurd (cc)
+  list_after text None rules short says =
       here_few (length text) says.0 rules (forms_short text says.0 (in_order text says.0 says.1) short) (sym says.2)
 
   pub few_in_list : (text : List ℕ) (by : ℕ) (rules : PlainRules) → length text ≤ 33554432 → SaysList text by (Ok rules) → length rules.rules ≤ 33554432
   few_in_list text by rules short says =
-      after text (refusal_of_all text) rules short (subst (SaysListAfter text (refusal_of_all text)) (unmoved by says.0 rules says.2) says.1)
+      list_after text (refusal_of_all text) rules short (subst (SaysListAfter text (refusal_of_all text)) (unmoved by says.0 rules says.2) says.1)

@@ -1,7 +1,7 @@
 use Rattle.std.proofs.Common.{ℕ, IsTrue, ◌↔◌, sym, subst}
-use Rattle.board_items.specs.Layers.{has_layer, is_within}
-use Rattle.board_items.proofs.LayerLemmas.{single_is, single_within}
-use Rattle.board_items.proofs.layers.LayerSet.of.Goals as goal
+use Rattle.copper_layers.specs.Layers.{has_layer, is_within}
+use Rattle.copper_layers.proofs.LayerLemmas.{single_is, single_within}
+use Rattle.copper_layers.proofs.set.LayerSet.of.Goals as goal
 
 pub returns-clause-within : goal.returns-clause-within
 returns-clause-within c = λ set.

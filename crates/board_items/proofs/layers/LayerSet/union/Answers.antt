@@ -1,5 +1,0 @@
-use Rattle.board_items.proofs.LayerLemmas.{union_layers}
-use Rattle.board_items.proofs.layers.LayerSet.union.Goals as goal
-
-pub returns-clause-each : goal.returns-clause-each
-returns-clause-each c = union_layers c.args.self c.args.other
