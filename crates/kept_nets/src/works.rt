@@ -30,7 +30,8 @@ fn find_part(alloc: Global, board: &Board, index: &TileIndex, work: &mut Work)
     work.part = part_of(alloc, board, work.net, index).ok();
 }
 
-/// Finds the parts of these nets, by as many threads as there are processors; of a single net without one.
+/// Finds the parts of these nets, by as many threads as there are processors; of a single net without one. Where there is no net, the
+/// system is not asked for its processors.
 pub(crate) fn find_parts(
     rt: &(impl Threads + Sync),
     alloc: Global,
@@ -41,6 +42,9 @@ pub(crate) fn find_parts(
     requires { HoldsItems board.now index.now }
     ensures { AreFound board.now works.old works.new }
 {
+    if works.is_empty() {
+        return;
+    }
     if works.len() == 1 {
         find_part(alloc, board, index, &mut works[0]);
         return;

@@ -6,26 +6,22 @@ use Rattle.std.proofs.lemmas.List.{length-append}
 use Rattle.std.proofs.lemmas.List.Elements.{All-contains, filter_passes}
 use Rattle.std.proofs.lemmas.Bool.{and_from}
 use Rattle.geo_seg.specs.declared.boxes.Bounds.{Bounds}
-use Rattle.geo_seg.specs.Boxes.{IsPartOf, widened}
-use Rattle.board_items.specs.declared.parts.Part.{Part}
+use Rattle.geo_seg.specs.Boxes.{widened}
 use Rattle.board_items.specs.declared.item.Item.{Item}
 use Rattle.board_items.specs.Boards.{PlainBoard}
 use Rattle.board_items.specs.Parts.{parts_of, hole_parts, kind_parts}
-use Rattle.board_items.specs.Extents.{AreBoundsOf}
 use Rattle.board_items.specs.Copper.{CopperMeets}
 use Rattle.geo_seg.specs.Boxes.{BoxesMeet}
 use Rattle.item_copper.proofs.Meeting.{copper_to}
-use Rattle.item_copper.proofs.Rooms.{rooms_meet}
 use Rattle.item_copper.proofs.Symmetry.{copper_meets_back}
 use Rattle.box_index.specs.declared.entry.Entry.{Entry}
 use Rattle.geo_seg.specs.Boxes.{are_near}
 use Rattle.box_index.specs.Tiles.{PlainIndex, IsSound, margin, near_of, is_in, meets_tile, owner_of}
 use Rattle.box_index.proofs.Buckets.{complete}
 use Rattle.net_groups.specs.Touching.{TouchOn}
-use Rattle.net_groups.specs.Classes.{Rises}
-use Rattle.board_index.specs.Holding.{HoldsItems}
 use Rattle.geo_seg.specs.Boxes.{do_boxes_meet}
-use Rattle.net_groups.specs.Asking.{tile_for, asked_in, IsOwn}
+use Rattle.net_groups.specs.Asking.{tile_for, asked_in}
+use Rattle.net_groups.specs.Rooms.{AreRooms, HoldsRooms, IsRoomAt}
 use Rattle.net_groups.proofs.Asked.{asked_contains}
 
 -- ---- touches go both ways
@@ -49,22 +45,6 @@ has_parts a b c none =
     let lt = some.2 in
     let empty = ap length none in
     absurd (omega (arith, length-append a.copper (hole_parts a.hole ++ kind_parts a.what)))
-
--- ---- parts have one box around them
-built : (b c : Bounds) → b.left ≡ c.left → b.top ≡ c.top → b.right ≡ c.right → b.bottom ≡ c.bottom → b ≡ c
-built b c e f g h =
-    ap (λ (z : ℤ). record b { left = z }) e ∙ (ap (λ (z : ℤ). record b { left = c.left; top = z }) f
-    ∙ (ap (λ (z : ℤ). record b { left = c.left; top = c.top; right = z }) g ∙ ap (λ (z : ℤ). record c { bottom = z }) h))
-
-both_parts : (b c : Bounds) → IsPartOf b c → IsPartOf c b → b ≡ c
-both_parts b c h k = built b c (both b.left c.left k.left h.left) (both b.top c.top k.top h.top) (both b.right c.right h.right k.right) (both b.bottom c.bottom h.bottom k.bottom)
-  where
-    both : (x y : ℤ) → x ≤ℤ y → y ≤ℤ x → x ≡ y
-    both x y f g = omega (arith, ints)
-
-one_box : (ps : List Part) (b c : Bounds) → AreBoundsOf ps (Some b) → AreBoundsOf ps (Some c) → b ≡ c
-one_box [] b c h k = absurd (cc)
-one_box (p ∷ ps) b c h k = both_parts b c (h.least c k.holds) (k.least b h.holds)
 
 -- ---- boxes that meet
 int_le_true : (x y : ℤ) → x ≤ℤ y → int_le x y ≡ true
@@ -110,33 +90,22 @@ module _ (index : PlainIndex) (sound : IsSound index) where
   lent_meets tile own c = All-contains (λ (e : Entry). is_in index tile e ≡ true) (near_of index tile) own (filter_passes (is_in index tile) index.entries) c
 
 -- ---- all that a place touches
-some_same : (a b : Item) → Some a ≡ Some b → a ≡ b
-some_same a b e = cc
-
-module _ (board : PlainBoard) (index : PlainIndex) (holds : HoldsItems board index) (sound : IsSound index) where
-  -- the entry of an item with these bounds
-  own_held : (id : ℕ) (own : Entry) (o : IsOwn board id own) → parts_of o.item ≢ [] → Contains index.entries own
-  own_held id own o some =
-      let has = holds.each id o.item o.found some in
-      let same : has.bounds ≡ own.bounds = one_box (parts_of o.item) has.bounds own.bounds has.own o.own in
-      subst (λ (b : Bounds). Contains index.entries (record { id = own.id; bounds = b })) same
-      (subst (λ (n : ℕ). Contains index.entries (record { id = n; bounds = has.bounds })) (sym o.same) has.entry)
-
-  pub asked_somewhere : (id j : ℕ) (own : Entry) → IsOwn board id own → TouchOn board id j → (tile : ℕ) × (meets_tile (widened own.bounds (margin index)) tile ≡ true) × Contains (asked_in index tile own) j
-  asked_somewhere id j own o t =
-      let mine : t.a ≡ o.item = some_same t.a o.item (sym t.first ∙ o.found) in
-      let some : parts_of o.item ≢ [] = subst (λ (a : Item). parts_of a ≢ []) mine (has_parts t.a t.b t.touch.meet) in
-      let theirs = holds.each j t.b t.second (has_parts t.b t.a (copper_meets_back t.a t.b t.touch.meet)) in
-      let other : Entry = record { id = j; bounds = theirs.bounds } in
-      let meets = rooms_meet o.item t.b own.bounds theirs.bounds o.own theirs.own (subst (λ (a : Item). CopperMeets a t.b) mine t.touch.meet) in
+module _ (Step : ℕ → ℕ → Type 0) (ids : List ℕ) (rooms : List Bounds) (index : PlainIndex) (are : AreRooms Step ids rooms) (holds : HoldsRooms rooms index) (sound : IsSound index) (own : Entry) (o : IsRoomAt rooms own) where
+  pub asked_somewhere : (j : ℕ) → j < length ids → Step (get_or ids own.id 0) (get_or ids j 0)
+      → (tile : ℕ) × (meets_tile (widened own.bounds (margin index)) tile ≡ true) × Contains (asked_in ids index tile own) (get_or ids j 0)
+  asked_somewhere j lt s =
+      let inside : own.id < length ids = omega (arith, are.many, o.inside) in
+      let other : Entry = record { id = j; bounds = get_or rooms j own.bounds } in
+      let meets : BoxesMeet own.bounds other.bounds = subst (λ (b : Bounds). BoxesMeet b (get_or rooms j own.bounds)) (o.is own.bounds) (are.meet own.id j own.bounds inside lt s) in
+      let mine : Contains index.entries own = subst (λ (b : Bounds). Contains index.entries (record { id = own.id; bounds = b })) (o.is own.bounds) (holds.each own.id own.bounds o.inside) in
+      let theirs : Contains index.entries other = holds.each j own.bounds (omega (arith, are.many, lt)) in
       let tile = tile_for (margin index) own other in
-      let both = answered index sound own other (own_held id own o some) theirs.entry meets in
-      let asked = and_from (do_boxes_meet own.bounds theirs.bounds) (tile_for (margin index) own other == tile) (meet_true own.bounds theirs.bounds meets) (eq-eqb tile tile refl) in
-      (tile, lent_meets index sound tile own both.0, asked_contains (margin index) tile own (near_of index tile) other both.1.0 both.1.1 both.1.2 asked)
+      let both = answered index sound own other mine theirs meets in
+      let asked = and_from (do_boxes_meet own.bounds other.bounds) (tile_for (margin index) own other == tile) (meet_true own.bounds other.bounds meets) (eq-eqb tile tile refl) in
+      (tile, lent_meets index sound tile own both.0, asked_contains ids (margin index) tile own (near_of index tile) other both.1.0 both.1.1 both.1.2 asked)
 
-  pub covers : (ids : List ℕ) → Rises ids → (place : ℕ) → place < length ids → (own : Entry) → IsOwn board (get_or ids place 0) own → (others : List ℕ)
-      → ((tile : ℕ) → meets_tile (widened own.bounds (margin index)) tile ≡ true → (a : ℕ) → Contains (asked_in index tile own) a → Contains others a)
-      → (j : ℕ) → j < length ids → TouchOn board (get_or ids place 0) (get_or ids j 0) → (j ≡ place) ⊎ Contains others (get_or ids j 0)
-  covers ids rises place inside own o others each j lt t =
-      let w = asked_somewhere (get_or ids place 0) (get_or ids j 0) own o t in
+  pub covers : (others : List ℕ) → ((tile : ℕ) → meets_tile (widened own.bounds (margin index)) tile ≡ true → (a : ℕ) → Contains (asked_in ids index tile own) a → Contains others a)
+      → (j : ℕ) → j < length ids → Step (get_or ids own.id 0) (get_or ids j 0) → (j ≡ own.id) ⊎ Contains others (get_or ids j 0)
+  covers others each j lt s =
+      let w = asked_somewhere j lt s in
       inr (each w.0 w.1 (get_or ids j 0) w.2)

@@ -18,3 +18,5 @@ pub mod Numbers
 pub mod Anchoring
 pub mod AnchorsOf
 pub mod Parts
+pub mod Stretched
+pub mod Held

@@ -5,7 +5,7 @@ use Rattle.std.proofs.lemmas.List.{get_or_default, get_or-take, length-take}
 use Rattle.std.proofs.lemmas.List.Kept.{AllPairs-cons}
 use Rattle.std.proofs.lemmas.List.Elements.{Contains-get_or}
 use Rattle.board_items.specs.declared.item.Item.{Item}
-use Rattle.board_items.specs.Boards.{PlainBoard, Rise, AllAdmitted, is_admitted, item_at, ids_where}
+use Rattle.board_items.specs.Boards.{PlainBoard, IsSound, Rise, AllAdmitted, is_admitted, item_at, ids_where, ids_of_net}
 use Rattle.board_items.proofs.Rising.{rise_ends}
 use Rattle.net_groups.specs.Classes.{Rises}
 use Rattle.net_groups.proofs.Conductors.{contains_here, contains_later, contains_cases, contains_nothing}
@@ -59,6 +59,19 @@ module _ (test : Item → Bool) where
           by_test : (b : Bool) → Contains (ids_where test es) id → Contains (map (λ (x : ℕ × Item). x.0) (cond b (e ∷ filter (λ (x : ℕ × Item). test x.1) es) (filter (λ (x : ℕ × Item). test x.1) es))) id
           by_test true c = contains_later e.0 (ids_where test es) id c
           by_test false c = c
+
+-- ---- how many conductors there are
+filter_few : (p : ℕ → Bool) (ids : List ℕ) → length (filter p ids) ≤ length ids
+filter_few p [] = omega arith
+filter_few p (id ∷ ids) = by (p id) (filter_few p ids)
+  where
+    by : (b : Bool) → length (filter p ids) ≤ length ids → length (cond b (id ∷ filter p ids) (filter p ids)) ≤ length (id ∷ ids)
+    by true less = omega arith
+    by false less = omega arith
+
+pub conductors_few : (board : PlainBoard) (net : ℕ) → IsSound board → (p : ℕ → Bool) (k : ℕ) (ids : List ℕ) → ids ≡ filter p (take k (ids_of_net net board.items)) → length ids < 4294967296
+conductors_few board net sound p k ids e =
+    omega (arith, ap length e, filter_few p (take k (ids_of_net net board.items)), length-take k (ids_of_net net board.items), ids_few (λ item. nat_eq item.net net) board.items, sound.few)
 
 -- ---- items of a board
 pub found_below : (low high : ℕ) (es : List (ℕ × Item)) → Rise low high es → (id : ℕ) (item : Item) → item_at es id ≡ Some item → id < high

@@ -1,36 +1,38 @@
--- The entry of an item.
-use Rattle.std.proofs.Common.{◌≡◌, ℕ, List, [], ◌∷◌, Option, None, Some, refl, sym, subst, ◌∙◌}
+-- Items that touch, and rooms of items.
+use Rattle.std.proofs.Common.{◌≡◌, ◌≢◌, ℕ, ◌+◌, ◌-◌, ◌<◌, ◌∷◌, ◌++◌, length, All, List, [], Option, None, Some, inl, inr, refl, sym, subst, ap, ◌∙◌, length-append}
 use Rattle.geo_seg.specs.declared.boxes.Bounds.{Bounds}
 use Rattle.geo_seg.specs.Boxes.{FitsWithin}
 use Rattle.std.proofs.Common.{ℤ, pos, ◌≤ℤ◌, neg_ℤ, get_or, arith}
 use Rattle.std.proofs.lemmas.Int.{ints}
+use Rattle.std.proofs.lemmas.Bool.{cases_lt}
+use Rattle.std.proofs.lemmas.List.{get_or_append_left, get_or-append_right, length_push}
+use Rattle.std.proofs.lemmas.List.Elements.{All-push}
 use Rattle.board_items.specs.declared.parts.Part.{Part}
 use Rattle.board_items.specs.declared.item.Item.{Item}
 use Rattle.board_items.specs.Boards.{PlainBoard, item_at}
 use Rattle.board_items.specs.Parts.{parts_of}
 use Rattle.board_items.specs.Extents.{AreBoundsOf}
+use Rattle.item_copper.proofs.Rooms.{rooms_meet}
+use Rattle.item_copper.proofs.Symmetry.{copper_meets_back}
 use Rattle.net_groups.specs.Touching.{Touching, TouchOn}
-use Rattle.net_groups.specs.Asking.{IsOwn, IsVisitedWhole}
+use Rattle.box_index.specs.declared.entry.Entry.{Entry}
+use Rattle.net_groups.specs.Rooms.{IsRoom, IsRoomAt, AreRooms}
 use Rattle.net_groups.proofs.Covers.{has_parts}
-use Rattle.net_groups.proofs.Visits.{visited_none}
 
 some_same : (a b : Item) → Some a ≡ Some b → a ≡ b
 some_same a b e = cc
 
-no_parts : (ps : List Part) → AreBoundsOf ps None → ps ≡ []
+pub no_parts : (ps : List Part) → AreBoundsOf ps None → ps ≡ []
 no_parts [] h = refl
 no_parts (p ∷ ps) h = absurd h
 
-pub none_found : (board : PlainBoard) (id : ℕ) → item_at board.items id ≡ None → (j : ℕ) → ¬ (TouchOn board id j)
-none_found board id none j t = let found = t.first in absurd (cc)
+pub room_is : (board : PlainBoard) (id : ℕ) (item : Item) (room : Bounds) → item_at board.items id ≡ Some item → (parts_of item ≢ [] → AreBoundsOf (parts_of item) (Some room)) → IsRoom board id room
+room_is board id item room found own other at some =
+    let same : item ≡ other = some_same item other (sym found ∙ at) in
+    subst (λ (i : Item). AreBoundsOf (parts_of i) (Some room)) same (own (subst (λ (i : Item). parts_of i ≢ []) (sym same) some))
 
-pub none_bounds : (board : PlainBoard) (id : ℕ) (item : Item) → item_at board.items id ≡ Some item → AreBoundsOf (parts_of item) None → (j : ℕ) → ¬ (TouchOn board id j)
-none_bounds board id item found none j t =
-    let same : t.a ≡ item = some_same t.a item (sym t.first ∙ found) in
-    has_parts t.a t.b t.touch.meet (subst (λ (a : Item). parts_of a ≡ []) (sym same) (no_parts (parts_of item) none))
-
-pub own_is : (board : PlainBoard) (id : ℕ) (item : Item) (bounds : Bounds) → item_at board.items id ≡ Some item → AreBoundsOf (parts_of item) (Some bounds) → IsOwn board id (record { id = id; bounds = bounds })
-own_is board id item bounds found own = record { item = item; found = found; same = refl; own = own }
+pub no_item : (board : PlainBoard) (id : ℕ) (room : Bounds) → item_at board.items id ≡ None → IsRoom board id room
+no_item board id room none other at some = absurd (cc)
 
 pub looser : (b : Bounds) → FitsWithin (pos 1500000000) b → FitsWithin (pos 2000000000) b
 looser b h = record {
@@ -48,11 +50,46 @@ looser b h = record {
     up : (z : ℤ) → z ≤ℤ pos 1500000000 → z ≤ℤ pos 2000000000
     up z h = omega (arith, ints)
 
--- what touches nothing needs no visit
-pub visited_nothing : (board : PlainBoard) (ids : List ℕ) (place label : ℕ) (labels : List (Option ℕ)) (stack : List ℕ) → ((j : ℕ) → ¬ (TouchOn board (get_or ids place 0) j)) → IsVisitedWhole (TouchOn board) ids place label labels labels stack stack
-visited_nothing board ids place label labels stack none = record { others = []; visited = visited_none (TouchOn board) ids place label labels stack; covers = λ j lt t. absurd (none (get_or ids j 0) t) }
-
 -- a touch of two items that are known
 pub touching_at : (board : PlainBoard) (i j : ℕ) (a b : Item) → item_at board.items i ≡ Some a → item_at board.items j ≡ Some b → TouchOn board i j → Touching a b
 touching_at board i j a b f g t =
     subst (λ (x : Item). Touching x b) (some_same t.a a (sym t.first ∙ f)) (subst (λ (y : Item). Touching t.a y) (some_same t.b b (sym t.second ∙ g)) t.touch)
+
+-- ---- rooms of ids
+-- the first ids have rooms
+pub record AreRoomsTo (board : PlainBoard) (ids : List ℕ) (count : ℕ) (rooms : List Bounds) : Type 0 where
+  pub many : length rooms ≡ count
+  pub fit : All (λ room. FitsWithin (pos 1500000000) room) rooms
+  pub each : (k : ℕ) (d : Bounds) → k < count → IsRoom board (get_or ids k 0) (get_or rooms k d)
+
+pub rooms_none : (board : PlainBoard) (ids : List ℕ) → AreRoomsTo board ids 0 []
+rooms_none board ids = record { many = refl; fit = λ k d lt. absurd (omega arith); each = λ k d lt. absurd (omega arith) }
+
+pub rooms_more : (board : PlainBoard) (ids : List ℕ) (count : ℕ) (rooms : List Bounds) (room : Bounds) → AreRoomsTo board ids count rooms → FitsWithin (pos 1500000000) room → IsRoom board (get_or ids count 0) room
+    → AreRoomsTo board ids (count + 1) (rooms ++ room ∷ [])
+rooms_more board ids count rooms room so_far fits is = record {
+  many = length_push rooms room ∙ ap (λ n. n + 1) so_far.many;
+  fit = All-push (λ room. FitsWithin (pos 1500000000) room) rooms room so_far.fit fits;
+  each = λ k d lt. elim (cases_lt k count) [
+    | inl less ↦ subst (IsRoom board (get_or ids k 0)) (sym (get_or_append_left rooms (room ∷ []) d k (omega (arith, less, so_far.many)))) (so_far.each k d less)
+    | inr last ↦
+        let here : count ≡ k = omega arith in
+        let zero : k - length rooms ≡ 0 = omega (arith, here, so_far.many) in
+        let at : get_or (rooms ++ room ∷ []) k d ≡ get_or (room ∷ []) (k - length rooms) d = get_or-append_right rooms (room ∷ []) (length rooms) k d refl (omega (arith, here, so_far.many)) in
+        subst (IsRoom board (get_or ids k 0)) (sym (at ∙ ap (λ n. get_or (room ∷ []) n d) zero)) (subst (λ (n : ℕ). IsRoom board (get_or ids n 0) room) here is)
+  ];
+}
+
+-- where two touch their rooms meet
+pub rooms_tell : (board : PlainBoard) (ids : List ℕ) (count : ℕ) (rooms : List Bounds) → count ≡ length ids → AreRoomsTo board ids count rooms → AreRooms (TouchOn board) ids rooms
+rooms_tell board ids count rooms all so_far = record {
+  many = so_far.many ∙ all;
+  fit = so_far.fit;
+  meet = λ i j d hi hj t.
+      rooms_meet t.a t.b (get_or rooms i d) (get_or rooms j d) (so_far.each i d (omega arith) t.a t.first (has_parts t.a t.b t.touch.meet))
+      (so_far.each j d (omega arith) t.b t.second (has_parts t.b t.a (copper_meets_back t.a t.b t.touch.meet))) t.touch.meet;
+}
+
+-- the entry of a place fits an index
+pub room_fits : (rooms : List Bounds) (own : Entry) → All (λ room. FitsWithin (pos 1500000000) room) rooms → IsRoomAt rooms own → FitsWithin (pos 2000000000) own.bounds
+room_fits rooms own fit o = looser own.bounds (subst (FitsWithin (pos 1500000000)) (o.is own.bounds) (fit own.id own.bounds o.inside))

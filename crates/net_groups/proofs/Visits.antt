@@ -1,10 +1,9 @@
 -- A visit of a place, one of the others at a time.
-use Rattle.std.proofs.Common.{◌≡◌, ◌⊎◌, ℕ, ◌+◌, ◌<◌, ◌≤◌, take, List, [], ◌∷◌, ◌++◌, length, get_or, set, Contains, Option, None, Some, inl, inr, refl, sym, subst, ap, ◌∙◌, arith}
-use Rattle.std.specs.List.{concat}
-use Rattle.std.proofs.lemmas.List.{length-set, length_push, take_more, take_all, append-nil, append_assoc}
+use Rattle.std.proofs.Common.{◌≡◌, ◌⊎◌, ℕ, ◌+◌, ◌<◌, ◌≤◌, take, List, [], ◌∷◌, ◌++◌, length, get_or, set, Contains, Option, None, Some, inl, inr, refl, sym, subst, ◌∙◌, arith}
+use Rattle.std.proofs.lemmas.List.{length-set, length_push, length-take, get_or-take, get_or_default, take_more, take_all, append-nil, append_assoc}
 use Rattle.std.proofs.lemmas.List.Elements.{Contains-push, Contains-push_cases, Contains-append_left, Contains-append_cases}
 use Rattle.net_groups.specs.Classes.{Rises}
-use Rattle.net_groups.specs.Labels.{label_at, IsLabelled, IsPassedOver, IsNew, IsVisited}
+use Rattle.net_groups.specs.Labels.{label_at, IsLabelled, IsVisited}
 use Rattle.net_groups.proofs.Marks.{distinct, unlabelled_set, set_here, set_kept, set_cases}
 
 pub visited_none : (Step : ℕ → ℕ → Type 0) (ids : List ℕ) (place label : ℕ) (labels : List (Option ℕ)) (stack : List ℕ) → IsVisited Step ids [] place label labels labels stack stack
@@ -75,18 +74,39 @@ module _ (Step : ℕ → ℕ → Type 0) (ids others : List ℕ) (place label : 
           | inr e ↦ (label, subst (λ (k : ℕ). label_at (set labels q (Some label)) k ≡ Some label) (distinct ids rises q j lt jt (is ∙ e)) (set_here labels q label inside free))
         ]
 
--- ---- the same along a list
-module _ (Step : ℕ → ℕ → Type 0) (ids others : List ℕ) (place label : ℕ) (before labels : List (Option ℕ)) (first stack : List ℕ) (i : ℕ) (lt : i < length others)
-    (v : IsVisited Step ids (take i others) place label before labels first stack) where
-  along : (new_labels : List (Option ℕ)) (new_stack : List ℕ) → IsVisited Step ids (take i others ++ get_or others i 0 ∷ []) place label before new_labels first new_stack → IsVisited Step ids (take (i + 1) others) place label before new_labels first new_stack
-  along new_labels new_stack w = subst (λ (seen : List ℕ). IsVisited Step ids seen place label before new_labels first new_stack) (sym (take_more others i 0 lt)) w
+-- ---- the same along all places
+-- all before the first place have a label
+pub visited_first : (Step : ℕ → ℕ → Type 0) (ids : List ℕ) (place label : ℕ) (labels : List (Option ℕ)) (stack : List ℕ) (first : ℕ) → Rises ids → ((i : ℕ) → i < first → IsLabelled labels i)
+    → IsVisited Step ids (take first ids) place label labels labels stack stack
+visited_first Step ids place label labels stack first rises filled = record {
+  places = refl;
+  balance = refl;
+  kept = λ i x e. e;
+  fresh = λ i x e. inl e;
+  stacked = λ i c. c;
+  pushed = λ i c. inl c;
+  reached = λ j lt c s.
+      let within : c.0 < length (take first ids) = c.1 in
+      let before : c.0 < first = omega (arith, within, length-take first ids) in
+      let inside : c.0 < length ids = omega (arith, within, length-take first ids) in
+      let is : get_or ids c.0 0 ≡ get_or ids j 0 = sym (get_or-take first ids c.0 0 before) ∙ (get_or_default (take first ids) c.0 0 (get_or ids j 0) within ∙ c.2) in
+      subst (IsLabelled labels) (distinct ids rises c.0 j inside lt is) (filled c.0 before);
+}
 
-  pub next_skip : IsPassedOver Step ids labels (get_or ids place 0) (get_or others i 0) → IsVisited Step ids (take (i + 1) others) place label before labels first stack
-  next_skip over = along labels stack (visited_skip Step ids (take i others) place label before labels first stack v (get_or others i 0) over)
+module _ (Step : ℕ → ℕ → Type 0) (ids : List ℕ) (rises : Rises ids) (place label : ℕ) (before labels : List (Option ℕ)) (first stack : List ℕ) (i : ℕ) (lt : i < length ids)
+    (v : IsVisited Step ids (take i ids) place label before labels first stack) where
+  along : (new_labels : List (Option ℕ)) (new_stack : List ℕ) → IsVisited Step ids (take i ids ++ get_or ids i 0 ∷ []) place label before new_labels first new_stack → IsVisited Step ids (take (i + 1) ids) place label before new_labels first new_stack
+  along new_labels new_stack w = subst (λ (seen : List ℕ). IsVisited Step ids seen place label before new_labels first new_stack) (sym (take_more ids i 0 lt)) w
 
-  pub next_push : Rises ids → length labels ≡ length ids → (q : ℕ) → IsNew Step ids labels (get_or ids place 0) (get_or others i 0) q
-      → IsVisited Step ids (take (i + 1) others) place label before (set labels q (Some label)) first (stack ++ q ∷ [])
-  next_push rises many q n = along (set labels q (Some label)) (stack ++ q ∷ []) (visited_push Step ids (take i others) place label before labels first stack v (get_or others i 0) rises q n.inside many n.is n.touch n.free)
+  pub next_skip : (Step (get_or ids place 0) (get_or ids i 0) → IsLabelled labels i) → IsVisited Step ids (take (i + 1) ids) place label before labels first stack
+  next_skip over =
+      along labels stack
+      (visited_skip Step ids (take i ids) place label before labels first stack v (get_or ids i 0)
+      (λ j at same s. subst (IsLabelled labels) (distinct ids rises i j lt at (sym same)) (over s)))
+
+  pub next_push : length labels ≡ length ids → Step (get_or ids place 0) (get_or ids i 0) → label_at labels i ≡ None
+      → IsVisited Step ids (take (i + 1) ids) place label before (set labels i (Some label)) first (stack ++ i ∷ [])
+  next_push many touch free = along (set labels i (Some label)) (stack ++ i ∷ []) (visited_push Step ids (take i ids) place label before labels first stack v (get_or ids i 0) rises i lt many refl touch free)
 
 -- all of a list were asked
 pub visited_all : (Step : ℕ → ℕ → Type 0) (ids others : List ℕ) (place label : ℕ) (before labels : List (Option ℕ)) (first stack : List ℕ) (i : ℕ) → length others ≤ i
@@ -126,11 +146,3 @@ visited_join Step ids others more place label first second third one two three v
       | inl h ↦ let l = v.reached j lt h s in (l.0, w.kept j l.0 l.1)
       | inr h ↦ w.reached j lt h s
     ]
-
--- one list more of several
-pub concat_more : (lists : List (List ℕ)) (k : ℕ) → k < length lists → concat (take (k + 1) lists) ≡ concat (take k lists) ++ get_or lists k []
-concat_more lists k lt = ap concat (take_more lists k [] lt) ∙ concat_push (take k lists) (get_or lists k [])
-  where
-    concat_push : (xs : List (List ℕ)) (x : List ℕ) → concat (xs ++ x ∷ []) ≡ concat xs ++ x
-    concat_push [] x = append-nil x
-    concat_push (y ∷ xs) x = ap (λ (zs : List ℕ). y ++ zs) (concat_push xs x) ∙ sym (append_assoc y (concat xs) x)

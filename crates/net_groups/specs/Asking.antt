@@ -1,15 +1,11 @@
 -- Private words of the search: which pairs are asked for in a tile.
 use Rattle.std.specs.Prelude.{◌≡◌, ℕ, ◌==◌, ◌<◌, ℤ, Bool, true, ◌&&◌, if◌then◌else◌, nat_lt, List, [], ◌∷◌, ◌⊎◌, length, slice_index, Option, Some, Contains, IsTrue}
 use Rattle.geo_seg.specs.Boxes.{do_boxes_meet}
-use Rattle.board_items.specs.declared.item.Item.{Item}
-use Rattle.board_items.specs.Boards.{PlainBoard, item_at}
-use Rattle.board_items.specs.Parts.{parts_of}
-use Rattle.board_items.specs.Extents.{AreBoundsOf}
 use Rattle.box_index.specs.declared.area.Area.{Area}
 use Rattle.box_index.specs.Areas.{has_tile, end_of}
 use Rattle.box_index.specs.declared.entry.Entry.{Entry}
 use Rattle.box_index.specs.Tiles.{PlainIndex, margin, near_of, owner_of}
-use Rattle.net_groups.specs.Labels.{IsNew, IsVisited}
+use Rattle.net_groups.specs.Labels.{IsVisited}
 
 -- the tile that answers for two entries, the one with the lesser id first
 abbrev pub tile_for : ℤ → Entry → Entry → ℕ
@@ -19,25 +15,15 @@ tile_for reach own other = if nat_lt own.id other.id then owner_of reach own.bou
 abbrev pub is_asked : ℤ → ℕ → Entry → Entry → Bool
 is_asked reach tile own other = do_boxes_meet own.bounds other.bounds && (tile_for reach own other == tile)
 
-abbrev pub ids_asked : ℤ → ℕ → Entry → List Entry → List ℕ
-ids_asked reach tile own [] = []
-ids_asked reach tile own (entry ∷ entries) = if is_asked reach tile own entry then entry.id ∷ ids_asked reach tile own entries else ids_asked reach tile own entries
+-- the ids of the places of those of the entries that are asked for
+abbrev pub ids_asked : List ℕ → ℤ → ℕ → Entry → List Entry → List ℕ
+ids_asked ids reach tile own [] = []
+ids_asked ids reach tile own (entry ∷ entries) =
+    if is_asked reach tile own entry then slice_index ids entry.id ∷ ids_asked ids reach tile own entries else ids_asked ids reach tile own entries
 
 -- the ids that are asked for in a tile
-abbrev pub asked_in : PlainIndex → ℕ → Entry → List ℕ
-asked_in index tile own = ids_asked (margin index) tile own (near_of index tile)
-
--- the entry is that of the item of the id, with the item's bounds
-pub record IsOwn (board : PlainBoard) (id : ℕ) (entry : Entry) : Type 0 where
-  pub item : Item
-  pub found : item_at board.items id ≡ Some item
-  pub same : entry.id ≡ id
-  pub own : AreBoundsOf (parts_of item) (Some entry.bounds)
-
--- the other was asked for and is new
-pub record IsAskedNew (Step : ℕ → ℕ → Type 0) (ids : List ℕ) (labels : List (Option ℕ)) (reach : ℤ) (tile : ℕ) (own other : Entry) (place : ℕ) : Type 0 where
-  pub asked : IsTrue (is_asked reach tile own other)
-  pub new : IsNew Step ids labels own.id other.id place
+abbrev pub asked_in : List ℕ → PlainIndex → ℕ → Entry → List ℕ
+asked_in ids index tile own = ids_asked ids (margin index) tile own (near_of index tile)
 
 -- what a visit with some others leaves, where these are all that the place touches
 pub record IsVisitedWhole (Step : ℕ → ℕ → Type 0) (ids : List ℕ) (place label : ℕ) (labels new_labels : List (Option ℕ)) (stack new_stack : List ℕ) : Type 0 where
@@ -50,4 +36,4 @@ pub record IsWalked (Step : ℕ → ℕ → Type 0) (ids : List ℕ) (index : Pl
   pub next : here < end_of area → has_tile area here ≡ true
   pub others : List ℕ
   pub visited : IsVisited Step ids others place label labels new_labels stack new_stack
-  pub each : (tile : ℕ) → tile < here → has_tile area tile ≡ true → (a : ℕ) → Contains (asked_in index tile own) a → Contains others a
+  pub each : (tile : ℕ) → tile < here → has_tile area tile ≡ true → (a : ℕ) → Contains (asked_in ids index tile own) a → Contains others a

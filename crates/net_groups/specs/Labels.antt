@@ -43,17 +43,6 @@ unlabelled (Some x ∷ labels) = unlabelled labels
 abbrev pub IsDone : (ℕ → ℕ → Type 0) → List ℕ → List (Option ℕ) → ℕ → Type 0
 IsDone Step ids labels place = (j : ℕ) → j < length ids → Step (slice_index ids place) (slice_index ids j) → IsLabelled labels j
 
--- where the first id touches the other, the other has a label, if it is one of the ids
-abbrev pub IsPassedOver : (ℕ → ℕ → Type 0) → List ℕ → List (Option ℕ) → ℕ → ℕ → Type 0
-IsPassedOver Step ids labels id other = (j : ℕ) → j < length ids → slice_index ids j ≡ other → Step id other → IsLabelled labels j
-
--- the place is that of the other id, which the first one touches, and has no label
-pub record IsNew (Step : ℕ → ℕ → Type 0) (ids : List ℕ) (labels : List (Option ℕ)) (id other place : ℕ) : Type 0 where
-  pub inside : place < length ids
-  pub is : slice_index ids place ≡ other
-  pub touch : Step id other
-  pub free : label_at labels place ≡ None
-
 -- what a visit of a place leaves, after it has asked the others: those that it touches have a label, and the new ones are on
 -- the stack
 pub record IsVisited (Step : ℕ → ℕ → Type 0) (ids others : List ℕ) (place label : ℕ) (labels new_labels : List (Option ℕ)) (stack new_stack : List ℕ) : Type 0 where

@@ -3,6 +3,8 @@ pub mod Classes
 pub mod Groups
 pub mod Touching
 pub mod Labels
+pub mod Rooms
+pub mod Stretches
 pub mod Asking
 pub mod Anchors
 pub mod Numbering

@@ -1,19 +1,23 @@
 //! Labels: the search that gives each item of a net the number of its group.
 
-ghost use Rattle.std.specs.Prelude.{◌≡◌, ◌+◌, ◌<◌, pos, IsTrue, [], Option, None, Some, IfOk, OnOk, MatchOption, Contains, length, slice_index};
+ghost use Rattle.std.specs.Prelude.{◌≡◌, ◌+◌, ◌<◌, ◌^◌, ℕ, pos, false, IsTrue, [], Option, None, Some, IfOk, IfSome, OnOk, length, slice_index};
 ghost use Rattle.net_groups.specs.Touching.{TouchOn};
 ghost use Rattle.net_groups.specs.Classes.{Rises};
 ghost use Rattle.geo_seg.specs.Boxes.{FitsWithin};
 ghost use Rattle.box_index.specs.Tiles.{margin};
-ghost use Rattle.board_index.specs.Holding.{HoldsItems};
-ghost use Rattle.net_groups.specs.Asking.{is_asked, asked_in, IsOwn, IsAskedNew, IsVisitedWhole};
-ghost use Rattle.net_groups.specs.Labels.{label_at, IsPassedOver, IsNew, IsVisited, AreLabels};
+ghost use Rattle.net_groups.specs.Rooms.{AreRooms, HoldsRooms, IsRoomAt};
+ghost use Rattle.net_groups.specs.Asking.{is_asked, asked_in, IsVisitedWhole};
+ghost use Rattle.net_groups.specs.Labels.{label_at, IsLabelled, IsVisited, AreLabels};
 
-use crate::pairs::{is_asked, own_entry};
+use crate::pairs::is_asked;
+use crate::rooms::Conductors;
+use crate::spreading::{index_of, spread_out};
 use crate::touch::touch_on;
-use board_items::Board;
-use box_index::{Entry, TileIndex};
+use box_index::{Entry, TileIndex, do_boxes_meet};
 use std::alloc::{AllocError, Global};
+
+// So few rooms are each held against all others faster than tiles are made for them.
+const FEW: usize = 256;
 
 /// The label of each place, and how many labels there are.
 #[derive(Drop)]
@@ -22,78 +26,100 @@ pub(crate) struct Labels {
     pub count: usize,
 }
 
-// The place of an id, by halves of the list.
-fn place_of(ids: &[u32], id: u32) -> Option<usize>
-    requires { Rises ids.now }
-    ensures { MatchOption result (¬ (Contains ids.now id)) (λ place. (place < length ids.now) × (slice_index ids.now place ≡ id)) }
+// Whether the other place has no label yet and the place touches it.
+fn newly_touched(net: &Conductors<'_>, labels: &[Option<usize>], place: usize, other: usize) -> bool
+    requires places { length labels.now ≡ length net.now.ids.now }
+    requires place { place < length net.now.ids.now }
+    requires other { other < length net.now.ids.now }
+    ensures touch { IsTrue result → TouchOn net.now.board.now (slice_index net.now.ids.now place) (slice_index net.now.ids.now other) }
+    ensures free { IsTrue result → label_at labels.now other ≡ None }
+    ensures over { result ≡ false → TouchOn net.now.board.now (slice_index net.now.ids.now place) (slice_index net.now.ids.now other) → IsLabelled labels.now other }
 {
-    ids.binary_search(&id).ok()
+    labels[other].is_none() && touch_on(net.board, net.ids[place], net.ids[other])
 }
 
-// The place of the other id where the first id touches it and it has no label yet.
-fn newly_touched(
-    board: &Board,
-    ids: &[u32],
-    labels: &[Option<usize>],
-    id: u32,
-    other: u32,
-) -> Option<usize>
-    requires rises { Rises ids.now }
-    requires places { length labels.now ≡ length ids.now }
-    ensures { MatchOption result (IsPassedOver (TouchOn board.now) ids.now labels.now id other) (IsNew (TouchOn board.now) ids.now labels.now id other) }
+// `newly_touched` where the rooms tell it or leave it open.
+fn newly_met(net: &Conductors<'_>, labels: &[Option<usize>], place: usize, other: usize) -> bool
+    requires rooms { AreRooms (TouchOn net.now.board.now) net.now.ids.now net.now.rooms.now }
+    requires places { length labels.now ≡ length net.now.ids.now }
+    requires place { place < length net.now.ids.now }
+    requires other { other < length net.now.ids.now }
+    ensures touch { IsTrue result → TouchOn net.now.board.now (slice_index net.now.ids.now place) (slice_index net.now.ids.now other) }
+    ensures free { IsTrue result → label_at labels.now other ≡ None }
+    ensures over { result ≡ false → TouchOn net.now.board.now (slice_index net.now.ids.now place) (slice_index net.now.ids.now other) → IsLabelled labels.now other }
 {
-    let place = place_of(ids, other)?;
-    if labels[place].is_none() && touch_on(board, id, other) {
-        Some(place)
-    } else {
-        None
-    }
+    do_boxes_meet(net.rooms[place], net.rooms[other]) && newly_touched(net, labels, place, other)
 }
 
-// `newly_touched` where the pair is asked for in this tile.
-fn newly_asked(
-    board: &Board,
-    ids: &[u32],
-    index: &TileIndex,
-    labels: &[Option<usize>],
-    tile: u32,
-    own: Entry,
-    other: Entry,
-) -> Option<usize>
-    requires rises { Rises ids.now }
-    requires places { length labels.now ≡ length ids.now }
-    requires own { FitsWithin (pos 2000000000) own.bounds }
-    requires other { FitsWithin (pos 2000000000) other.bounds }
-    ensures { MatchOption result (IsTrue (is_asked (margin index.now) tile own other) → IsPassedOver (TouchOn board.now) ids.now labels.now own.id other.id)
-        (IsAskedNew (TouchOn board.now) ids.now labels.now (margin index.now) tile own other) }
-{
-    if is_asked(index, tile, own, other) {
-        newly_touched(board, ids, labels, own.id, other.id)
-    } else {
-        None
-    }
-}
-
-// Labels those of a tile's entries that are asked for there and that the place touches, and puts the new ones on the stack.
-fn visit_tile(
-    board: &Board,
-    ids: &[u32],
-    index: &TileIndex,
-    tile: u32,
-    own: Entry,
+// Labels all that the place touches, and puts the new ones on the stack. Each place before the first has a label.
+fn visit_rooms(
+    net: &Conductors<'_>,
+    first: usize,
     place: usize,
     label: usize,
     labels: &mut [Option<usize>],
     stack: &mut Vec<usize>,
 ) -> Result<(), AllocError>
-    requires rises { Rises ids.now }
-    requires places { length labels.old ≡ length ids.now }
-    requires own_place { slice_index ids.now place ≡ own.id }
+    requires rises { Rises net.now.ids.now }
+    requires rooms { AreRooms (TouchOn net.now.board.now) net.now.ids.now net.now.rooms.now }
+    requires places { length labels.old ≡ length net.now.ids.now }
+    requires place { place < length net.now.ids.now }
+    requires first { (i : ℕ) → i < first → IsLabelled labels.old i }
+    ensures { OnOk result (IsVisitedWhole (TouchOn net.now.board.now) net.now.ids.now place label labels.old labels.new stack.old.items stack.new.items) }
+{
+    for other in first..net.ids.len() {
+        if newly_met(net, labels, place, other) {
+            labels[other] = Some(label);
+            stack.push(other)?;
+        }
+    }
+    Ok(())
+}
+
+// `newly_touched` where the pair is asked for in this tile.
+fn newly_asked(
+    net: &Conductors<'_>,
+    index: &TileIndex,
+    labels: &[Option<usize>],
+    tile: u32,
+    own: Entry,
+    other: Entry,
+) -> bool
+    requires places { length labels.now ≡ length net.now.ids.now }
+    requires own_place { own.id < length net.now.ids.now }
+    requires other_place { other.id < length net.now.ids.now }
     requires own { FitsWithin (pos 2000000000) own.bounds }
-    ensures { OnOk result (IsVisited (TouchOn board.now) ids.now (asked_in index.now tile own) place label labels.old labels.new stack.old.items stack.new.items) }
+    requires other { FitsWithin (pos 2000000000) other.bounds }
+    ensures asked { IsTrue result → IsTrue (is_asked (margin index.now) tile own other) }
+    ensures touch { IsTrue result → TouchOn net.now.board.now (slice_index net.now.ids.now own.id) (slice_index net.now.ids.now other.id) }
+    ensures free { IsTrue result → label_at labels.now other.id ≡ None }
+    ensures over { result ≡ false → IsTrue (is_asked (margin index.now) tile own other) → TouchOn net.now.board.now (slice_index net.now.ids.now own.id) (slice_index net.now.ids.now other.id) → IsLabelled labels.now other.id }
+{
+    is_asked(index, tile, own, other)
+        && newly_touched(net, labels, own.id as usize, other.id as usize)
+}
+
+// Labels those of a tile's entries that are asked for there and that the place touches, and puts the new ones on the stack.
+fn visit_tile(
+    net: &Conductors<'_>,
+    index: &TileIndex,
+    tile: u32,
+    own: Entry,
+    label: usize,
+    labels: &mut [Option<usize>],
+    stack: &mut Vec<usize>,
+) -> Result<(), AllocError>
+    requires holds { HoldsRooms net.now.rooms.now index.now }
+    requires rises { Rises net.now.ids.now }
+    requires many { length net.now.rooms.now ≡ length net.now.ids.now }
+    requires places { length labels.old ≡ length net.now.ids.now }
+    requires place { own.id < length net.now.ids.now }
+    requires own { FitsWithin (pos 2000000000) own.bounds }
+    ensures { OnOk result (IsVisited (TouchOn net.now.board.now) net.now.ids.now (asked_in net.now.ids.now index.now tile own) own.id label labels.old labels.new stack.old.items stack.new.items) }
 {
     for other in index.near(tile) {
-        if let Some(found) = newly_asked(board, ids, index, labels, tile, own, *other) {
+        let found = other.id as usize;
+        if newly_asked(net, index, labels, tile, own, *other) {
             labels[found] = Some(label);
             stack.push(found)?;
         }
@@ -101,113 +127,131 @@ fn visit_tile(
     Ok(())
 }
 
-// Visits a place in each tile that its item meets.
+// Visits a place in each tile that its room meets.
 fn visit_tiles(
-    board: &Board,
-    ids: &[u32],
+    net: &Conductors<'_>,
     index: &TileIndex,
     own: Entry,
-    place: usize,
     label: usize,
     labels: &mut [Option<usize>],
     stack: &mut Vec<usize>,
 ) -> Result<(), AllocError>
-    requires holds { HoldsItems board.now index.now }
-    requires rises { Rises ids.now }
-    requires places { length labels.old ≡ length ids.now }
-    requires place { place < length ids.now }
-    requires entry { IsOwn board.now (slice_index ids.now place) own }
-    requires own { FitsWithin (pos 2000000000) own.bounds }
-    ensures { OnOk result (IsVisitedWhole (TouchOn board.now) ids.now place label labels.old labels.new stack.old.items stack.new.items) }
+    requires holds { HoldsRooms net.now.rooms.now index.now }
+    requires rises { Rises net.now.ids.now }
+    requires rooms { AreRooms (TouchOn net.now.board.now) net.now.ids.now net.now.rooms.now }
+    requires places { length labels.old ≡ length net.now.ids.now }
+    requires own { IsRoomAt net.now.rooms.now own }
+    ensures { OnOk result (IsVisitedWhole (TouchOn net.now.board.now) net.now.ids.now own.id label labels.old labels.new stack.old.items stack.new.items) }
 {
     let area = index.area(own.bounds);
     let end = area.end();
     let mut tile = area.first();
     'tiles: while tile < end {
-        visit_tile(
-            board,
-            ids,
-            index,
-            tile as u32,
-            own,
-            place,
-            label,
-            labels,
-            stack,
-        )?;
+        visit_tile(net, index, tile as u32, own, label, labels, stack)?;
         tile = area.after(tile);
     }
     Ok(())
 }
 
-// Labels all that the place touches, and puts the new ones on the stack.
+// Labels all that the place touches, and puts the new ones on the stack. Each place before the first has a label.
 fn visit(
-    board: &Board,
-    ids: &[u32],
-    index: &TileIndex,
+    net: &Conductors<'_>,
+    index: Option<&TileIndex>,
+    first: usize,
     place: usize,
     label: usize,
     labels: &mut [Option<usize>],
     stack: &mut Vec<usize>,
 ) -> Result<(), AllocError>
-    requires holds { HoldsItems board.now index.now }
-    requires rises { Rises ids.now }
-    requires places { length labels.old ≡ length ids.now }
-    requires place { place < length ids.now }
-    ensures { OnOk result (IsVisitedWhole (TouchOn board.now) ids.now place label labels.old labels.new stack.old.items stack.new.items) }
+    requires holds { IfSome index (λ held. HoldsRooms net.now.rooms.now held.now) }
+    requires rises { Rises net.now.ids.now }
+    requires rooms { AreRooms (TouchOn net.now.board.now) net.now.ids.now net.now.rooms.now }
+    requires few { length net.now.ids.now < 2 ^ 32 }
+    requires places { length labels.old ≡ length net.now.ids.now }
+    requires place { place < length net.now.ids.now }
+    requires first { (i : ℕ) → i < first → IsLabelled labels.old i }
+    ensures { OnOk result (IsVisitedWhole (TouchOn net.now.board.now) net.now.ids.now place label labels.old labels.new stack.old.items stack.new.items) }
 {
-    match own_entry(board, ids[place]) {
-        None => Ok(()),
-        Some(own) => visit_tiles(board, ids, index, own, place, label, labels, stack),
+    match index {
+        None => visit_rooms(net, first, place, label, labels, stack),
+        Some(held) => {
+            let own = Entry {
+                id: place as u32,
+                bounds: net.rooms[place],
+            };
+            visit_tiles(net, held, own, label, labels, stack)
+        }
     }
 }
 
 // Gives the label to all that chains of touches join with the place.
 fn spread(
-    board: &Board,
-    ids: &[u32],
-    index: &TileIndex,
+    net: &Conductors<'_>,
+    index: Option<&TileIndex>,
     start: usize,
     label: usize,
     labels: &mut [Option<usize>],
     stack: &mut Vec<usize>,
 ) -> Result<(), AllocError>
-    requires holds { HoldsItems board.now index.now }
-    requires rises { Rises ids.now }
-    requires labels { AreLabels (TouchOn board.now) ids.now start label labels.old }
-    requires start { start < length ids.now }
+    requires holds { IfSome index (λ held. HoldsRooms net.now.rooms.now held.now) }
+    requires rises { Rises net.now.ids.now }
+    requires rooms { AreRooms (TouchOn net.now.board.now) net.now.ids.now net.now.rooms.now }
+    requires few { length net.now.ids.now < 2 ^ 32 }
+    requires labels { AreLabels (TouchOn net.now.board.now) net.now.ids.now start label labels.old }
+    requires start { start < length net.now.ids.now }
     requires free { label_at labels.old start ≡ None }
     requires empty { stack.old.items ≡ [] }
-    ensures labels { OnOk result (AreLabels (TouchOn board.now) ids.now (start + 1) (label + 1) labels.new) }
+    ensures labels { OnOk result (AreLabels (TouchOn net.now.board.now) net.now.ids.now (start + 1) (label + 1) labels.new) }
     ensures empty { OnOk result (stack.new.items ≡ []) }
 {
     labels[start] = Some(label);
     stack.push(start)?;
     'spreading: while let Some(place) = stack.pop() {
-        visit(board, ids, index, place, label, labels, stack)?;
+        visit(net, index, start, place, label, labels, stack)?;
     }
     Ok(())
 }
 
-/// Labels the places of all groups, in the order of their first places.
-pub(crate) fn label_all(
+// Labels the places of all groups, in the order of their first places. What touches is found by the index, where there is one.
+fn label_all(
     alloc: Global,
-    board: &Board,
-    ids: &[u32],
-    index: &TileIndex,
+    net: &Conductors<'_>,
+    index: Option<&TileIndex>,
 ) -> Result<Labels, AllocError>
-    requires holds { HoldsItems board.now index.now }
-    requires rises { Rises ids.now }
-    ensures { IfOk result (λ found. AreLabels (TouchOn board.now) ids.now (length ids.now) found.count found.labels.items) }
+    requires holds { IfSome index (λ held. HoldsRooms net.now.rooms.now held.now) }
+    requires rises { Rises net.now.ids.now }
+    requires rooms { AreRooms (TouchOn net.now.board.now) net.now.ids.now net.now.rooms.now }
+    requires few { length net.now.ids.now < 2 ^ 32 }
+    ensures { IfOk result (λ found. AreLabels (TouchOn net.now.board.now) net.now.ids.now (length net.now.ids.now) found.count found.labels.items) }
 {
-    let mut labels = vec![in alloc; None; ids.len()]?;
+    let mut labels = vec![in alloc; None; net.ids.len()]?;
     let mut count = 0;
     let mut stack = Vec::new(alloc);
-    for start in 0..ids.len() {
+    for start in 0..net.ids.len() {
         if labels[start].is_none() {
-            spread(board, ids, index, start, count, &mut labels, &mut stack)?;
+            spread(net, index, start, count, &mut labels, &mut stack)?;
             count += 1;
         }
     }
     Ok(Labels { labels, count })
+}
+
+/// Labels the places of all groups, in the order of their first places.
+pub(crate) fn label_groups(alloc: Global, net: &Conductors<'_>) -> Result<Labels, AllocError>
+    requires rises { Rises net.now.ids.now }
+    requires rooms { AreRooms (TouchOn net.now.board.now) net.now.ids.now net.now.rooms.now }
+    requires few { length net.now.ids.now < 2 ^ 32 }
+    ensures { IfOk result (λ found. AreLabels (TouchOn net.now.board.now) net.now.ids.now (length net.now.ids.now) found.count found.labels.items) }
+{
+    if net.ids.len() <= FEW {
+        return label_all(alloc, net, None);
+    }
+    let rooms = spread_out(alloc, net.rooms)?;
+    let index = index_of(alloc, &rooms)?;
+    let wide = Conductors {
+        board: net.board,
+        ids: net.ids,
+        rooms: &rooms,
+    };
+    label_all(alloc, &wide, Some(&index))
 }

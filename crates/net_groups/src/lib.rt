@@ -1,5 +1,5 @@
 //! The groups of a net: its items whose copper touches, joined by chains, and the anchors of those items, where links may end.
-//! Which items are near each other is asked of an index.
+//! Which items are near each other is told by their rooms.
 #![tactic(auto)]
 
 mod anchors_of;
@@ -11,6 +11,9 @@ mod laws;
 mod numbering;
 mod of_net;
 mod pairs;
+mod rooms;
+mod spreading;
+mod stretch;
 mod touch;
 
 pub use anchors_of::anchors;

@@ -1,6 +1,6 @@
 //! The groups of a net.
 
-ghost use Rattle.std.specs.Prelude.{◌≡◌, ◌<◌, IfOk, All, length};
+ghost use Rattle.std.specs.Prelude.{◌≡◌, ◌<◌, ◌^◌, IfOk, All, length};
 ghost use Rattle.board_items.specs.Boards.{IsSound, item_at};
 ghost use Rattle.net_groups.specs.Groups.{AreGroups, IsOnBoard};
 ghost use Rattle.board_index.specs.Holding.{HoldsItems};
@@ -8,7 +8,8 @@ ghost use Rattle.net_groups.specs.Labels.{AreConductors, is_copper};
 
 use crate::gather::gather;
 use crate::group::Group;
-use crate::labels::label_all;
+use crate::labels::label_groups;
+use crate::rooms::{Conductors, rooms_of};
 use board_items::Board;
 use box_index::TileIndex;
 use std::alloc::{AllocError, Global};
@@ -27,6 +28,7 @@ fn has_copper(board: &Board, id: u32) -> bool
 fn conductors(alloc: Global, board: &Board, net: u32) -> Result<Vec<u32>, AllocError>
     ensures sound { IsSound board.now }
     ensures ids { IfOk result (λ ids. AreConductors board.now net ids.items) }
+    ensures few { IfOk result (λ ids. length ids.items < 2 ^ 32) }
 {
     let mut ids = Vec::new(alloc);
     // the board says here that its ids rise
@@ -45,8 +47,9 @@ fn conductors(alloc: Global, board: &Board, net: u32) -> Result<Vec<u32>, AllocE
 /// The groups of a net: all its items with copper, two in one group exactly where a chain of touches joins them.
 ///
 /// Items of one net touch where their copper meets on a layer, and net 0 is no net: it has no groups. Members rise, and
-/// groups stand by their least member. The index holds all items of the board that have
-/// bounds; its reach is of no matter. Only want of memory refuses it.
+/// groups stand by their least member. Up to 256 items are each held against all others, and more are put into tiles of an
+/// index of their own. The index of the board holds all items of the board that have bounds; neither its entries nor its reach
+/// matter to the groups. Only want of memory refuses it.
 pub fn groups(
     alloc: Global,
     board: &Board,
@@ -59,6 +62,12 @@ pub fn groups(
     ensures placed { IfOk result (λ groups. All (All (IsOnBoard board.now)) groups.items) }
 {
     let ids = conductors(alloc, board, net)?;
-    let found = label_all(alloc, board, &ids, index)?;
+    let rooms = rooms_of(alloc, board, &ids)?;
+    let own = Conductors {
+        board,
+        ids: &ids,
+        rooms: &rooms,
+    };
+    let found = label_groups(alloc, &own)?;
     gather(alloc, &ids, &found.labels, found.count)
 }

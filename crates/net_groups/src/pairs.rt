@@ -1,12 +1,10 @@
 //! Which pairs are asked for in a tile, so that each is asked once.
 
-ghost use Rattle.std.specs.Prelude.{◌≡◌, pos, ℕ, MatchOption, IfSome};
+ghost use Rattle.std.specs.Prelude.{◌≡◌, pos};
 ghost use Rattle.geo_seg.specs.Boxes.{FitsWithin};
 ghost use Rattle.box_index.specs.Tiles.{margin};
-ghost use Rattle.net_groups.specs.Touching.{TouchOn};
-ghost use Rattle.net_groups.specs.Asking.{tile_for, is_asked, IsOwn};
+ghost use Rattle.net_groups.specs.Asking.{tile_for, is_asked};
 
-use board_items::Board;
 use box_index::{Entry, TileIndex, do_boxes_meet};
 
 // The tile that answers for two entries.
@@ -29,13 +27,4 @@ pub(crate) fn is_asked(index: &TileIndex, tile: u32, own: Entry, other: Entry) -
     ensures { result ≡ is_asked (margin index.now) tile own other }
 {
     do_boxes_meet(own.bounds, other.bounds) && tile_for(index, own, other) == tile
-}
-
-/// The item's id with its bounds, if it has any. What has none touches nothing.
-pub(crate) fn own_entry(board: &Board, id: u32) -> Option<Entry>
-    ensures entry { MatchOption result ((j : ℕ) → ¬ (TouchOn board.now id j)) (IsOwn board.now id) }
-    ensures fits { IfSome result (λ entry. FitsWithin (pos 2000000000) entry.bounds) }
-{
-    let bounds = board.get(id)?.bounds()?;
-    Some(Entry { id, bounds })
 }

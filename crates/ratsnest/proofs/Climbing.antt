@@ -42,3 +42,15 @@ Mem-insert_cases (z ∷ xs) (suc k) y x h = elim h [
   | inl e ↦ inl (inl e)
   | inr m ↦ elim (Mem-insert_cases xs k y x m) [ inl n ↦ inl (inr n) | inr e ↦ inr e ]
 ]
+
+above_at : {X : Type 0} (key : X → ℕ) (n : ℕ) (xs : List X) → AllAbove key n xs → (j : ℕ) (d : X) → j < length xs → n < key (get_or xs j d)
+above_at key n [] a j d lt = absurd (omega arith)
+above_at key n (x ∷ xs) a zero d lt = a.0
+above_at key n (x ∷ xs) a (suc j) d lt = above_at key n xs a.1 j d (omega arith)
+
+-- what stands before another is below it
+pub climbs_at : {X : Type 0} (key : X → ℕ) (xs : List X) → Climbs key xs → (i j : ℕ) (d : X) → i < j → j < length xs → key (get_or xs i d) < key (get_or xs j d)
+climbs_at key [] c i j d h lt = absurd (omega arith)
+climbs_at key (x ∷ xs) c i zero d h lt = absurd (omega arith)
+climbs_at key (x ∷ xs) c zero (suc j) d h lt = above_at key (key x) xs c.0 j d (omega arith)
+climbs_at key (x ∷ xs) c (suc i) (suc j) d h lt = climbs_at key xs c.1 i j d (omega arith) (omega arith)

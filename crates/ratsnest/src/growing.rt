@@ -3,7 +3,7 @@
 //! Of each anchor that is not reached yet the least link from what is reached is kept. So each two anchors of different groups
 //! are measured once: growing takes the square of the number of anchors in time, and memory linear in it.
 
-ghost use Rattle.std.specs.Prelude.{◌≡◌, ◌<◌, ◌^◌, ◌+◌, ◌-◌, ◌≢◌, ℕ, length, OnOk, slice_index_or, ◌⊎◌, false, IfOk, All, replicate, []};
+ghost use Rattle.std.specs.Prelude.{◌≡◌, ◌<◌, ◌≤◌, ◌^◌, ◌+◌, ◌-◌, ◌≢◌, ℕ, length, OnOk, slice_index_or, ◌⊎◌, false, IfOk, All, replicate, []};
 ghost use Rattle.ratsnest.specs.declared.link.Link.{Link};
 ghost use Rattle.ratsnest.specs.NestOf.{group_at, group_count, Rise, GroupsOccur, IsNest, HasPlaces, IsLeast, JoinAll};
 ghost use Rattle.ratsnest.specs.Grow.{rank, AreChosen, IsGrown, IsFirst};
@@ -21,6 +21,26 @@ use std::alloc::{AllocError, Global};
 // So many anchors are joined faster by growing one group, which needs no tree.
 const FEW: usize = 500;
 
+// The place of a link in the order, found by halves.
+fn place_for(links: &[Link], link: Link) -> usize
+    requires { Climbs rank links.now }
+    ensures within { result ≤ length links.now }
+    ensures below { (k : ℕ) (d : Link) → k < result → rank (slice_index_or links.now k d) < rank link }
+    ensures stop { (d : Link) → result < length links.now → rank link ≤ rank (slice_index_or links.now result d) }
+{
+    let mut low = 0;
+    let mut high = links.len();
+    'halves: while low < high {
+        let middle = low + (high - low) / 2;
+        if precedes(links[middle], link) {
+            low = middle + 1;
+        } else {
+            high = middle;
+        }
+    }
+    low
+}
+
 // Puts a link where it belongs in the order.
 fn add_link(links: &mut Vec<Link>, link: Link) -> Result<(), AllocError>
     requires climbs { Climbs rank links.old.items }
@@ -30,10 +50,7 @@ fn add_link(links: &mut Vec<Link>, link: Link) -> Result<(), AllocError>
     ensures whole { OnOk result ((l : Link) → (Mem l links.old.items ⊎ (l ≡ link)) → Mem l links.new.items) }
     ensures sound { OnOk result ((l : Link) → Mem l links.new.items → Mem l links.old.items ⊎ (l ≡ link)) }
 {
-    let mut place = 0;
-    while place < links.len() && precedes(links[place], link) {
-        place += 1;
-    }
+    let place = place_for(links, link);
     links.insert(place, link)?;
     Ok(())
 }

@@ -15,7 +15,7 @@ loop-start-preserved c = elim c.if-is_none.branch [
   | else-is_none w ↦
       rw (w.labels-is, w.count-is, w.stack-is)
       (record {
-        labels = labels_same (TouchOn c.args.board.now) c.args.ids.now c.loop-start.start c.loop-start.count c.loop-start.labels.items
+        labels = labels_same (TouchOn c.args.net.now.board.now) c.args.net.now.ids.now c.loop-start.start c.loop-start.count c.loop-start.labels.items
             (read_label c.loop-start.labels.items c.loop-start.start c.index.result.now (let many = c.loop-start.invariant.labels.places in omega arith) c.index.ensures c.is_none.result c.is_none.ensures w.if-is_none.false)
             c.loop-start.invariant.labels;
         empty = c.loop-start.invariant.empty;
@@ -24,5 +24,5 @@ loop-start-preserved c = elim c.if-is_none.branch [
 
 pub returns : goal.returns
 returns c =
-    let last : c.loop-start.start ≡ length c.args.ids.now = omega arith in
-    subst (λ (gone : ℕ). AreLabels (TouchOn c.args.board.now) c.args.ids.now gone c.loop-start.count c.loop-start.labels.items) last c.loop-start.invariant.labels
+    let last : c.loop-start.start ≡ length c.args.net.now.ids.now = omega arith in
+    subst (λ (gone : ℕ). AreLabels (TouchOn c.args.net.now.board.now) c.args.net.now.ids.now gone c.loop-start.count c.loop-start.labels.items) last c.loop-start.invariant.labels

@@ -6,4 +6,4 @@ use Rattle.net_groups.specs.Asking.{ids_asked}
 use Rattle.net_groups.proofs.labels.visit_tile.Given as goal
 
 abbrev pub invariant-loop-other : goal.invariant-loop-other
-invariant-loop-other l = IsVisited (TouchOn l.board) l.ids (ids_asked (margin l.index) l.tile l.own (take l.other-index l.other-items)) l.place l.label l.fn.labels l.labels l.fn.stack.items l.stack.items
+invariant-loop-other l = IsVisited (TouchOn l.net.board.now) l.net.ids.now (ids_asked l.net.ids.now (margin l.index) l.tile l.own (take l.other-index l.other-items)) l.own.id l.label l.fn.labels l.labels l.fn.stack.items l.stack.items

@@ -1,0 +1,5 @@
+use Rattle.net_groups.proofs.Held.{HoldsTo}
+use Rattle.net_groups.proofs.spreading.index_of.Given as goal
+
+abbrev pub invariant-loop-place : goal.invariant-loop-place
+invariant-loop-place l = HoldsTo l.rooms l.place l.index

@@ -1,0 +1,113 @@
+//! Rooms of one net, spread over all tiles of an index of their own.
+
+ghost use Rattle.std.specs.Prelude.{◌≡◌, ◌<◌, ◌^◌, ◌≤ℤ◌, pos, neg_ℤ, All, IfOk, length};
+ghost use Rattle.geo_seg.specs.Boxes.{FitsWithin};
+ghost use Rattle.net_groups.specs.Rooms.{AreSpread, HoldsRooms};
+ghost use Rattle.net_groups.specs.Stretches.{stretched};
+
+use crate::stretch::Stretch;
+use box_index::TileIndex;
+use geo_seg::Bounds;
+use std::alloc::{AllocError, Global};
+
+// The least box around all rooms, or one that is empty.
+fn around(rooms: &[Bounds]) -> Bounds {
+    let mut all = Bounds {
+        left: 1_500_000_000,
+        top: 1_500_000_000,
+        right: -1_500_000_000,
+        bottom: -1_500_000_000,
+    };
+    for room in rooms {
+        all = Bounds {
+            left: all.left.min(room.left),
+            top: all.top.min(room.top),
+            right: all.right.max(room.right),
+            bottom: all.bottom.max(room.bottom),
+        };
+    }
+    all
+}
+
+// About the middle of a range.
+fn middle(low: i64, high: i64) -> i64
+    ensures from { neg_ℤ (pos 1500000000) ≤ℤ result }
+    ensures to { result ≤ℤ pos 1500000000 }
+{
+    (low.saturating_add(high) / 2)
+        .min(1_500_000_000)
+        .max(-1_500_000_000)
+}
+
+// How often a box of this size goes into the tiles, from 1 to 1,000 times.
+fn times_in(size: i64) -> i64
+    ensures from { pos 1 ≤ℤ result }
+    ensures to { result ≤ℤ pos 1000 }
+{
+    (2_000_000_000 / size.max(1)).min(1_000).max(1)
+}
+
+// What spreads the rooms over the tiles.
+fn stretch_for(rooms: &[Bounds]) -> Stretch {
+    let all = around(rooms);
+    let wide = all.right.saturating_sub(all.left);
+    let high = all.bottom.saturating_sub(all.top);
+    Stretch {
+        x: middle(all.left, all.right),
+        y: middle(all.top, all.bottom),
+        times: times_in(wide.max(high)),
+    }
+}
+
+// A room that was moved and stretched, but not farther than to the edge.
+fn stretched(stretch: Stretch, room: Bounds) -> Bounds
+    requires { FitsWithin (pos 1500000000) room }
+    ensures { result ≡ stretched stretch room }
+{
+    Bounds {
+        left: (stretch.times * (room.left - stretch.x))
+            .min(1_500_000_000)
+            .max(-1_500_000_000),
+        top: (stretch.times * (room.top - stretch.y))
+            .min(1_500_000_000)
+            .max(-1_500_000_000),
+        right: (stretch.times * (room.right - stretch.x))
+            .min(1_500_000_000)
+            .max(-1_500_000_000),
+        bottom: (stretch.times * (room.bottom - stretch.y))
+            .min(1_500_000_000)
+            .max(-1_500_000_000),
+    }
+}
+
+fn stretch_all(alloc: Global, stretch: Stretch, rooms: &[Bounds]) -> Result<Vec<Bounds>, AllocError>
+    requires { All (λ room. FitsWithin (pos 1500000000) room) rooms.now }
+    ensures { IfOk result (λ wide. AreSpread rooms.now wide.items) }
+{
+    let mut wide = Vec::with_capacity(alloc, rooms.len())?;
+    for room in rooms {
+        wide.push(stretched(stretch, *room))?;
+    }
+    Ok(wide)
+}
+
+/// The rooms, moved and stretched so that they lie in as many tiles as may be. Those that met still do.
+pub(crate) fn spread_out(alloc: Global, rooms: &[Bounds]) -> Result<Vec<Bounds>, AllocError>
+    requires { All (λ room. FitsWithin (pos 1500000000) room) rooms.now }
+    ensures { IfOk result (λ wide. AreSpread rooms.now wide.items) }
+{
+    stretch_all(alloc, stretch_for(rooms), rooms)
+}
+
+/// An index of the rooms by their places.
+pub(crate) fn index_of(alloc: Global, rooms: &[Bounds]) -> Result<TileIndex, AllocError>
+    requires few { length rooms.now < 2 ^ 32 }
+    requires fit { All (λ room. FitsWithin (pos 1500000000) room) rooms.now }
+    ensures { IfOk result (HoldsRooms rooms.now) }
+{
+    let mut index = TileIndex::new(alloc, 0)?;
+    for place in 0..rooms.len() {
+        index.insert(place as u32, rooms[place])?;
+    }
+    Ok(index)
+}
