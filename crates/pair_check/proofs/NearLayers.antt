@@ -6,7 +6,7 @@ use Rattle.drc_io.specs.Lengths.{IsLength}
 use Rattle.int_algebra.proofs.Scalars.{passed, passed_length}
 use Rattle.item_copper.proofs.Gaps.{gap_same}
 use Rattle.geo_seg.specs.Distances.{IsGap}
-use Rattle.board_items.specs.declared.layers.LayerSet.{LayerSet}
+use Rattle.copper_layers.specs.declared.set.LayerSet.{LayerSet}
 use Rattle.board_items.specs.declared.item.Item.{Item}
 use Rattle.board_items.specs.Copper.{SomeMeet, Keeps}
 use Rattle.cond_lang.specs.declared.kind.Kind.{Kind}

@@ -1,6 +1,6 @@
 -- The layers of a board in their order, and the first of which something holds.
 use Rattle.std.proofs.Common.{◌≡◌, ◌⊎◌, inl, inr, refl, sym, ap, subst, ◌∙◌, ℕ, zero, suc, ◌+◌, ◌<◌, ◌≤◌, arith}
-use Rattle.board_items.specs.declared.layers.LayerSet.{LayerSet}
+use Rattle.copper_layers.specs.declared.set.LayerSet.{LayerSet}
 use Rattle.pair_check.specs.declared.layer.RowLayer.{RowLayer}
 use Rattle.pair_check.specs.declared.layer.RowLayer.TheVariants.{Copper, FrontYard, BackYard, Nowhere}
 use Rattle.pair_check.specs.Layers.{rank, IsTried, IsFirst}

@@ -1,8 +1,8 @@
 -- The layers on which a kind is tried, in their order: the copper layers of the board from front to back, then the courtyards of the
 -- front and of the back, then none. The first on which something is broken is that of the row.
 use Rattle.std.specs.Prelude.{ℕ, ◌<◌, IsTrue, Option, None, Some}
-use Rattle.board_items.specs.declared.layers.LayerSet.{LayerSet}
-use Rattle.board_items.specs.Layers.{has_layer}
+use Rattle.copper_layers.specs.declared.set.LayerSet.{LayerSet}
+use Rattle.copper_layers.specs.Layers.{has_layer}
 use Rattle.pair_check.specs.declared.layer.RowLayer.{RowLayer}
 use Rattle.pair_check.specs.declared.layer.RowLayer.TheVariants.{Copper, FrontYard, BackYard, Nowhere}
 

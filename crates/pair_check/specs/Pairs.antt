@@ -1,7 +1,7 @@
 -- What two items of a board break.
 use Rattle.std.specs.Prelude.{◌≡◌, pos, false, IsTrue, List, Some}
 use Rattle.geo_seg.specs.Distances.{IsGap}
-use Rattle.board_items.specs.declared.layers.LayerSet.{LayerSet}
+use Rattle.copper_layers.specs.declared.set.LayerSet.{LayerSet}
 use Rattle.board_items.specs.declared.item.Item.{Item}
 use Rattle.net_class.specs.Classes.{PlainMins}
 use Rattle.cond_lang.specs.declared.kind.Kind.{Kind}

@@ -1,8 +1,8 @@
 //! On which layers two items can face each other. Layers are looked at, and no shapes.
 
 ghost use Rattle.std.specs.Prelude.{◌≡◌, ◌⊎◌, ◌<◌, ◌≤◌, ℕ, IsTrue, false, []};
-ghost use Rattle.board_items.specs.declared.layers.LayerSet.{LayerSet};
-ghost use Rattle.board_items.specs.Layers.{has_layer};
+ghost use Rattle.copper_layers.specs.declared.set.LayerSet.{LayerSet};
+ghost use Rattle.copper_layers.specs.Layers.{has_layer};
 ghost use Rattle.board_items.specs.Parts.{hole_parts};
 ghost use Rattle.rule_pick.specs.FactsOf.{SomeOn};
 ghost use Rattle.pair_check.specs.declared.layer.RowLayer.{RowLayer};
@@ -11,8 +11,9 @@ ghost use Rattle.pair_check.specs.Facing.{facing, copper_on, hole_on, lines_of};
 ghost use Rattle.pair_check.specs.Sides.{IsUnfaced, FaceWithin};
 
 use crate::places::{Places, places_of};
-use board_items::{Hole, Item, LayerSet, Part, What};
+use board_items::{Hole, Item, Part, What};
 use cond_lang::Kind;
+use copper_layers::LayerSet;
 
 /// The layers of all the parts.
 pub(crate) fn layers_of(parts: &[Part]) -> LayerSet

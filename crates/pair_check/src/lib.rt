@@ -25,7 +25,7 @@ use cond_lang::Rule;
 pub use found::Single;
 pub use layer::RowLayer;
 use net_class::Classes;
-pub use pair::{test_beside, test_pair};
+pub use pair::{test_pair, test_two};
 pub use pair_rows::PairRows;
 pub use row::Row;
 use rule_pick::FactsById;

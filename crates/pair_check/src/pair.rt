@@ -1,6 +1,6 @@
 //! What two items break.
 
-ghost use Rattle.std.specs.Prelude.{◌≡◌, ◌≢◌, ◌⊎◌, ◌↔◌, ◌+◌, ◌<◌, ◌≤◌, ℕ, IsTrue, IsSome, length, MatchOption};
+ghost use Rattle.std.specs.Prelude.{◌≡◌, ◌≢◌, ◌⊎◌, ◌↔◌, ◌+◌, ◌<◌, ◌≤◌, ℕ, IsTrue, IsSome, [], length, MatchOption};
 ghost use Rattle.drc_io.specs.Lengths.{IsLength};
 ghost use Rattle.geo_seg.specs.Distances.{IsGap};
 ghost use Rattle.board_items.specs.Boards.{item_at};
@@ -29,8 +29,9 @@ use crate::row::{Row, counts};
 use crate::single::single_at;
 use crate::steps::Steps;
 use crate::view::CheckView;
-use board_items::{Item, LayerSet, Nm};
+use board_items::{Item, Nm};
 use cond_lang::{Kind, Severity};
+use copper_layers::LayerSet;
 use rule_pick::{Source, pick};
 use std::alloc::Global;
 use std::sync::ledger::Ledger;
@@ -278,40 +279,24 @@ fn add_keepout(view: &CheckView, first: u32, second: u32, pair: Pair<'_>, rows: 
     }
 }
 
-// The rows of the pair.
-fn rows_of(
-    alloc: Global,
+// The rows of the pair, in a list that had none.
+fn add_all(
     view: &CheckView,
     asked: Asked,
     first: u32,
     second: u32,
     pair: Pair<'_>,
-) -> PairRows
+    rows: &mut PairRows,
+)
     requires few { length view.now.rules.now < 4294967295 }
     requires asked { IsNoteOf (deciders (checked_by view.now)) asked }
     requires ordered { first < second }
-    ensures { AreRowsWhere (IsOfPair (deciders (checked_by view.now)) (pair_of pair.entry) first second) result }
+    requires none { rows.old ≡ [] }
+    ensures { AreRowsWhere (IsOfPair (deciders (checked_by view.now)) (pair_of pair.entry) first second) rows.new }
 {
-    let mut rows = PairRows::new(alloc);
-    add_of_nets(view, asked, first, second, pair, &mut rows);
-    add_near(
-        view,
-        asked,
-        Kind::HoleToHole,
-        first,
-        second,
-        pair,
-        &mut rows,
-    );
-    add_near(
-        view,
-        asked,
-        Kind::EdgeClearance,
-        first,
-        second,
-        pair,
-        &mut rows,
-    );
+    add_of_nets(view, asked, first, second, pair, rows);
+    add_near(view, asked, Kind::HoleToHole, first, second, pair, rows);
+    add_near(view, asked, Kind::EdgeClearance, first, second, pair, rows);
     add_near(
         view,
         asked,
@@ -319,9 +304,9 @@ fn rows_of(
         first,
         second,
         pair,
-        &mut rows,
+        rows,
     );
-    add_keepout(view, first, second, pair, &mut rows);
+    add_keepout(view, first, second, pair, rows);
     add_near(
         view,
         asked,
@@ -329,7 +314,7 @@ fn rows_of(
         first,
         second,
         pair,
-        &mut rows,
+        rows,
     );
     add_near(
         view,
@@ -338,42 +323,36 @@ fn rows_of(
         first,
         second,
         pair,
-        &mut rows,
+        rows,
     );
-    rows
 }
 
-/// As `test_pair`, where the first item is at hand, and what the board and the rules ask for. It takes one step, and no memory.
-pub fn test_beside<L: Ledger>(
-    alloc: Global,
+/// As `test_pair`, where both items are at hand, with what the board and the rules ask for. What the list had before goes. It takes
+/// no step, and no memory.
+pub fn test_two(
     view: &CheckView,
     asked: Asked,
     first: u32,
     one: Single<'_>,
     second: u32,
-    steps: &mut Steps<L>,
-) -> PairRows
+    other: Single<'_>,
+    rows: &mut PairRows,
+)
     requires view { IsWhole view.now }
     requires asked { IsNoteOf (deciders (checked_by view.now)) asked }
     requires ordered { first < second }
     requires first { Stands (checked_by view.now) first one.item.now one.facts.now }
-    requires second { IsSome (item_at (checked_by view.now).board.items second) }
-    ensures rows { AreRowsOfPair (checked_by view.now) first second result }
-    ensures step { steps.new ≡ steps.old + 1 }
+    requires second { Stands (checked_by view.now) second other.item.now other.facts.now }
+    ensures { AreRowsOfPair (checked_by view.now) first second rows.new }
 {
-    steps.tick();
-    match single_at(view, second) {
-        Some(other) => {
-            let pair = Pair {
-                a: one.item,
-                b: other.item,
-                facts_a: one.facts,
-                facts_b: other.facts,
-            };
-            rows_of(alloc, view, asked, first, second, pair)
-        }
-        None => PairRows::new(alloc),
-    }
+    let pair = Pair {
+        a: one.item,
+        b: other.item,
+        facts_a: one.facts,
+        facts_b: other.facts,
+    };
+    rows.clear();
+    add_all(view, asked, first, second, pair, rows);
 }
 
 /// All rows of a pair of items, the one with the lesser id first, by rising kinds. It takes one step, and no memory.
@@ -395,11 +374,10 @@ pub fn test_pair<L: Ledger>(
     ensures rows { AreRowsOfPair (checked_by view.now) first second result }
     ensures step { steps.new ≡ steps.old + 1 }
 {
-    match single_at(view, first) {
-        Some(one) => test_beside(alloc, view, ANYTHING, first, one, second, steps),
-        None => {
-            steps.tick();
-            PairRows::new(alloc)
-        }
+    steps.tick();
+    let mut rows = PairRows::new(alloc);
+    if let (Some(one), Some(other)) = (single_at(view, first), single_at(view, second)) {
+        test_two(view, ANYTHING, first, one, second, other, &mut rows);
     }
+    rows
 }

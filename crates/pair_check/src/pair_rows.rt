@@ -46,13 +46,20 @@ impl Model for PairRows {
 }
 
 impl PairRows {
-    // No rows. It takes no memory.
-    pub(crate) fn new(alloc: Global) -> PairRows
+    /// No rows. It takes no memory.
+    pub fn new(alloc: Global) -> PairRows
         ensures { result ≡ [] }
     {
         PairRows {
             list: SmallVec::new(alloc),
         }
+    }
+
+    // Takes all rows out. It takes no memory.
+    pub(crate) fn clear(&mut self)
+        ensures { self.new ≡ [] }
+    {
+        self.list.clear();
     }
 
     // Appends a row, which has a place. It takes no memory.

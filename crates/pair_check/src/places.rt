@@ -6,8 +6,8 @@ ghost use Rattle.pair_check.specs.PlainRow.{IsLayerOf};
 ghost use Rattle.pair_check.specs.Layers.{rank, IsTried};
 
 use crate::layer::RowLayer;
-use board_items::LayerSet;
 use cond_lang::Kind;
+use copper_layers::LayerSet;
 
 /// Places in the order of layers, from the one to before the other.
 #[derive(Clone, Copy)]

@@ -24,8 +24,9 @@ use crate::pair_rows::PairRows;
 use crate::places::{Places, places_of, tried_at};
 use crate::row::{Row, counts};
 use crate::view::CheckView;
-use board_items::{Item, LayerSet, Nm, Part, What};
+use board_items::{Item, Nm, Part, What};
 use cond_lang::{Disallow, Kind};
+use copper_layers::LayerSet;
 use rule_pick::{Picked, pick};
 use std::alloc::Global;
 

@@ -8,7 +8,7 @@ use Rattle.board_items.specs.declared.item.Hole.{Hole}
 use Rattle.board_items.specs.declared.item.What.{What}
 use Rattle.board_items.specs.declared.item.What.TheVariants.{Track, Via, Pad, Graphic, Fill, Edge, Area, Body, Note}
 use Rattle.board_items.specs.declared.item.Item.{Item}
-use Rattle.board_items.specs.Layers.{has_layer}
+use Rattle.copper_layers.specs.Layers.{has_layer}
 use Rattle.board_items.specs.Copper.{on_layer, SomeMeet, Keeps}
 use Rattle.board_items.specs.Parts.{parts_of, hole_parts, kind_parts}
 use Rattle.cond_lang.specs.declared.kind.Kind.{Kind}

@@ -1,11 +1,12 @@
 -- The walk over the others of an entry: from each for which the tile answers to the next.
-use Rattle.std.proofs.Common.{◌≡◌, ◌∙◌, ap, sym, subst, refl, ℕ, pos, ◌+◌, ◌<◌, ◌≤◌, List, [], ◌∷◌, ◌++◌, map, cond, length, false, arith}
+use Rattle.std.proofs.Common.{◌≡◌, ◌∙◌, ap, sym, subst, refl, ℕ, pos, ◌+◌, ◌<◌, ◌≤◌, List, [], ◌∷◌, ◌++◌, map, cond, length, false, Option, None, Some, IsSome, arith}
 use Rattle.std.specs.List.{filter, All, AllPairs}
 use Rattle.std.proofs.lemmas.List.{append-nil, append_assoc, length-append, nil_from_length}
 use Rattle.std.proofs.lemmas.List.Elements.{All-cons, All-head, All-tail, filter-append}
 use Rattle.std.proofs.lemmas.List.Kept.{AllPairs-cons}
 use Rattle.geo_seg.specs.declared.boxes.Bounds.{Bounds}
 use Rattle.geo_seg.specs.Boxes.{FitsWithin}
+use Rattle.board_items.specs.declared.item.Item.{Item}
 use Rattle.box_index.specs.declared.entry.Entry.{Entry}
 use Rattle.box_index.specs.Tiles.{PlainIndex, IsRising}
 use Rattle.box_index.proofs.EntryLists.{pairs_first, pairs_rest}
@@ -65,6 +66,15 @@ module _ (index : PlainIndex) (tile : ℕ) (a : Entry) where
 -- nothing is tested where there is no pair
 pub none_at_all : (c : Checked) (pairs : List Pair) (rows : List PlainRow) → pairs ≡ [] → HasMore (AreRowsOfPairs c pairs) rows rows
 none_at_all c pairs rows e = record { more = []; is = sym (append-nil rows); pass = subst (λ ps. AreRowsOfPairs c ps []) (sym e) (no_pairs c) }
+
+-- what stands on the board has an item
+pub not_there : (o : Option Item) → o ≡ None → IsSome o → ⊥
+not_there None e h = cc
+not_there (Some x) e h = cc
+
+-- the rows of a pair, by the ids of its entries
+pub of_ids : (c : Checked) (i j k l : ℕ) (old new : List PlainRow) → i ≡ k → j ≡ l → HasMore (AreRowsOfPair c i j) old new → HasMore (AreRowsOfPair c k l) old new
+of_ids c i j k l old new e f h = subst (λ m. HasMore (AreRowsOfPair c m l) old new) e (subst (λ m. HasMore (AreRowsOfPair c i m) old new) f h)
 
 -- how far the walk has come
 pub record IsPushedTo (c : Checked) (index : PlainIndex) (tile : ℕ) (a : Entry) (boxes : List Bounds) (others left : List Entry) (old now : List PlainRow) (start steps : ℕ) : Type 0 where

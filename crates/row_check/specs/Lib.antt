@@ -2,3 +2,4 @@ pub mod Tiles
 pub mod Walks
 pub mod Blocks
 pub mod Whole
+pub mod Hands

@@ -5,6 +5,7 @@
 #![tactic(auto)]
 
 mod blocks;
+mod hands;
 pub mod laws;
 pub mod near;
 pub mod order;

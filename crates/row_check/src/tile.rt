@@ -1,31 +1,35 @@
 //! The rows of a tile.
 
-ghost use Rattle.std.specs.Prelude.{◌≡◌, ◌+◌, ◌<◌, ◌≤◌, ◌∷◌, pos, Bool, IsSome, All, length, filter, IfOk, OnOk};
+ghost use Rattle.std.specs.Prelude.{◌≡◌, ◌+◌, ◌<◌, ◌≤◌, ◌∷◌, pos, Bool, All, length, filter, IfOk, OnOk};
 ghost use Rattle.std.specs.List.Sorted.{IsStrictlyIncreasing};
 ghost use Rattle.geo_seg.specs.Boxes.{FitsWithin};
-ghost use Rattle.board_items.specs.Boards.{item_at};
 ghost use Rattle.box_index.specs.declared.entry.Entry.{Entry};
 ghost use Rattle.box_index.specs.Tiles.{IsRising};
 ghost use Rattle.pair_check.specs.Asked.{IsNoteOf};
-ghost use Rattle.pair_check.specs.Rows.{deciders, Stands, AreRowsOfPair};
+ghost use Rattle.pair_check.specs.Rows.{deciders, AreRowsOfPair};
 ghost use Rattle.pair_check.specs.Views.{checked_by, IsWhole};
 ghost use Rattle.row_check.specs.Blocks.{AreBlocks, StartsOwned};
+ghost use Rattle.row_check.specs.Hands.{StandsAt};
 ghost use Rattle.row_check.specs.Tiles.{IsIndexOf, AreRowsOfTile, is_changed, most_steps};
 ghost use Rattle.row_check.specs.Walks.{is_owned, partners_of, pairs_with, IsEndOf, IsOn, AreRowsOfPairs, HasMore};
 
 use crate::blocks::{BLOCK, boxes_of, is_far};
+use crate::hands::{Hand, hand_at, hand_of, hands_of};
 use box_index::{Entry, TileIndex};
 use geo_seg::Bounds;
-use pair_check::{Asked, CheckView, Row, Single, Steps, single_at, test_beside};
+use pair_check::{Asked, CheckView, PairRows, Row, Steps, test_two};
 use std::alloc::{AllocError, Global};
 use std::sync::ledger::Ledger;
 
-// What is tested, and what is asked for at all.
+// How many entries change where all items are looked up first.
+const MANY: usize = 256;
+
+// What is tested, what is asked for at all, and items that are at hand.
 #[derive(Clone, Copy)]
-struct Tested<'a> {
-    alloc: Global,
-    view: &'a CheckView<'a>,
+struct Tested<'a, 'b> {
+    view: &'a CheckView<'b>,
     asked: Asked,
+    hands: &'a [Hand<'b>],
 }
 
 // A tile of an index, and the boxes of the blocks of the entries that are walked there.
@@ -34,6 +38,13 @@ struct At<'a> {
     index: &'a TileIndex,
     tile: u32,
     boxes: &'a [Bounds],
+}
+
+// The rows so far, and a list for those of one pair.
+#[derive(Drop)]
+struct Sheet {
+    pair: PairRows,
+    rows: Vec<Row>,
 }
 
 // Whether the id is one of those that changed.
@@ -93,31 +104,31 @@ fn partners<'a>(
 
 // Appends the rows of a pair.
 fn push_pair<L: Ledger>(
-    tested: &Tested<'_>,
-    first: u32,
-    one: Single<'_>,
-    second: u32,
-    rows: &mut Vec<Row>,
+    tested: &Tested<'_, '_>,
+    one: Hand<'_>,
+    other: Hand<'_>,
+    sheet: &mut Sheet,
     steps: &mut Steps<L>,
 ) -> Result<(), AllocError>
     requires view { IsWhole tested.now.view.now }
     requires asked { IsNoteOf (deciders (checked_by tested.now.view.now)) tested.now.asked }
-    requires ordered { first < second }
-    requires first { Stands (checked_by tested.now.view.now) first one.item.now one.facts.now }
-    requires second { IsSome (item_at (checked_by tested.now.view.now).board.items second) }
-    ensures rows { OnOk result (HasMore (AreRowsOfPair (checked_by tested.now.view.now) first second) rows.old.items rows.new.items) }
+    requires ordered { one.id < other.id }
+    requires first { StandsAt (checked_by tested.now.view.now) one }
+    requires second { StandsAt (checked_by tested.now.view.now) other }
+    ensures rows { OnOk result (HasMore (AreRowsOfPair (checked_by tested.now.view.now) one.entry.id other.entry.id) sheet.old.rows.items sheet.new.rows.items) }
     ensures step { steps.new ≡ steps.old + 1 }
 {
-    let found = test_beside(
-        tested.alloc,
+    steps.tick();
+    test_two(
         tested.view,
         tested.asked,
-        first,
-        one,
-        second,
-        steps,
+        one.id,
+        one.single,
+        other.id,
+        other.single,
+        &mut sheet.pair,
     );
-    rows.extend_from_slice(found.as_slice())?;
+    sheet.rows.extend_from_slice(sheet.pair.as_slice())?;
     Ok(())
 }
 
@@ -143,29 +154,34 @@ fn owned_from<'a>(at: &At<'_>, first: &Entry, others: &'a [Entry]) -> &'a [Entry
 
 // Appends the rows of an entry, whose item is at hand, with others, for the first of which the tile answers.
 fn push_beside<L: Ledger>(
-    tested: &Tested<'_>,
+    tested: &Tested<'_, '_>,
     at: &At<'_>,
     first: &Entry,
-    one: Single<'_>,
+    one: Hand<'_>,
     others: &[Entry],
-    rows: &mut Vec<Row>,
+    sheet: &mut Sheet,
     steps: &mut Steps<L>,
 ) -> Result<(), AllocError>
     requires view { IsWhole tested.now.view.now }
     requires asked { IsNoteOf (deciders (checked_by tested.now.view.now)) tested.now.asked }
-    requires first { Stands (checked_by tested.now.view.now) first.now.id one.item.now one.facts.now }
+    requires hands { All (StandsAt (checked_by tested.now.view.now)) tested.now.hands.now }
+    requires same { one.id ≡ first.now.id }
+    requires first { StandsAt (checked_by tested.now.view.now) one }
     requires rising { IsRising (first.now ∷ others.now) }
     requires fits { All (λ e. FitsWithin (pos 2000000000) e.bounds) (first.now ∷ others.now) }
     requires there { All (IsOn (checked_by tested.now.view.now).board) (first.now ∷ others.now) }
     requires blocks { AreBlocks at.now.boxes.now others.now }
     requires owned { StartsOwned at.now.index.now at.now.tile first.now others.now }
-    ensures rows { OnOk result (HasMore (AreRowsOfPairs (checked_by tested.now.view.now) (pairs_with at.now.index.now at.now.tile first.now others.now)) rows.old.items rows.new.items) }
+    ensures rows { OnOk result (HasMore (AreRowsOfPairs (checked_by tested.now.view.now) (pairs_with at.now.index.now at.now.tile first.now others.now)) sheet.old.rows.items sheet.new.rows.items) }
     ensures steps { OnOk result (steps.new ≡ steps.old + length (pairs_with at.now.index.now at.now.tile first.now others.now)) }
     ensures most { steps.new ≤ steps.old + length (pairs_with at.now.index.now at.now.tile first.now others.now) }
 {
     let mut left = others;
     'walk: while let Some((second, rest)) = left.split_first() {
-        push_pair(tested, first.id, one, second.id, rows, steps)?;
+        let Some(other) = hand_at(tested.view, tested.hands, left.len(), second.id) else {
+            return Ok(());
+        };
+        push_pair(tested, one, other, sheet, steps)?;
         left = owned_from(at, first, rest);
     }
     Ok(())
@@ -173,20 +189,21 @@ fn push_beside<L: Ledger>(
 
 // Appends the rows of an entry with others. Its item is looked up once, and only where there is something to test.
 fn push_rows<L: Ledger>(
-    tested: &Tested<'_>,
+    tested: &Tested<'_, '_>,
     at: &At<'_>,
     first: &Entry,
     others: &[Entry],
-    rows: &mut Vec<Row>,
+    sheet: &mut Sheet,
     steps: &mut Steps<L>,
 ) -> Result<(), AllocError>
     requires view { IsWhole tested.now.view.now }
     requires asked { IsNoteOf (deciders (checked_by tested.now.view.now)) tested.now.asked }
+    requires hands { All (StandsAt (checked_by tested.now.view.now)) tested.now.hands.now }
     requires rising { IsRising (first.now ∷ others.now) }
     requires fits { All (λ e. FitsWithin (pos 2000000000) e.bounds) (first.now ∷ others.now) }
     requires there { All (IsOn (checked_by tested.now.view.now).board) (first.now ∷ others.now) }
     requires blocks { AreBlocks at.now.boxes.now others.now }
-    ensures rows { OnOk result (HasMore (AreRowsOfPairs (checked_by tested.now.view.now) (pairs_with at.now.index.now at.now.tile first.now others.now)) rows.old.items rows.new.items) }
+    ensures rows { OnOk result (HasMore (AreRowsOfPairs (checked_by tested.now.view.now) (pairs_with at.now.index.now at.now.tile first.now others.now)) sheet.old.rows.items sheet.new.rows.items) }
     ensures steps { OnOk result (steps.new ≡ steps.old + length (pairs_with at.now.index.now at.now.tile first.now others.now)) }
     ensures most { steps.new ≤ steps.old + length (pairs_with at.now.index.now at.now.tile first.now others.now) }
 {
@@ -194,10 +211,26 @@ fn push_rows<L: Ledger>(
     if owned.is_empty() {
         return Ok(());
     }
-    let Some(one) = single_at(tested.view, first.id) else {
+    let Some(one) = hand_of(tested.view, first.id) else {
         return Ok(());
     };
-    push_beside(tested, at, first, one, owned, rows, steps)
+    push_beside(tested, at, first, one, owned, sheet, steps)
+}
+
+// The items of all entries, where enough of them changed: a pair is then a look less.
+fn hands_if<'a>(
+    alloc: Global,
+    view: &CheckView<'a>,
+    near: &[Entry],
+    count: usize,
+) -> Result<Vec<Hand<'a>>, AllocError>
+    requires { IsWhole view.now }
+    ensures { IfOk result (λ hands. All (StandsAt (checked_by view.now)) hands.items) }
+{
+    if count < MANY {
+        return Ok(Vec::new(alloc));
+    }
+    hands_of(alloc, view, near)
 }
 
 /// The rows of all pairs that have an id in `changed` and for which the tile answers, by the first id, then by the second,
@@ -220,20 +253,24 @@ pub fn test_tile<L: Ledger>(
     ensures steps { steps.new ≤ steps.old + most_steps index.now tile changed.now }
 {
     let asked = Asked::by(view);
-    let tested = Tested { alloc, view, asked };
     let near = index.near(tile);
     let all_touched = touched_of(alloc, near, changed)?;
     let all_boxes = boxes_of(alloc, near)?;
     let boxes: &[Bounds] = &all_boxes;
-    let mut rows = Vec::new(alloc);
+    let all_hands = hands_if(alloc, view, near, all_touched.len())?;
+    let hands: &[Hand<'_>] = &all_hands;
+    let tested = Tested { view, asked, hands };
+    let rows = Vec::new(alloc);
+    let pair = PairRows::new(alloc);
+    let mut sheet = Sheet { pair, rows };
     let mut later = near;
     let mut touched: &[Entry] = &all_touched;
     'entries: while let Some((first, others)) = later.split_first() {
         let (with, boxes, rest) = partners(first, others, boxes, touched);
         let at = At { index, tile, boxes };
-        push_rows(&tested, &at, first, with, &mut rows, steps)?;
+        push_rows(&tested, &at, first, with, &mut sheet, steps)?;
         later = others;
         touched = rest;
     }
-    Ok(rows)
+    Ok(sheet.rows)
 }

@@ -1,5 +1,5 @@
 use Rattle.std.proofs.Common.{ℕ, IsTrue, ◌⊎◌, drop}
-use Rattle.board_items.specs.Layers.{has_layer}
+use Rattle.copper_layers.specs.Layers.{has_layer}
 use Rattle.rule_pick.specs.FactsOf.{SomeOn}
 use Rattle.pair_check.proofs.faces.layers_of.Given as goal
 

@@ -1,7 +1,7 @@
 use Rattle.std.proofs.Common.{◌≡◌, ◌⊎◌, inl, inr, refl, sym, subst, ◌∙◌, ℕ, ◌+◌, ◌<◌, Bool, true, false, length, get_or, arith}
 use Rattle.std.proofs.lemmas.List.{get_or_read}
 use Rattle.board_items.specs.declared.parts.Part.{Part}
-use Rattle.board_items.specs.Layers.{has_layer}
+use Rattle.copper_layers.specs.Layers.{has_layer}
 use Rattle.pair_check.proofs.single.some_on.Goals as goal
 
 unmet : (r : Bool) → r ≡ false → r ≡ true → ⊥

@@ -20,5 +20,5 @@ push_beside-requires-clause-blocks g c = end_blocks c.args.at.now.index.now c.ar
 
 pub returns-then-is_empty-clause-rows : goal.returns-then-is_empty-clause-rows
 returns-then-is_empty-clause-rows g c =
-    none_at_all (checked_by c.args.tested.now.view.now) (pairs_with c.args.at.now.index.now c.args.at.now.tile c.args.first.now c.args.others.now) c.args.rows.now.items
+    none_at_all (checked_by c.args.tested.now.view.now) (pairs_with c.args.at.now.index.now c.args.at.now.tile c.args.first.now c.args.others.now) c.args.sheet.now.rows.items
     (no_pairs_left c.args.at.now.index.now c.args.at.now.tile c.args.first.now c.args.others.now c.owned_from-owned.result.now c.owned_from-owned.ensures.end (eqb-true _ 0 (sym c.is_empty.ensures ∙ c.if-is_empty.true)))

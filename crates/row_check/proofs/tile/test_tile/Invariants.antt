@@ -6,7 +6,7 @@ use Rattle.row_check.proofs.tile.test_tile.Given as goal
 
 abbrev pub invariant-entries : goal.invariant-entries
 invariant-entries g l = record {
-  tested : IsTestedTo (checked_by l.fn.view) l.index l.tile l.changed l.initial.later l.later l.touched l.rows.items l.fn.steps l.steps;
+  tested : IsTestedTo (checked_by l.fn.view) l.index l.tile l.changed l.initial.later l.later l.touched l.sheet.rows.items l.fn.steps l.steps;
   blocks : AreBlocks l.boxes l.later;
 }
 
