@@ -6,11 +6,11 @@ use Rattle.std.proofs.lemmas.List.Elements.{All-nil, All-cons, All-head, All-tai
 use Rattle.sexpr_read.specs.Tree.{Tree}
 use Rattle.board_items.specs.declared.errors.BoardError.{BoardError}
 use Rattle.board_items.specs.declared.errors.BoardError.TheVariants.{TooMany}
-use Rattle.board_items.specs.declared.layers.LayerSet.{LayerSet}
+use Rattle.copper_layers.specs.declared.set.LayerSet.{LayerSet}
 use Rattle.board_items.specs.declared.parts.Part.{Part}
 use Rattle.board_items.specs.declared.item.About.TheVariants.{Courtyard}
 use Rattle.board_items.specs.declared.item.Item.{Item}
-use Rattle.board_items.specs.Layers.{is_within}
+use Rattle.copper_layers.specs.Layers.{is_within}
 use Rattle.board_items.specs.Boards.{PlainBoard, name_of}
 use Rattle.board_items.specs.Refusals.{room_of}
 use Rattle.part_read.specs.declared.numbers.Spot.{Spot}

@@ -4,7 +4,7 @@ use Rattle.std.specs.Prelude.{ℕ, ◌==◌, ◌&&◌, Bool, true, false, List, 
 use Rattle.sexpr_read.specs.Tree.{Tree, parts}
 use Rattle.board_items.specs.declared.errors.BoardError.{BoardError}
 use Rattle.board_items.specs.declared.errors.BoardError.TheVariants.{Missing, Turned, UnknownLayer}
-use Rattle.board_items.specs.declared.layers.LayerSet.{LayerSet}
+use Rattle.copper_layers.specs.declared.set.LayerSet.{LayerSet}
 use Rattle.part_read.specs.Elements.{◌>>=◌, needed, place, text_of, is_text, has_head, element, atom_of}
 use Rattle.part_read.specs.LayersOf.{copper_in}
 use Rattle.pad_read.specs.declared.head.Head.{Head}

@@ -22,6 +22,13 @@ use part_read::{Ground, Kind, curve_by, ground_of, has_head, place, read_graphic
 use sexpr_read::Node;
 use std::alloc::{AllocError, Global};
 
+/// What a graphic is, and where it lies.
+#[derive(Clone, Copy)]
+struct Drawn {
+    kind: Kind,
+    lies: Ground,
+}
+
 fn drawn_kind(node: Node<'_, '_>) -> Option<Kind>
     ensures { result ≡ drawn_kind (tree_of node.entry) }
 {
@@ -76,30 +83,29 @@ fn with_drawn(
     unit: u32,
     head: &Head,
     contents: Contents,
-    kind: Kind,
     node: Node<'_, '_>,
-    lies: Ground,
+    drawn: Drawn,
 ) -> Result<Contents, BoardError>
     requires quarter { head.now.stance.quarter < 4 }
     requires at { IsWithin 3000000000000 head.now.stance.at }
-    requires on { IsOn board.now.copper lies }
+    requires on { IsOn board.now.copper drawn.lies }
     requires ready { All (IsReady board.now unit) (items_of contents.given) }
-    ensures read { Gives result (with_drawn board.now unit head.now contents kind (tree_of node.entry) lies) }
+    ensures read { Gives result (with_drawn board.now unit head.now contents drawn.kind (tree_of node.entry) drawn.lies) }
     ensures ready { IfOk result (λ all. All (IsReady board.now unit) (items_of all.given)) }
 {
-    match lies {
+    match drawn.lies {
         Ground::Front => Ok(Contents {
             given: contents.given,
-            front: with_graphic(alloc, head.stance, kind, contents.front, node)?,
+            front: with_graphic(alloc, head.stance, drawn.kind, contents.front, node)?,
             back: contents.back,
         }),
         Ground::Back => Ok(Contents {
             given: contents.given,
             front: contents.front,
-            back: with_graphic(alloc, head.stance, kind, contents.back, node)?,
+            back: with_graphic(alloc, head.stance, drawn.kind, contents.back, node)?,
         }),
         lies => {
-            let items = read_graphic(alloc, board, unit, head.stance, kind, node, lies)?;
+            let items = read_graphic(alloc, board, unit, head.stance, drawn.kind, node, lies)?;
             Ok(with_items(contents, node, items)?)
         }
     }
@@ -201,7 +207,8 @@ fn with_child(
         return with_other(alloc, board, unit, contents, node);
     };
     let lies = ground_of(board.copper(), node)?;
-    with_drawn(alloc, board, unit, head, contents, kind, node, lies)
+    let drawn = Drawn { kind, lies };
+    with_drawn(alloc, board, unit, head, contents, node, drawn)
 }
 
 /// What all children give, in the order of the text.

@@ -9,7 +9,8 @@ ghost use Rattle.footprint_read.specs.Courtyards.{seg_of, segs_of, core_between,
 
 use crate::closing::{is_closed, is_long};
 use crate::sides::{Course, Side};
-use board_items::{LayerSet, Nm, Part, Parts};
+use board_items::{Nm, Part, Parts};
+use copper_layers::LayerSet;
 use courtyard::closed_outlines;
 use geo_seg::{Core, Point, Poly, Seg};
 use part_read::{

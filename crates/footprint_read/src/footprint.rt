@@ -22,6 +22,13 @@ use part_read::{fits_board, name_of_list, no_parts, place, plain_item};
 use sexpr_read::Node;
 use std::alloc::{AllocError, Global};
 
+/// The courtyards of both sides.
+#[derive(Drop)]
+struct Courts {
+    front: Court,
+    back: Court,
+}
+
 // ---- body and notes of courtyards
 
 fn parts_in(alloc: Global, court: Court) -> Parts
@@ -159,19 +166,19 @@ fn finished(
     head: Head,
     node: Node<'_, '_>,
     given: AllGiven,
-    front: Court,
-    back: Court,
+    courts: Courts,
 ) -> Result<Vec<Item>, BoardError>
     requires net { is_some (name_of board.now 0) ≡ true }
     requires given { All (IsReady board.now unit) (items_of given) }
-    requires front { AreBare (parts_in front) }
-    requires back { AreBare (parts_in back) }
-    ensures items { GivesItems result (finished board.now unit head (tree_of node.entry) given front back) }
+    requires front { AreBare (parts_in courts.front) }
+    requires back { AreBare (parts_in courts.back) }
+    ensures items { GivesItems result (finished board.now unit head (tree_of node.entry) given courts.front courts.back) }
     ensures ready { IfOk result (λ items. AreReady board.now unit items.items) }
 {
-    if !is_placed(&head, &front, &back) {
+    if !is_placed(&head, &courts.front, &courts.back) {
         return Err(BoardError::OutOfBoard { at: place(node) });
     }
+    let Courts { front, back } = courts;
     let all = all_given(alloc, unit, head, node, given, front, back)?;
     let items = in_room(alloc, board, unit, all.into_list())?;
     Ok(items)
@@ -198,5 +205,6 @@ pub fn read_footprint(
     let contents = contents_of(alloc, board, unit, &head, node)?;
     let front = court_of(alloc, head.stance, &contents.front)?;
     let back = court_of(alloc, head.stance, &contents.back)?;
-    finished(alloc, board, unit, head, node, contents.given, front, back)
+    let courts = Courts { front, back };
+    finished(alloc, board, unit, head, node, contents.given, courts)
 }

@@ -7,7 +7,8 @@ ghost use Rattle.part_read.specs.Nodes.{Gives};
 ghost use Rattle.part_read.specs.Stances.{IsWithin};
 ghost use Rattle.footprint_read.specs.FootHead.{side_by, side_of, says, second_text, reference_by, reference_of, head_of};
 
-use board_items::{BoardError, LayerSet};
+use board_items::BoardError;
+use copper_layers::LayerSet;
 use drc_io::Name;
 use pad_read::{Head, clearance_of, posture_of, quarters_of};
 use part_read::{

@@ -4,8 +4,8 @@ use Rattle.std.specs.List.{list_any}
 use Rattle.sexpr_read.specs.declared.place.Span.{Span}
 use Rattle.sexpr_read.specs.Tree.{Forest, none, atom, list, Tree, leaf, branch, trees}
 use Rattle.board_items.specs.declared.errors.BoardError.{BoardError}
-use Rattle.board_items.specs.declared.layers.LayerSet.{LayerSet}
-use Rattle.board_items.specs.Layers.{layers_between}
+use Rattle.copper_layers.specs.declared.set.LayerSet.{LayerSet}
+use Rattle.copper_layers.specs.Layers.{layers_between}
 use Rattle.part_read.specs.Elements.{◌>>=◌, is_text, has_head, has_word, element, in_given, atom_of}
 use Rattle.part_read.specs.Numbers.{size_at}
 use Rattle.part_read.specs.LayersOf.{copper_in, layers_through}

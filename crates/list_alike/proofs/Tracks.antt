@@ -10,13 +10,13 @@ use Rattle.geo_seg.specs.declared.shapes.Shape.{Shape}
 use Rattle.geo_seg.specs.Shifts.{IsShiftedCore, IsShiftedShape}
 use Rattle.board_items.specs.declared.errors.BoardError.{BoardError}
 use Rattle.board_items.specs.declared.errors.BoardError.TheVariants.{OutOfBoard}
-use Rattle.board_items.specs.declared.layers.LayerSet.{LayerSet}
+use Rattle.copper_layers.specs.declared.set.LayerSet.{LayerSet}
 use Rattle.board_items.specs.declared.parts.Part.{Part}
 use Rattle.board_items.specs.declared.item.Hole.{Hole}
 use Rattle.board_items.specs.declared.item.What.TheVariants.{Track}
 use Rattle.board_items.specs.declared.item.Item.{Item}
 use Rattle.board_items.specs.Moves.{AreShifted, HoleIsShifted}
-use Rattle.board_items.specs.Layers.{single_layer}
+use Rattle.copper_layers.specs.Layers.{single_layer}
 use Rattle.board_items.specs.Boards.{PlainBoard, name_of, is_near}
 use Rattle.part_read.specs.declared.numbers.Spot.{Spot}
 use Rattle.part_read.specs.declared.on_board.Strip.{Strip}

@@ -27,7 +27,7 @@ use Rattle.part_read.specs.declared.graphics.Ground.{Ground}
 use Rattle.part_read.specs.Graphics.{ground_of}
 use Rattle.part_read.specs.Stances.{stood}
 use Rattle.board_items.specs.declared.item.About.{About}
-use Rattle.board_items.specs.declared.layers.LayerSet.{LayerSet}
+use Rattle.copper_layers.specs.declared.set.LayerSet.{LayerSet}
 use Rattle.board_items.specs.Boards.{is_near}
 use Rattle.std.proofs.lemmas.Int.{ints}
 use Rattle.std.proofs.Common.{arith, pos, ◌+ℤ◌}

@@ -5,7 +5,7 @@ use Rattle.sexpr_read.specs.declared.place.Span.{Span}
 use Rattle.sexpr_read.specs.Tree.{Forest, Tree, branch}
 use Rattle.board_items.specs.declared.errors.BoardError.{BoardError}
 use Rattle.board_items.specs.declared.errors.BoardError.TheVariants.{OutOfBoard}
-use Rattle.board_items.specs.declared.layers.LayerSet.{LayerSet}
+use Rattle.copper_layers.specs.declared.set.LayerSet.{LayerSet}
 use Rattle.board_items.specs.declared.item.Item.{Item}
 use Rattle.board_items.specs.Boards.{PlainBoard, name_of}
 use Rattle.part_read.specs.declared.numbers.Spot.{Spot}

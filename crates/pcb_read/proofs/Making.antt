@@ -7,7 +7,7 @@ use mathlib.Core.Bool.{Bool-set}
 use Rattle.int_algebra.proofs.Tested.{front, back}
 use Rattle.geo_seg.specs.declared.shapes.Shape.{Shape}
 use Rattle.drc_io.specs.Lengths.{IsLength, IsLengthIfSome}
-use Rattle.board_items.specs.declared.layers.LayerSet.{LayerSet}
+use Rattle.copper_layers.specs.declared.set.LayerSet.{LayerSet}
 use Rattle.board_items.specs.declared.parts.Part.{Part}
 use Rattle.board_items.specs.declared.item.Hole.{Hole}
 use Rattle.board_items.specs.declared.item.What.{What}
@@ -15,7 +15,7 @@ use Rattle.board_items.specs.declared.item.What.TheVariants.{Track, Via}
 use Rattle.board_items.specs.declared.item.Item.{Item}
 use Rattle.board_items.specs.Measures.{HasLengths}
 use Rattle.board_items.proofs.MeasureLemmas.{via_lengths}
-use Rattle.board_items.specs.Layers.{is_within}
+use Rattle.copper_layers.specs.Layers.{is_within}
 use Rattle.board_items.specs.Parts.{hole_parts}
 use Rattle.board_items.specs.Boards.{PlainBoard, name_of, is_near, is_on_board, has_layers_of, is_admitted}
 use Rattle.part_read.specs.declared.on_board.Strip.{Strip}

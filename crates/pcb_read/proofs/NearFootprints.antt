@@ -1,10 +1,10 @@
 -- A refusal of what is read stands in the text: footprints.
-use Rattle.std.proofs.Common.{◌≡◌, ◌≤◌, ◌<◌, ◌==◌, ℕ, zero, suc, ℤ, Bool, true, false, ◌||◌, not, List, [], ◌∷◌, ◌++◌, map, find, length, codes, sym, subst, Option, None, Some, Result, Ok, Err}
+use Rattle.std.proofs.Common.{◌≤◌, ◌==◌, ℕ, suc, Bool, true, false, List, [], ◌∷◌, ◌++◌, find, length, codes, Option, None, Some, Result, Ok, Err}
 use Rattle.std.specs.Prelude.{nat_le, if◌then◌else◌}
 use Rattle.sexpr_read.specs.Tree.{Tree, parts}
 use Rattle.board_items.specs.declared.errors.BoardError.{BoardError}
-use Rattle.board_items.specs.declared.errors.BoardError.TheVariants.{Missing, OutOfBoard, Turned, UnknownLayer, TooMany}
-use Rattle.board_items.specs.declared.layers.LayerSet.{LayerSet}
+use Rattle.board_items.specs.declared.errors.BoardError.TheVariants.{Missing, OutOfBoard, Turned}
+use Rattle.copper_layers.specs.declared.set.LayerSet.{LayerSet}
 use Rattle.board_items.specs.declared.item.Item.{Item}
 use Rattle.board_items.specs.declared.item.About.TheVariants.{Text, FootZone}
 use Rattle.board_items.specs.Boards.{PlainBoard}
@@ -14,7 +14,7 @@ use Rattle.part_read.specs.declared.drawings.Kind.{Kind}
 use Rattle.part_read.specs.declared.drawings.Kind.TheVariants.{Line, Rect, Circle, Outline}
 use Rattle.part_read.specs.declared.graphics.Ground.{Ground}
 use Rattle.part_read.specs.declared.graphics.Ground.TheVariants.{Copper, Outlines, Front, Back, Elsewhere}
-use Rattle.part_read.specs.Elements.{◌>>=◌, needed, check, place, has_head, element, atom_of, name_in}
+use Rattle.part_read.specs.Elements.{◌>>=◌, needed, check, place, has_head, element, name_in}
 use Rattle.part_read.specs.Numbers.{spot_of}
 use Rattle.part_read.specs.LayersOf.{copper_in}
 use Rattle.part_read.specs.Drawings.{spots_among}
@@ -26,13 +26,12 @@ use Rattle.footprint_read.specs.declared.sides.Side.{Side}
 use Rattle.footprint_read.specs.declared.contents.Contents.{Contents}
 use Rattle.footprint_read.specs.declared.contents.Given.{Given}
 use Rattle.footprint_read.specs.declared.courts.Court.{Court}
-use Rattle.footprint_read.specs.declared.courts.Court.TheVariants.{Unchecked, Parts, Off}
 use Rattle.footprint_read.specs.FootHead.{side_by, side_of, says, second_text, reference_by, reference_of, head_of}
 use Rattle.footprint_read.specs.Courtyards.{with_line, with_rect, with_circle, with_spots, has_arc, with_outline, with_graphic}
-use Rattle.footprint_read.specs.FootprintOf.{given_at, with_items, adding, at_front, at_back, with_drawn, with_arc, drawn_kind, is_curve, is_writing, with_other, with_child_by, with_child, with_children, empty, body_of, court_notes, all_given, has_room_after, with_room, in_room, is_placed, finished, contents_of, SaysOf, SaysInside, SaysWith, Says}
+use Rattle.footprint_read.specs.FootprintOf.{given_at, with_items, adding, with_drawn, with_arc, drawn_kind, is_curve, is_writing, with_other, with_child_by, with_child, with_children, empty, body_of, court_notes, all_given, has_room_after, with_room, is_placed, finished, contents_of, SaysInside, SaysWith, Says}
 use Rattle.pcb_read.specs.Near.{IsNear}
 use Rattle.pcb_read.specs.Short.{IsShort, AllShort}
-use Rattle.pcb_read.proofs.Nearness.{Near, NearShort, ShortIf, near_same, step, with_tree, by_test, near_needed, needed_short, near_check, near_place, parts_short, find_short, near_element, of_atom, near_spot_of, near_copper, near_spots}
+use Rattle.pcb_read.proofs.Nearness.{Near, ShortIf, near_same, step, with_tree, by_test, near_needed, needed_short, near_check, near_place, parts_short, find_short, near_element, of_atom, near_spot_of, near_copper, near_spots}
 use Rattle.pcb_read.proofs.Nearby.{near_ground, near_graphic, near_curve, near_writing}
 use Rattle.pcb_read.proofs.NearPads.{near_posture, near_clearance, near_pad}
 

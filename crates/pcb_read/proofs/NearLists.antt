@@ -1,24 +1,24 @@
 -- The refusal of a list that is added stands in its text.
-use Rattle.std.proofs.Common.{◌≡◌, ◌≤◌, ◌<◌, ◌+◌, ◌-◌, ℕ, Bool, true, false, List, [], ◌∷◌, length, sym, subst, ◌⊎◌, inl, inr, arith, Option, None, Some, Result, Ok, Err}
+use Rattle.std.proofs.Common.{◌≤◌, ◌+◌, ◌-◌, ℕ, Bool, true, false, List, [], ◌∷◌, length, sym, subst, inl, inr, arith, Option, None, Some, Result, Ok, Err}
 use Rattle.std.specs.Prelude.{Vec, IfErr, if◌then◌else◌}
 use Rattle.std.specs.declared.alloc.Global.{Global}
 use Rattle.sexpr_read.specs.Tree.{Forest, none, atom, list, Tree, leaf, branch, trees, parts, is_list}
 use Rattle.sexpr_read.specs.Places.{StandBetween, PartsStandBetween}
 use Rattle.board_items.specs.declared.errors.BoardError.{BoardError}
-use Rattle.board_items.specs.declared.errors.BoardError.TheVariants.{TooMany, OutOfMemory}
+use Rattle.board_items.specs.declared.errors.BoardError.TheVariants.{TooMany}
 use Rattle.board_items.specs.declared.item.Item.{Item}
 use Rattle.board_items.specs.Boards.{PlainBoard}
 use Rattle.part_read.specs.declared.graphics.Ground.{Ground}
-use Rattle.part_read.specs.Elements.{◌>>=◌, check, place}
+use Rattle.part_read.specs.Elements.{check, place}
 use Rattle.part_read.specs.Graphics.{ground_of, one_item, graphic_by, curve_by, text_by}
-use Rattle.zone_read.specs.ZoneOf.{as_it_is, zone_of}
+use Rattle.zone_read.specs.ZoneOf.{as_it_is}
 use Rattle.pcb_read.specs.declared.sorts.Sort.{Sort}
 use Rattle.pcb_read.specs.declared.sorts.Sort.TheVariants.{Track, Via, Arc, Graphic, Curve, Text, Zone, Footprint}
 use Rattle.pcb_read.specs.Sorts.{sort_of}
 use Rattle.pcb_read.specs.Tracks.{track_of, via_of}
 use Rattle.pcb_read.specs.ItemsOf.{has_room, in_room, on_ground, SaysItems}
 use Rattle.pcb_read.specs.Answers.{GivesSome}
-use Rattle.pcb_read.specs.ItemText.{SaysBy, SaysList, alone, SaysAlone}
+use Rattle.pcb_read.specs.ItemText.{SaysBy, alone, SaysAlone}
 use Rattle.pcb_read.specs.Near.{IsNear}
 use Rattle.pcb_read.specs.Short.{AreShort, IsShort, AllShort}
 use Rattle.pcb_read.proofs.Nearness.{Near, NearShort, near_same, step, near_check, near_place}

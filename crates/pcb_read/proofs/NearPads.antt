@@ -1,6 +1,6 @@
 -- A refusal of what is read stands in the text: pads.
-use Rattle.std.proofs.Common.{◌≡◌, ◌≤◌, ℕ, ℤ, pos, Bool, true, false, ◌||◌, not, List, [], ◌∷◌, codes, Option, None, Some, Result, Ok, Err}
-use Rattle.std.specs.Prelude.{slice_get, if◌then◌else◌}
+use Rattle.std.proofs.Common.{ℕ, ℤ, pos, ◌||◌, not, List, [], ◌∷◌, codes, Option, None, Some, Result, Ok, Err}
+use Rattle.std.specs.Prelude.{slice_get}
 use Rattle.exact_dec.specs.Computed.{ratio_near_answer}
 use Rattle.sexpr_read.specs.Tree.{Tree, parts, content, is_list}
 use Rattle.board_items.specs.declared.errors.BoardError.{BoardError}
@@ -8,8 +8,8 @@ use Rattle.board_items.specs.declared.errors.BoardError.TheVariants.{Missing, Ba
 use Rattle.board_items.specs.Boards.{PlainBoard}
 use Rattle.part_read.specs.declared.stances.Stance.{Stance}
 use Rattle.part_read.specs.declared.drawings.Kind.{Kind}
-use Rattle.part_read.specs.Elements.{◌>>=◌, needed, check, place, is_text, has_head, element, in_needed, atom_of}
-use Rattle.part_read.specs.Numbers.{length_in, size_in, spot_at, read_as}
+use Rattle.part_read.specs.Elements.{needed, check, place, is_text, has_head, element, in_needed}
+use Rattle.part_read.specs.Numbers.{length_in, size_in, spot_at}
 use Rattle.part_read.specs.LayersOf.{layers_named}
 use Rattle.part_read.specs.NetsOf.{net_of}
 use Rattle.part_read.specs.Figures.{is_ring}
@@ -24,7 +24,6 @@ use Rattle.pad_read.specs.PadShapes.{least_number, share_of, ratio_in, round_by,
 use Rattle.pad_read.specs.PadFrames.{type_by, type_of, word_by, word_of, is_there, quarter_of, frame_of}
 use Rattle.pad_read.specs.CustomPads.{anchor_by_word, anchor_by, in_options, anchor_of, primitive_kind, primitive_by, primitives_among, primitives_by, primitives_of}
 use Rattle.pad_read.specs.PadOf.{form_of, pad_of}
-use Rattle.pcb_read.specs.Near.{IsNear}
 use Rattle.pcb_read.specs.Short.{IsShort, AllShort}
 use Rattle.pcb_read.proofs.Nearness.{Near, ShortIf, step, by_test, near_needed, near_check, near_place, parts_short, get_short, near_element, of_atom, in_one, near_read, near_length, near_size, near_spot, near_layers, near_net, near_drawing}
 

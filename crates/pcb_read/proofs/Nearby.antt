@@ -1,31 +1,29 @@
 -- A refusal of what is read stands in the text: graphics, zones, tracks and vias.
-use Rattle.std.proofs.Common.{◌≡◌, ◌≤◌, ℕ, zero, suc, ℤ, Bool, true, false, ◌||◌, not, List, [], ◌∷◌, codes, Option, None, Some, Result, Ok, Err}
-use Rattle.std.specs.Prelude.{if◌then◌else◌}
+use Rattle.std.proofs.Common.{ℕ, suc, not, List, [], ◌∷◌, codes, Option, None, Some, Result}
 use Rattle.sexpr_read.specs.Tree.{Tree, parts}
 use Rattle.board_items.specs.declared.errors.BoardError.{BoardError}
-use Rattle.board_items.specs.declared.errors.BoardError.TheVariants.{Missing, OutOfBoard, Arc, Ring, ThickFill, TooMany}
-use Rattle.board_items.specs.declared.layers.LayerSet.{LayerSet}
+use Rattle.board_items.specs.declared.errors.BoardError.TheVariants.{Missing, OutOfBoard, Ring, ThickFill, TooMany}
+use Rattle.copper_layers.specs.declared.set.LayerSet.{LayerSet}
 use Rattle.board_items.specs.declared.item.About.{About}
 use Rattle.board_items.specs.declared.item.Item.{Item}
 use Rattle.board_items.specs.Boards.{PlainBoard}
-use Rattle.board_items.specs.Layers.{single_layer}
+use Rattle.copper_layers.specs.Layers.{single_layer}
 use Rattle.part_read.specs.declared.numbers.Spot.{Spot}
 use Rattle.part_read.specs.declared.stances.Stance.{Stance}
 use Rattle.part_read.specs.declared.drawings.Kind.{Kind}
 use Rattle.part_read.specs.declared.graphics.Ground.{Ground}
 use Rattle.part_read.specs.declared.graphics.Ground.TheVariants.{Copper, Outlines, Front, Back, Elsewhere}
-use Rattle.part_read.specs.Elements.{◌>>=◌, needed, check, place, has_head, element, in_needed, in_given, atom_of}
+use Rattle.part_read.specs.Elements.{needed, check, place, has_head, element, in_needed, in_given}
 use Rattle.part_read.specs.Numbers.{size_at, spot_of, size_of}
-use Rattle.part_read.specs.LayersOf.{layer_in, layer_of, layers_through, named, layers_named, drawn_on}
+use Rattle.part_read.specs.LayersOf.{layer_in, layer_of, layers_through, named, drawn_on}
 use Rattle.part_read.specs.NetsOf.{net_of}
 use Rattle.part_read.specs.Figures.{drawn, drawn_edge, is_ring, is_circle}
 use Rattle.part_read.specs.Drawings.{corners_of, drawing_of}
 use Rattle.part_read.specs.Graphics.{ground_among, ground_of, copper_graphic, edge_graphic, one_item, graphic_by, curve_by, text_by}
 use Rattle.zone_read.specs.ZoneOf.{layers_among, zone_layers, title_among, title_of, area_of, has_room_after, ban_among, ban_of, bans_in, polygon_of, area_in_room, rule_area, is_thin, fill_layer, fill_on, fill_in_room, with_fill, fills_after, zone_by, zone_of}
 use Rattle.pcb_read.specs.Tracks.{track_of, via_of}
-use Rattle.pcb_read.specs.Near.{IsNear}
 use Rattle.pcb_read.specs.Short.{IsShort, AllShort}
-use Rattle.pcb_read.proofs.Nearness.{Near, ShortIf, step, with_tree, by_test, near_needed, needed_short, near_check, near_place, parts_short, near_element, near_atom, of_atom, in_one, in_some, near_spot_of, near_size_at, near_size_of, near_layer, near_layer_of, near_through, near_named, near_layers, near_drawn_on, near_net, near_corners, near_drawing}
+use Rattle.pcb_read.proofs.Nearness.{Near, ShortIf, step, with_tree, by_test, near_needed, needed_short, near_check, near_place, parts_short, near_element, of_atom, in_one, in_some, near_spot_of, near_size_at, near_size_of, near_layer, near_layer_of, near_through, near_named, near_layers, near_drawn_on, near_net, near_corners, near_drawing}
 
 -- ---- graphics
 

@@ -1,15 +1,15 @@
 -- A refusal of what is read stands in the text: what is read of elements, numbers, layers, nets and drawings.
-use Rattle.std.proofs.Common.{◌≡◌, refl, sym, subst, ◌≤◌, ℕ, zero, suc, ℤ, pos, Bool, true, false, ◌||◌, ◌&&◌, not, List, [], ◌∷◌, length, find, cond, codes, Option, None, Some, Result, Ok, Err, is_some, arith}
+use Rattle.std.proofs.Common.{◌≡◌, sym, subst, ◌≤◌, ℕ, zero, suc, pos, Bool, true, false, ◌||◌, ◌&&◌, not, List, [], ◌∷◌, length, find, cond, codes, Option, None, Some, Result, Ok, Err, is_some}
 use Rattle.std.specs.Prelude.{slice_get, int_le, nat_le, if◌then◌else◌}
 use Rattle.exact_dec.specs.declared.DecError.{DecError}
 use Rattle.exact_dec.specs.Computed.{mm_cut_answer, count_answer}
 use Rattle.sexpr_read.specs.Tree.{Forest, none, atom, list, Tree, leaf, branch, trees, parts, content, is_list}
 use Rattle.board_items.specs.declared.errors.BoardError.{BoardError}
 use Rattle.board_items.specs.declared.errors.BoardError.TheVariants.{Missing, BadNumber, Arc, UnknownNet, UnknownLayer}
-use Rattle.board_items.specs.declared.layers.LayerSet.{LayerSet}
+use Rattle.copper_layers.specs.declared.set.LayerSet.{LayerSet}
 use Rattle.board_items.specs.declared.item.Item.{Item}
 use Rattle.board_items.specs.Boards.{PlainBoard, name_of}
-use Rattle.board_items.specs.Layers.{has_layer}
+use Rattle.copper_layers.specs.Layers.{has_layer}
 use Rattle.part_read.specs.declared.numbers.Spot.{Spot}
 use Rattle.part_read.specs.declared.drawings.Kind.{Kind}
 use Rattle.part_read.specs.declared.drawings.Kind.TheVariants.{Line, Rect, Circle, Outline}

@@ -1,8 +1,9 @@
 -- Items for which there is room, one after another.
-use Rattle.std.proofs.Common.{◌≡◌, refl, ℕ, ◌≤◌, ◌<◌, ltb, leb, arith, List, [], ◌∷◌, length, length-append, Bool, true, false, ◌&&◌, All, Ok}
+use Rattle.std.proofs.Common.{◌≡◌, refl, ℕ, suc, ◌≤◌, ◌<◌, ltb, leb, arith, List, [], ◌∷◌, length, length-append, Bool, true, false, ◌&&◌, All, Result, Ok, Err, OnOk, sym, ap, subst}
 use Rattle.std.proofs.lemmas.Bool.{ltb-true, leb-true}
 use Rattle.std.proofs.lemmas.List.Elements.{All-nil, All-head, All-tail}
 use Rattle.sexpr_read.specs.Tree.{Tree}
+use Rattle.board_items.specs.declared.errors.BoardError.{BoardError}
 use Rattle.board_items.specs.declared.item.Item.{Item}
 use Rattle.board_items.specs.Boards.{PlainBoard, with_item}
 use Rattle.board_items.specs.Refusals.{room_of}
@@ -61,3 +62,30 @@ first_ready board unit item items h = All-head (IsReady board unit) item items h
 pub same_copper : (items : List Item) (board : PlainBoard) → (with_items board items).copper ≡ board.copper
 same_copper [] board = refl
 same_copper (item ∷ items) board = same_copper items (with_item board item)
+
+-- ---- numbers of units
+
+-- with items the number of the next unit never falls
+pub items_low : (items : List Item) (board : PlainBoard) → board.next_unit ≤ (with_items board items).next_unit
+items_low [] board = omega arith
+items_low (item ∷ items) board = let low = items_low items (with_item board item) in omega (arith, low)
+
+-- items of one unit take one number at most
+pub items_high : (items : List Item) (board : PlainBoard) (unit : ℕ) → AreReady board unit items → board.next_unit ≤ suc unit → (with_items board items).next_unit ≤ suc unit
+items_high [] board unit ready low = low
+items_high (item ∷ items) board unit ready low =
+    let own = (first_ready board unit item items ready).of_unit in
+    items_high items (with_item board item) unit (others_ready board unit item items ready) (omega (arith, own, low))
+
+-- the same of what a call leaves of a board
+pub rise_low : (r : Result (Unit {0}) BoardError) (board new : PlainBoard) (items : List Item) → OnOk r (new ≡ with_items board items) → OnOk r (board.next_unit ≤ new.next_unit)
+rise_low (Ok x) board new items e = subst (λ (b : PlainBoard). board.next_unit ≤ b.next_unit) (sym e) (items_low items board)
+rise_low (Err x) board new items e = tt
+
+pub rise_high : (r : Result (Unit {0}) BoardError) (board new : PlainBoard) (unit : ℕ) (items : List Item) → unit ≡ board.next_unit → AreReady board unit items → OnOk r (new ≡ with_items board items)
+    → OnOk r (new.next_unit ≤ suc board.next_unit)
+rise_high (Ok x) board new unit items u ready e =
+    let high = items_high items board unit ready (omega (arith, u)) in
+    let same : new.next_unit ≡ (with_items board items).next_unit = ap (λ (b : PlainBoard). b.next_unit) e in
+    omega (arith, high, same, u)
+rise_high (Err x) board new unit items u ready e = tt

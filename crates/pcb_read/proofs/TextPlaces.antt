@@ -1,14 +1,14 @@
 -- The fault of a text stands in it.
-use Rattle.std.proofs.Common.{◌≡◌, ◌≤◌, ◌<◌, ◌+◌, ◌==◌, ◌&&◌, not, ℕ, zero, suc, Bool, true, false, List, length, sym, subst, ap, refl, arith}
+use Rattle.std.proofs.Common.{◌≡◌, ◌≤◌, ◌==◌, ℕ, zero, suc, Bool, true, false, List, length, subst, arith}
 use Rattle.std.specs.Prelude.{Option, None, Some, if◌then◌else◌}
 use Rattle.std.specs.Str.{is_utf8}
 use Rattle.std.proofs.lemmas.Str.{utf8_valid_len_le}
 use Rattle.sexpr_read.specs.declared.bytes.Class.{Class}
 use Rattle.sexpr_read.specs.declared.bytes.Class.TheVariants.{Space, Open, Close, Quote, Backslash, Plain}
 use Rattle.sexpr_read.specs.declared.place.TextError.{TextError}
-use Rattle.sexpr_read.specs.declared.place.TextError.TheVariants.{NotUtf8, CloseWithoutOpen, EndInside, TooDeep, ExtraText, EmptyText}
+use Rattle.sexpr_read.specs.declared.place.TextError.TheVariants.{TooDeep}
 use Rattle.sexpr_read.specs.Comments.{shown}
-use Rattle.sexpr_read.specs.Refusals.{Where, outside, in_string, after_backslash, where_at, is_blank_before, outer_fault, inner_fault, fault_in, fault_at, end_fault_in, end_fault, or_else, first_fault, whole_fault, refusal_of_all}
+use Rattle.sexpr_read.specs.Refusals.{Where, outside, in_string, after_backslash, where_at, is_blank_before, outer_fault, inner_fault, fault_in, fault_at, end_fault_in, end_fault, or_else, first_fault, refusal_of_all}
 use Rattle.pcb_read.specs.Near.{IsNearText}
 
 abbrev pub NearIfSome : Option TextError → Type 0

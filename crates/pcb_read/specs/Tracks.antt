@@ -6,11 +6,11 @@ use Rattle.int_algebra.proofs.Tested.{front, back}
 use Rattle.drc_io.specs.Lengths.{IsLength, IsLengthIfSome}
 use Rattle.board_items.specs.declared.errors.BoardError.{BoardError}
 use Rattle.board_items.specs.declared.errors.BoardError.TheVariants.{OutOfBoard}
-use Rattle.board_items.specs.declared.layers.LayerSet.{LayerSet}
+use Rattle.copper_layers.specs.declared.set.LayerSet.{LayerSet}
 use Rattle.board_items.specs.declared.item.Item.{Item}
 use Rattle.board_items.specs.declared.item.Hole.{Hole}
 use Rattle.board_items.specs.declared.item.What.TheVariants.{Track, Via}
-use Rattle.board_items.specs.Layers.{single_layer}
+use Rattle.copper_layers.specs.Layers.{single_layer}
 use Rattle.board_items.specs.Boards.{PlainBoard}
 use Rattle.board_items.proofs.MeasureLemmas.{track_lengths, via_lengths}
 use Rattle.part_read.specs.declared.on_board.Strip.{Strip}

@@ -1,12 +1,13 @@
 //! Tracks and vias as items.
 
 ghost use Rattle.std.specs.Prelude.{◌≡◌, ℤ, true, is_some, IfSome, IsTrue};
-ghost use Rattle.board_items.specs.Layers.{is_within};
+ghost use Rattle.copper_layers.specs.Layers.{is_within};
 ghost use Rattle.board_items.specs.Boards.{PlainBoard, name_of, is_admitted};
 ghost use Rattle.part_read.specs.OnBoard.{tested};
 ghost use Rattle.pcb_read.specs.Tracks.{track_along, is_hole, hole_through, via_at};
 
-use board_items::{Hole, Item, LayerSet, Nm, What};
+use board_items::{Hole, Item, Nm, What};
+use copper_layers::LayerSet;
 use drc_io::Name;
 use part_read::{Spot, Strip, one_part, strip_shape};
 use std::alloc::Global;

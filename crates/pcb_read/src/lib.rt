@@ -8,7 +8,9 @@ ghost use Rattle.std.specs.Prelude.{◌≡◌, ◌≤◌, ◌⊎◌, ℕ, List, 
 ghost use Rattle.board_items.specs.declared.errors.BoardError.{BoardError};
 ghost use Rattle.board_items.specs.Boards.{PlainBoard};
 ghost use Rattle.pcb_read.specs.BoardText.{Says};
-ghost use Rattle.pcb_read.specs.Spans.{HasSpans};
+ghost use Rattle.sexpr_read.specs.Views.{root_of};
+ghost use Rattle.pcb_read.specs.BoardOf.{SaysBoard};
+ghost use Rattle.pcb_read.specs.Spans.{HasSpans, AreSpans, GivesBoardWith};
 
 mod added;
 mod adding;
@@ -26,7 +28,7 @@ use crate::root::board_of;
 pub use added::read_item;
 pub use adding::add_items;
 use board_items::{Board, BoardError};
-use sexpr_read::{TextError, parse_one};
+use sexpr_read::{Doc, TextError, parse_one};
 pub use spans::Spans;
 use std::alloc::Global;
 
@@ -53,11 +55,21 @@ pub fn read_with_spans(alloc: Global, text: &[u8]) -> Result<(Board, Spans), Boa
     ensures says { MatchResult result (λ read. Says text.now (Ok read.0)) (λ e. (e ≡ BoardError.OutOfMemory) ⊎ Says text.now (Err e)) }
     ensures only { (answer : Result PlainBoard BoardError) → Says text.now answer → MatchResult result (λ read. answer ≡ Ok read.0) (λ e. (e ≡ BoardError.OutOfMemory) ⊎ (answer ≡ Err e)) }
     ensures spans { IfOk result (λ read. HasSpans text.now read.1) }
+    ensures each { IfOk result (λ read. length read.1 ≡ read.0.next_unit) }
 {
     one_reading();
     match parse_one(alloc, text) {
-        Ok(doc) => board_of(alloc, doc.root()),
+        Ok(doc) => read_tree(alloc, &doc),
         Err(TextError::OutOfMemory) => Err(BoardError::OutOfMemory),
         Err(error) => Err(BoardError::Text(error)),
     }
+}
+
+/// The board of a tree that was read of a text, and where its units stand in the text. The tree can be used further.
+pub fn read_tree(alloc: Global, doc: &Doc<'_>) -> Result<(Board, Spans), BoardError>
+    ensures says { GivesBoardWith result (SaysBoard (root_of doc.now)) }
+    ensures spans { IfOk result (λ read. AreSpans (root_of doc.now) read.1) }
+    ensures each { IfOk result (λ read. length read.1 ≡ read.0.next_unit) }
+{
+    board_of(alloc, doc.root())
 }

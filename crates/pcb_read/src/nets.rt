@@ -19,6 +19,7 @@ pub(crate) fn read_net(
 ) -> Result<(), BoardError>
     ensures read { Leaves result board.new (with_net_of board.old (tree_of list.entry)) }
     ensures copper { OnOk result (board.new.copper ≡ board.old.copper) }
+    ensures unit { OnOk result (board.new.next_unit ≡ board.old.next_unit) }
 {
     let number = number_in(first_atom(list)?)?;
     let name = name_from(alloc, second_atom(list)?)?;

@@ -1,6 +1,6 @@
 //! The root of a board's text, part by part.
 
-ghost use Rattle.std.specs.Prelude.{◌≡◌, ◌++◌, ◌∷◌, [], List, option_map, find, false, OnOk, IfOk};
+ghost use Rattle.std.specs.Prelude.{◌≡◌, ◌≤◌, ◌++◌, ◌∷◌, [], suc, List, length, option_map, find, false, OnOk, IfOk};
 ghost use Rattle.sexpr_read.specs.Tree.{Tree, parts, is_list};
 ghost use Rattle.sexpr_read.specs.Views.{tree_of, trees_left};
 ghost use Rattle.part_read.specs.Nodes.{Leaves};
@@ -14,7 +14,8 @@ use crate::lists::read_list;
 use crate::nets::read_net;
 use crate::sorts::{Sort, sort_of};
 use crate::spans::Spans;
-use board_items::{Board, BoardError, LayerSet};
+use board_items::{Board, BoardError};
+use copper_layers::LayerSet;
 use part_read::{first_atom, has_head, layers_listed, place};
 use sexpr_read::{Node, Span};
 use std::alloc::{AllocError, Global};
@@ -55,6 +56,7 @@ fn read_layers(board: &mut Board, layered: &mut bool, list: Node<'_, '_>) -> Res
     requires { layered.old ≡ false → board.old.copper.bits ≡ 0 }
     ensures read { Leaves result (record { board = board.new; layered = layered.new }) (with_layers (record { board = board.old; layered = layered.old }) (tree_of list.entry)) }
     ensures unlisted { OnOk result (layered.new ≡ false → board.new.copper.bits ≡ 0) }
+    ensures unit { OnOk result (board.new.next_unit ≡ board.old.next_unit) }
 {
     if *layered {
         return Ok(());
@@ -76,6 +78,7 @@ fn read_other(
     requires { layered.old ≡ false → board.old.copper.bits ≡ 0 }
     ensures read { Leaves result (record { board = board.new; layered = layered.new }) (with_other (record { board = board.old; layered = layered.old }) (tree_of node.entry)) }
     ensures unlisted { OnOk result (layered.new ≡ false → board.new.copper.bits ≡ 0) }
+    ensures unit { OnOk result (board.new.next_unit ≡ board.old.next_unit) }
 {
     if has_head(node, b"net") {
         read_net(alloc, board, node)
@@ -95,6 +98,8 @@ fn read_items(
 ) -> Result<(), BoardError>
     ensures read { LeavesSome result board.new (SaysWith board.old (tree_of node.entry) sort) }
     ensures copper { OnOk result (board.new.copper ≡ board.old.copper) }
+    ensures not_below { OnOk result (board.old.next_unit ≤ board.new.next_unit) }
+    ensures one_at_most { OnOk result (board.new.next_unit ≤ suc board.old.next_unit) }
 {
     let unit = board.next_unit();
     let items = read_list(alloc, board, unit, node, sort)?;
@@ -111,6 +116,8 @@ fn read_part(
     requires { layered.old ≡ false → board.old.copper.bits ≡ 0 }
     ensures read { LeavesSome result (record { board = board.new; layered = layered.new }) (SaysPart (record { board = board.old; layered = layered.old }) (tree_of node.entry)) }
     ensures unlisted { OnOk result (layered.new ≡ false → board.new.copper.bits ≡ 0) }
+    ensures not_below { OnOk result (board.old.next_unit ≤ board.new.next_unit) }
+    ensures one_at_most { OnOk result (board.new.next_unit ≤ suc board.old.next_unit) }
 {
     match sort_of(node) {
         Some(sort) => read_items(alloc, board, node, sort),
@@ -159,6 +166,7 @@ fn read_spanned(
     ensures read { LeavesSome result (record { board = board.new; layered = layered.new }) (SaysPart (record { board = board.old; layered = layered.old }) (tree_of node.entry)) }
     ensures unlisted { OnOk result (layered.new ≡ false → board.new.copper.bits ≡ 0) }
     ensures spans { OnOk result ((others : List Span) → spans.old.items ++ with_span (record { board = board.old; layered = layered.old }) (record { board = board.new; layered = layered.new }) (tree_of node.entry) others ≡ spans.new.items ++ others) }
+    ensures each { OnOk result (length spans.old.items ≡ board.old.next_unit → length spans.new.items ≡ board.new.next_unit) }
 {
     let unit = board.next_unit();
     read_part(alloc, board, layered, node)?;
@@ -175,9 +183,11 @@ fn read_parts(
     layered: &mut bool,
     root: Node<'_, '_>,
 ) -> Result<Vec<Span>, BoardError>
-    requires { layered.old ≡ false → board.old.copper.bits ≡ 0 }
+    requires unlisted { layered.old ≡ false → board.old.copper.bits ≡ 0 }
+    requires none { board.old.next_unit ≡ 0 }
     ensures read { LeavesSome result (record { board = board.new; layered = layered.new }) (SaysParts (record { board = board.old; layered = layered.old }) (parts (tree_of root.entry))) }
     ensures spans { IfOk result (λ spans. SaysSpans (record { board = board.old; layered = layered.old }) (parts (tree_of root.entry)) spans.items) }
+    ensures each { IfOk result (λ spans. length spans.items ≡ board.new.next_unit) }
 {
     let mut spans = Vec::new(alloc);
     for part in root.children() {
@@ -190,6 +200,7 @@ fn read_parts(
 pub(crate) fn board_of(alloc: Global, root: Node<'_, '_>) -> Result<(Board, Spans), BoardError>
     ensures says { GivesBoardWith result (SaysBoard (tree_of root.entry)) }
     ensures spans { IfOk result (λ read. AreSpans (tree_of root.entry) read.1) }
+    ensures each { IfOk result (λ read. length read.1 ≡ read.0.next_unit) }
 {
     check_header(root)?;
     let mut board = Board::new(alloc, LayerSet { bits: 0 })?;

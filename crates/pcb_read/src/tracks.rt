@@ -7,7 +7,8 @@ ghost use Rattle.part_read.specs.Ready.{IsReady};
 ghost use Rattle.pcb_read.specs.Tracks.{track_of, via_of};
 
 use crate::items::{Origin, ViaForm, track_along, via_of_form};
-use board_items::{Board, BoardError, Item, LayerSet};
+use board_items::{Board, BoardError, Item};
+use copper_layers::LayerSet;
 use part_read::{
     Strip, Wanted, find_elements, has_word, layer_of, layers_through, name_in, net_of, pick, place,
     size_given, size_of, spot_of,

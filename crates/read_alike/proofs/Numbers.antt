@@ -9,9 +9,9 @@ use Rattle.sexpr_read.specs.Tree.{Forest, Tree, branch, trees, content}
 use Rattle.sexpr_read.specs.Endings.{ends_in}
 use Rattle.board_items.specs.declared.errors.BoardError.{BoardError}
 use Rattle.board_items.specs.declared.errors.BoardError.TheVariants.{BadNumber, UnknownNet, UnknownLayer}
-use Rattle.board_items.specs.declared.layers.LayerSet.{LayerSet}
+use Rattle.copper_layers.specs.declared.set.LayerSet.{LayerSet}
 use Rattle.board_items.specs.Boards.{PlainBoard, name_of}
-use Rattle.board_items.specs.Layers.{has_layer, layer_names}
+use Rattle.copper_layers.specs.Layers.{has_layer, layer_names}
 use Rattle.part_read.specs.Elements.{◌>>=◌, needed, place, is_value, has_head, element, in_needed, atom_of, is_naming, naming, text_in, name_among, name_in}
 use Rattle.part_read.specs.Numbers.{read_as, length_in, size_in, number_in, size_at, size_of}
 use Rattle.part_read.specs.LayersOf.{layer_number, ends_in_cu, layer_by, layer_in, copper_by, copper_in, layer_at, layer_of}

@@ -7,7 +7,7 @@ ghost use Rattle.sexpr_read.specs.Tree.{Forest, Tree, branch};
 ghost use Rattle.geo_seg.specs.declared.shapes.Core.{Core};
 ghost use Rattle.geo_seg.specs.Shifts.{IsShiftedCore};
 ghost use Rattle.board_items.specs.declared.item.Item.{Item};
-ghost use Rattle.board_items.specs.declared.layers.LayerSet.{LayerSet};
+ghost use Rattle.copper_layers.specs.declared.set.LayerSet.{LayerSet};
 ghost use Rattle.board_items.specs.declared.parts.Part.{Part};
 ghost use Rattle.board_items.specs.Boards.{PlainBoard, name_of};
 ghost use Rattle.board_items.specs.Moves.{AreShifted, IsShiftedItem};

@@ -4,13 +4,13 @@ use Rattle.std.specs.List.{list_all}
 use Rattle.std.proofs.lemmas.Int.{ints}
 use Rattle.geo_seg.specs.declared.points.Point.{Point}
 use Rattle.geo_seg.specs.declared.shapes.Shape.{Shape}
-use Rattle.board_items.specs.declared.layers.LayerSet.{LayerSet}
+use Rattle.copper_layers.specs.declared.set.LayerSet.{LayerSet}
 use Rattle.board_items.specs.declared.item.Bans.{Bans}
 use Rattle.board_items.specs.declared.parts.Part.{Part}
 use Rattle.board_items.specs.declared.item.What.TheVariants.{Fill, Area}
-use Rattle.board_items.specs.Layers.{has_layer, is_within, single_layer}
+use Rattle.copper_layers.specs.Layers.{has_layer, is_within, single_layer}
 use Rattle.board_items.specs.Boards.{PlainBoard, name_of, is_admitted}
-use Rattle.board_items.proofs.LayerLemmas.{single_within}
+use Rattle.copper_layers.proofs.LayerLemmas.{single_within}
 use Rattle.part_read.specs.declared.numbers.Spot.{Spot}
 use Rattle.part_read.specs.OnBoard.{tested, fits_board, point_at}
 use Rattle.part_read.specs.Stances.{stood, with_point, points_stood}

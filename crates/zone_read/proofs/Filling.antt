@@ -7,7 +7,7 @@ use Rattle.board_items.specs.Boards.{PlainBoard}
 use Rattle.part_read.specs.Elements.{◌>>=◌, has_head}
 use Rattle.part_read.specs.Lists.{before}
 use Rattle.geo_seg.specs.declared.shapes.Shape.{Shape}
-use Rattle.board_items.specs.declared.layers.LayerSet.{LayerSet}
+use Rattle.copper_layers.specs.declared.set.LayerSet.{LayerSet}
 use Rattle.board_items.specs.declared.item.Bans.{Bans}
 use Rattle.board_items.specs.declared.item.What.TheVariants.{Area}
 use Rattle.part_read.specs.declared.numbers.Spot.{Spot}

@@ -2,7 +2,7 @@
 
 ghost use Rattle.std.specs.Prelude.{◌≡◌, ◌+◌, ◌<◌, ◌≤◌, ◌∷◌, ◌++◌, [], ℕ, true, false, nat_lt, Some, is_some, length, codes, IfOk, IfSome, OnOk, IsTrue, option_map};
 ghost use Rattle.board_items.specs.Boards.{PlainBoard, IsSound, name_of};
-ghost use Rattle.board_items.specs.Layers.{has_layer, is_within};
+ghost use Rattle.copper_layers.specs.Layers.{has_layer, is_within};
 ghost use Rattle.part_read.specs.OnBoard.{fits_board};
 ghost use Rattle.part_read.specs.Ready.{IsReady, AreReady};
 ghost use Rattle.sexpr_read.specs.Tree.{parts};
@@ -15,7 +15,8 @@ ghost use Rattle.part_read.specs.Figures.{first_of};
 ghost use Rattle.zone_read.specs.Taking.{TakesFill};
 ghost use Rattle.zone_read.specs.ZoneOf.{layers_among, zone_layers, title_among, title_of, as_it_is, area_with, area_of, has_room_after, ban_among, ban_of, bans_in, polygon_of, area_in_room, rule_area, is_thin_by, is_thin, fill_layer, fill_on, fill_in_room, fills_after, zone_by, zone_of};
 
-use board_items::{Bans, Board, BoardError, Boxed, Item, LayerSet, Part, What};
+use board_items::{Bans, Board, BoardError, Boxed, Item, Part, What};
+use copper_layers::LayerSet;
 use drc_io::Name;
 use geo_seg::{Core, Poly, Shape};
 use part_read::{
@@ -25,6 +26,14 @@ use part_read::{
 };
 use sexpr_read::Node;
 use std::alloc::{AllocError, Global};
+
+/// What the items of a zone belong to: a board, a unit and a net.
+#[derive(Clone, Copy)]
+struct Owner<'a> {
+    board: &'a Board,
+    unit: u32,
+    net: u32,
+}
 
 // ---- net, layers and name
 
@@ -189,26 +198,31 @@ fn area_in_room(
 #[tactic(auto, unfolding(crate::specs::ZoneOf::rule_area))]
 fn rule_area(
     alloc: Global,
-    board: &Board,
-    unit: u32,
+    owner: &Owner<'_>,
     node: Node<'_, '_>,
-    net: u32,
     layers: LayerSet,
     title: Name,
     keepout: Node<'_, '_>,
 ) -> Result<Item, BoardError>
-    requires net { is_some (name_of board.now net) ≡ true }
-    requires on { IsTrue (is_within layers board.now.copper) }
-    ensures area { Gives result (rule_area board.now unit (tree_of node.entry) net layers title (tree_of keepout.entry)) }
-    ensures ready { IfOk result (IsReady board.now unit) }
-    ensures room { OnOk result (has_room_after 0 board.now unit ≡ true) }
+    requires net { is_some (name_of owner.now.board.now owner.now.net) ≡ true }
+    requires on { IsTrue (is_within layers owner.now.board.now.copper) }
+    ensures area { Gives result (rule_area owner.now.board.now owner.now.unit (tree_of node.entry) owner.now.net layers title (tree_of keepout.entry)) }
+    ensures ready { IfOk result (IsReady owner.now.board.now owner.now.unit) }
+    ensures room { OnOk result (has_room_after 0 owner.now.board.now owner.now.unit ≡ true) }
 {
     let corners = polygon_of(alloc, node)?;
     let bans = bans_in(keepout)?;
-    let shape = area_in_room(alloc, board, unit, node, &corners)?;
+    let shape = area_in_room(alloc, owner.board, owner.unit, node, &corners)?;
     let name = name_of_list(alloc, node)?;
     let what = area_what(alloc, title, bans, Part { layers, shape })?;
-    Ok(plain_item(name, unit, net, first_of(&corners), no_parts(alloc), what))
+    Ok(plain_item(
+        name,
+        owner.unit,
+        owner.net,
+        first_of(&corners),
+        no_parts(alloc),
+        what,
+    ))
 }
 
 fn area_what(alloc: Global, title: Name, bans: Bans, shape: Part) -> Result<What, AllocError>
@@ -281,25 +295,23 @@ fn fill_on(
 fn fill_in_room(
     alloc: Global,
     found: usize,
-    board: &Board,
-    unit: u32,
-    net: u32,
+    owner: &Owner<'_>,
     node: Node<'_, '_>,
     list: Node<'_, '_>,
     layer: u32,
 ) -> Result<Item, BoardError>
     requires below { layer < 32 }
-    requires on { IsTrue (has_layer board.now.copper layer) }
-    requires net { is_some (name_of board.now net) ≡ true }
-    ensures fill { Gives result (fill_in_room found board.now unit net (tree_of node.entry) (tree_of list.entry) layer) }
-    ensures ready { IfOk result (IsReady board.now unit) }
-    ensures room { OnOk result (has_room_after found board.now unit ≡ true) }
+    requires on { IsTrue (has_layer owner.now.board.now.copper layer) }
+    requires net { is_some (name_of owner.now.board.now owner.now.net) ≡ true }
+    ensures fill { Gives result (fill_in_room found owner.now.board.now owner.now.unit owner.now.net (tree_of node.entry) (tree_of list.entry) layer) }
+    ensures ready { IfOk result (IsReady owner.now.board.now owner.now.unit) }
+    ensures room { OnOk result (has_room_after found owner.now.board.now owner.now.unit ≡ true) }
 {
     if !is_thin(node) {
         return Err(BoardError::ThickFill { at: place(node) });
     }
-    let fill = fill_on(alloc, unit, net, node, layer, list)?;
-    if !has_room_after(found, board, unit) {
+    let fill = fill_on(alloc, owner.unit, owner.net, node, layer, list)?;
+    if !has_room_after(found, owner.board, owner.unit) {
         return Err(BoardError::TooMany { at: place(list) });
     }
     Ok(fill)
@@ -315,54 +327,37 @@ fn push_item(items: &mut Vec<Item>, item: Item) -> Result<(), AllocError>
 /// Takes the fill of a part, if it is a filled polygon on copper.
 fn take_fill(
     alloc: Global,
-    board: &Board,
-    unit: u32,
-    net: u32,
+    owner: &Owner<'_>,
     node: Node<'_, '_>,
     part: Node<'_, '_>,
     fills: &mut Vec<Item>,
 ) -> Result<(), BoardError>
-    requires net { is_some (name_of board.now net) ≡ true }
-    requires ready { AreReady board.now unit fills.old.items }
-    ensures taken { TakesFill result board.now unit net (tree_of node.entry) (tree_of part.entry) fills.old.items fills.new.items }
-    ensures ready { OnOk result (AreReady board.now unit fills.new.items) }
+    requires net { is_some (name_of owner.now.board.now owner.now.net) ≡ true }
+    requires ready { AreReady owner.now.board.now owner.now.unit fills.old.items }
+    ensures taken { TakesFill result owner.now.board.now owner.now.unit owner.now.net (tree_of node.entry) (tree_of part.entry) fills.old.items fills.new.items }
+    ensures ready { OnOk result (AreReady owner.now.board.now owner.now.unit fills.new.items) }
 {
     if !has_head(part, b"filled_polygon") {
         return Ok(());
     }
-    let Some(layer) = fill_layer(board.copper(), part)? else {
+    let Some(layer) = fill_layer(owner.board.copper(), part)? else {
         return Ok(());
     };
-    let fill = fill_in_room(
-        alloc,
-        fills.as_slice().len(),
-        board,
-        unit,
-        net,
-        node,
-        part,
-        layer,
-    )?;
+    let fill = fill_in_room(alloc, fills.as_slice().len(), owner, node, part, layer)?;
     push_item(fills, fill)?;
     Ok(())
 }
 
 /// The fills of a zone.
 #[tactic(auto, using(crate::proofs::Admitting::none_ready))]
-fn fills_of(
-    alloc: Global,
-    board: &Board,
-    unit: u32,
-    net: u32,
-    node: Node<'_, '_>,
-) -> Result<Vec<Item>, BoardError>
-    requires { is_some (name_of board.now net) ≡ true }
-    ensures fills { GivesItems result (fills_after 0 board.now unit net (tree_of node.entry) (parts (tree_of node.entry))) }
-    ensures ready { IfOk result (λ items. AreReady board.now unit items.items) }
+fn fills_of(alloc: Global, owner: &Owner<'_>, node: Node<'_, '_>) -> Result<Vec<Item>, BoardError>
+    requires { is_some (name_of owner.now.board.now owner.now.net) ≡ true }
+    ensures fills { GivesItems result (fills_after 0 owner.now.board.now owner.now.unit owner.now.net (tree_of node.entry) (parts (tree_of node.entry))) }
+    ensures ready { IfOk result (λ items. AreReady owner.now.board.now owner.now.unit items.items) }
 {
     let mut fills = Vec::new(alloc);
     for part in node.children() {
-        take_fill(alloc, board, unit, net, node, part, &mut fills)?;
+        take_fill(alloc, owner, node, part, &mut fills)?;
     }
     Ok(fills)
 }
@@ -392,10 +387,11 @@ pub fn read_zone(
     let net = declared_net(board, node)?;
     let layers = zone_layers(board.copper(), node)?;
     let title = title_of(alloc, node)?;
+    let owner = Owner { board, unit, net };
     match element(node, b"keepout") {
-        None => fills_of(alloc, board, unit, net, node),
+        None => fills_of(alloc, &owner, node),
         Some(keepout) => {
-            let area = rule_area(alloc, board, unit, node, net, layers, title, keepout)?;
+            let area = rule_area(alloc, &owner, node, layers, title, keepout)?;
             Ok(one_item(alloc, area)?)
         }
     }

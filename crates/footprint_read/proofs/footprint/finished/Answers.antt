@@ -10,7 +10,7 @@ pub returns-clause-ready : goal.returns-clause-ready
 returns-clause-ready c =
     let board = c.args.board.now in
     let unit = c.args.unit in
-    let fits = placed_fits c.args.head c.args.front c.args.back (sym c.is_placed.ensures ∙ c.if-not-is_placed.false) in
-    let all = all_ready board unit c.args.head (tree_of c.args.node) c.args.given c.args.front c.args.back c.requires.net fits c.requires.front c.requires.back c.requires.given in
+    let fits = placed_fits c.args.head c.args.courts.front c.args.courts.back (sym c.is_placed.ensures ∙ c.if-not-is_placed.false) in
+    let all = all_ready board unit c.args.head (tree_of c.args.node) c.args.given c.args.courts.front c.args.courts.back c.requires.net fits c.requires.front c.requires.back c.requires.given in
     ready_in_room board unit c.into_list.result.items c.in_ok-items.items.items
     (subst (λ (gs : List Given). All (IsReady board unit) (items_of gs)) (sym (c.into_list.ensures ∙ c.in_ok-all.ensures)) all) c.in_ok-items.ensures

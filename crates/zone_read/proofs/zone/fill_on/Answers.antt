@@ -1,10 +1,10 @@
 use Rattle.std.proofs.Common.{◌≡◌, ◌∙◌, sym, ap, subst, refl, true, ◌∷◌, []}
 use Rattle.sexpr_read.specs.Views.{tree_of}
-use Rattle.board_items.specs.declared.layers.LayerSet.{LayerSet}
+use Rattle.copper_layers.specs.declared.set.LayerSet.{LayerSet}
 use Rattle.board_items.specs.declared.parts.Part.{Part}
 use Rattle.board_items.specs.declared.item.What.TheVariants.{Fill}
 use Rattle.board_items.specs.declared.item.Item.{Item}
-use Rattle.board_items.specs.Layers.{single_layer}
+use Rattle.copper_layers.specs.Layers.{single_layer}
 use Rattle.board_items.specs.Boards.{is_admitted}
 use Rattle.part_read.specs.Elements.{name_in}
 use Rattle.part_read.specs.OnBoard.{fits_board}

@@ -10,7 +10,7 @@ use Rattle.zone_read.proofs.zone.fills_of.Given as goal
 abbrev pub invariant-loop-part : goal.invariant-loop-part
 invariant-loop-part l = record {
   fills :
-      before l.fills.items (fills_after (length l.fills.items) l.board l.unit l.net (tree_of l.node) (trees_left l.part-iterator))
-      ≡ fills_after 0 l.board l.unit l.net (tree_of l.node) (parts (tree_of l.node));
-  ready : AreReady l.board l.unit l.fills.items;
+      before l.fills.items (fills_after (length l.fills.items) l.owner.board.now l.owner.unit l.owner.net (tree_of l.node) (trees_left l.part-iterator))
+      ≡ fills_after 0 l.owner.board.now l.owner.unit l.owner.net (tree_of l.node) (parts (tree_of l.node));
+  ready : AreReady l.owner.board.now l.owner.unit l.fills.items;
 }

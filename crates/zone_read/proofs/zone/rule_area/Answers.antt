@@ -11,14 +11,14 @@ use Rattle.zone_read.proofs.zone.rule_area.Goals as goal
 
 pub returns-clause-area : goal.returns-clause-area
 returns-clause-area c =
-    area_is c.args.board.now c.args.unit (tree_of c.args.node) c.args.net c.args.layers c.args.title (tree_of c.args.keepout) c.in_ok-bans.bans c.in_ok-corners.corners c.in_ok-shape.shape c.plain_item.result
+    area_is c.args.owner.now.board.now c.args.owner.now.unit (tree_of c.args.node) c.args.owner.now.net c.args.layers c.args.title (tree_of c.args.keepout) c.in_ok-bans.bans c.in_ok-corners.corners c.in_ok-shape.shape c.plain_item.result
     (sym c.in_ok-bans.ensures) c.in_ok-corners.ensures c.in_ok-shape.ensures.shape
-    (plain_by c.plain_item.result _ _ c.args.unit c.args.net _ _ _ _ _ _ c.plain_item.ensures c.in_ok-name.ensures c.first_of.ensures c.no_parts.ensures c.in_ok-what.ensures refl)
+    (plain_by c.plain_item.result _ _ c.args.owner.now.unit c.args.owner.now.net _ _ _ _ _ _ c.plain_item.ensures c.in_ok-name.ensures c.first_of.ensures c.no_parts.ensures c.in_ok-what.ensures refl)
 
 pub returns-clause-ready : goal.returns-clause-ready
 returns-clause-ready c =
     let corners = c.in_ok-corners.corners in
     let name = name_in (tree_of c.args.node) in
-    let same = plain_by c.plain_item.result _ name c.args.unit c.args.net _ (first_of corners) _ [] _ _ c.plain_item.ensures c.in_ok-name.ensures c.first_of.ensures c.no_parts.ensures c.in_ok-what.ensures refl in
-    let fine = area_admitted c.args.board.now name c.args.unit c.args.net (first_of corners) c.args.title c.in_ok-bans.bans c.args.layers c.in_ok-shape.shape c.in_ok-shape.ensures.near c.requires.net c.requires.on in
-    record { admitted = subst (λ (item : Item). is_admitted c.args.board.now item ≡ true) (sym same) fine; of_unit = ap (λ (item : Item). item.unit) same }
+    let same = plain_by c.plain_item.result _ name c.args.owner.now.unit c.args.owner.now.net _ (first_of corners) _ [] _ _ c.plain_item.ensures c.in_ok-name.ensures c.first_of.ensures c.no_parts.ensures c.in_ok-what.ensures refl in
+    let fine = area_admitted c.args.owner.now.board.now name c.args.owner.now.unit c.args.owner.now.net (first_of corners) c.args.title c.in_ok-bans.bans c.args.layers c.in_ok-shape.shape c.in_ok-shape.ensures.near c.requires.net c.requires.on in
+    record { admitted = subst (λ (item : Item). is_admitted c.args.owner.now.board.now item ≡ true) (sym same) fine; of_unit = ap (λ (item : Item). item.unit) same }

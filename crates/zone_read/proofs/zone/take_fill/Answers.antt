@@ -15,16 +15,16 @@ returns-clause-taken c rest =
     let t = tree_of c.args.part in
     let tree = tree_of c.args.node in
     let head : has_head (codes "filled_polygon") t ≡ true = sym c.has_head.ensures ∙ c.if-not-has_head.false in
-    let on : fill_layer c.args.board.now.copper t ≡ Ok (Some c.in-Some.layer) = cc (c.in_ok-layer.ensures.layer, c.copper.ensures, c.in-Some.is) in
-    let made : fill_in_room (length c.args.fills.now.items) c.args.board.now c.args.unit c.args.net tree t c.in-Some.layer ≡ Ok c.in_ok-fill.fill =
-    subst (λ (n : ℕ). fill_in_room n c.args.board.now c.args.unit c.args.net tree t c.in-Some.layer ≡ Ok c.in_ok-fill.fill) (ap (λ (items : List Item). length items) c.as_slice.ensures.value) c.in_ok-fill.ensures.fill in
-    filled c.args.board.now c.args.unit c.args.net tree t rest c.args.fills.now.items head c.in-Some.layer c.in_ok-fill.fill on made
-    ∙ ap (λ (items : List Item). before items (fills_after (length items) c.args.board.now c.args.unit c.args.net tree rest)) (sym c.in_ok-push_item.ensures)
+    let on : fill_layer c.args.owner.now.board.now.copper t ≡ Ok (Some c.in-Some.layer) = cc (c.in_ok-layer.ensures.layer, c.copper.ensures, c.in-Some.is) in
+    let made : fill_in_room (length c.args.fills.now.items) c.args.owner.now.board.now c.args.owner.now.unit c.args.owner.now.net tree t c.in-Some.layer ≡ Ok c.in_ok-fill.fill =
+    subst (λ (n : ℕ). fill_in_room n c.args.owner.now.board.now c.args.owner.now.unit c.args.owner.now.net tree t c.in-Some.layer ≡ Ok c.in_ok-fill.fill) (ap (λ (items : List Item). length items) c.as_slice.ensures.value) c.in_ok-fill.ensures.fill in
+    filled c.args.owner.now.board.now c.args.owner.now.unit c.args.owner.now.net tree t rest c.args.fills.now.items head c.in-Some.layer c.in_ok-fill.fill on made
+    ∙ ap (λ (items : List Item). before items (fills_after (length items) c.args.owner.now.board.now c.args.owner.now.unit c.args.owner.now.net tree rest)) (sym c.in_ok-push_item.ensures)
 
 pub returns-clause-ready : goal.returns-clause-ready
 returns-clause-ready c =
-    let board = c.args.board.now in
+    let board = c.args.owner.now.board.now in
     let old = c.args.fills.now.items in
-    let room : has_room_after (length old) board c.args.unit ≡ true = subst (λ (n : ℕ). has_room_after n board c.args.unit ≡ true) (ap (λ (items : List Item). length items) c.as_slice.ensures.value) c.in_ok-fill.ensures.room in
-    subst (λ (items : List Item). AreReady board c.args.unit items) (sym c.in_ok-push_item.ensures)
-    (more_ready board c.args.unit old c.in_ok-fill.fill c.requires.ready c.in_ok-fill.ensures.ready room)
+    let room : has_room_after (length old) board c.args.owner.now.unit ≡ true = subst (λ (n : ℕ). has_room_after n board c.args.owner.now.unit ≡ true) (ap (λ (items : List Item). length items) c.as_slice.ensures.value) c.in_ok-fill.ensures.room in
+    subst (λ (items : List Item). AreReady board c.args.owner.now.unit items) (sym c.in_ok-push_item.ensures)
+    (more_ready board c.args.owner.now.unit old c.in_ok-fill.fill c.requires.ready c.in_ok-fill.ensures.ready room)
