@@ -2,7 +2,6 @@
 use Rattle.std.proofs.Common.{◌≡◌, ◌∙◌, refl, sym, ap, subst, ℕ, ◌+◌, ◌-◌, ◌≤◌, arith, Bool, true, false, List, length, Option, None, Some, Result, Ok, Err}
 use Rattle.std.specs.Io.KnownBytes.{Keeps}
 use Rattle.sexpr_read.specs.declared.place.Span.{Span}
-use Rattle.sexpr_read.specs.declared.place.TextError.{TextError}
 use Rattle.sexpr_read.specs.Tree.{Forest, Tree, leaf, branch, parts, span, levels}
 use Rattle.sexpr_read.specs.Spelling.{Spells}
 use Rattle.sexpr_read.specs.Places.{StandBetween}
@@ -16,8 +15,7 @@ use Rattle.edit_script.specs.Commands.{PlainCommand}
 use Rattle.board_items.specs.declared.errors.BoardError.TheVariants.{Missing}
 use Rattle.part_read.specs.Elements.{◌>>=◌, check, place}
 use Rattle.pcb_read.specs.BoardOf.{Reading, unread, header_in, board_in, SaysParts, SaysAfter, SaysBoard}
-use Rattle.pcb_read.specs.BoardText.{Says, SaysAfter as SaysTextAfter}
-use Rattle.pcb_read.specs.Spans.{AreSpans, HasSpans}
+use Rattle.pcb_read.specs.Spans.{AreSpans}
 use Rattle.tree_text.specs.Anew.{Fate, edited_whole}
 use Rattle.board_alike.specs.Written.{Draft, untouched, with_changes, FatesAre, span_of, inside_of, added_trees, IsWritten}
 use Rattle.board_write.specs.declared.marks.Mark.{Mark}
@@ -91,22 +89,9 @@ finish text commands source course whole is r e =
 
 -- ---- what was read
 
-after_none : (text : List ℕ) (o : Option TextError) (board : PlainBoard) → o ≡ None → SaysTextAfter text o (Ok board) → (tree : Tree) × Spells text tree × SaysBoard tree (Ok board)
-after_none text None board e says = says
-after_none text (Some x) board e says = absurd cc
-
-pub read_is : (text : List ℕ) (source : Source) → refusal_of_one text ≡ None → Spells text (root_of source.doc) → levels (root_of source.doc) ≤ 64 → ((tree : Tree) → Spells text tree → tree ≡ root_of source.doc) → Says text (Ok source.board)
-    → HasSpans text source.spans → length source.spans ≡ source.board.next_unit → IsSource text source
-read_is text source accepted spelled shallow only says (tree, tree_spelled, spans) each =
-    let board_said = after_none text (refusal_of_one text) source.board accepted says in
-    record {
-      accepted = accepted;
-      spelled = spelled;
-      shallow = shallow;
-      says = subst (λ (t : Tree). SaysBoard t (Ok source.board)) (only board_said.0 board_said.1) board_said.2;
-      spans = subst (λ (t : Tree). AreSpans t source.spans) (only tree tree_spelled) spans;
-      each = each;
-    }
+pub read_is : (text : List ℕ) (source : Source) → refusal_of_one text ≡ None → Spells text (root_of source.doc) → levels (root_of source.doc) ≤ 64 → SaysBoard (root_of source.doc) (Ok source.board)
+    → AreSpans (root_of source.doc) source.spans → length source.spans ≡ source.board.next_unit → IsSource text source
+read_is text source accepted spelled shallow says spans each = record { accepted = accepted; spelled = spelled; shallow = shallow; says = says; spans = spans; each = each }
 
 pub keeps_itself : (told : Option (List ℕ)) → Keeps told told
 keeps_itself None = tt

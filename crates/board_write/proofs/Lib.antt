@@ -6,6 +6,7 @@ pub mod Fronts
 pub mod Draws
 pub mod OneOutcome
 pub mod SetDown
+pub mod Sourcing
 pub mod Standing
 pub mod Steps
 pub mod Walking

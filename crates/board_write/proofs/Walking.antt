@@ -10,7 +10,7 @@ use Rattle.board_items.specs.declared.item.Item.{Item}
 use Rattle.board_items.specs.Boards.{PlainBoard, name_of, with_net, with_item}
 use Rattle.part_read.specs.Elements.{◌>>=◌, has_head, atom_of, text_of}
 use Rattle.part_read.specs.Numbers.{number_in}
-use Rattle.board_items.specs.declared.layers.LayerSet.{LayerSet}
+use Rattle.copper_layers.specs.declared.set.LayerSet.{LayerSet}
 use Rattle.part_read.specs.LayersOf.{layers_listed}
 use Rattle.tree_text.specs.Anew.{Fate, stays}
 use Rattle.pcb_read.specs.declared.sorts.Sort.{Sort}

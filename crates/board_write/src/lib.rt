@@ -11,6 +11,7 @@ ghost use Rattle.edit_script.specs.Commands.{plain_command};
 ghost use Rattle.edit_script.specs.Fits.{Fits};
 ghost use Rattle.pcb_read.specs.BoardText.{Says};
 ghost use Rattle.board_write.specs.Answers.{Wrote, IsCause};
+ghost use Rattle.board_write.specs.Sources.{IsSource};
 ghost use Rattle.board_write.specs.declared.error.WriteError.{WriteError};
 
 mod course;
@@ -28,6 +29,7 @@ use crate::written::text_by;
 use drc_io::{Sink, put_all};
 use edit_script::Command;
 pub use error::{InTwo, WriteError};
+pub use source::{Source, read_source};
 use std::alloc::Global;
 
 /// Writes the text of the board after the commands to the sink, and gives how many of them were refused. `text` is that of a board, of
@@ -48,7 +50,26 @@ pub fn write_board<W: Sink>(
     ensures refused { (why : BoardError) → Says text.now (Err why) → (result ≡ Err (WriteError.Board why)) ⊎ (result ≡ Err WriteError.OutOfMemory) }
     ensures counts { W.faults out.old ≤ W.faults out.new }
 {
-    let written = text_by(alloc, text, commands)?;
+    let source = read_source(alloc, text)?;
+    write_source(alloc, text, source, commands, out)
+}
+
+/// The same of a board that was read of the text before, so that the text is not read again. It is not refused.
+pub fn write_source<W: Sink>(
+    alloc: Global,
+    text: &[u8],
+    source: Source<'_>,
+    commands: &[Command<'_>],
+    out: &mut W,
+) -> Result<u32, WriteError>
+    requires read { IsSource text.now source }
+    requires few { length commands.now < 4_294_967_295 }
+    requires fit { All Fits (map plain_command commands.now) }
+    ensures written { MatchResult result (Wrote text.now (map plain_command commands.now) (W.written out.old) (W.written out.new)) (IsCause text.now (map plain_command commands.now) (W.written out.old) (W.written out.new) (W.faults out.old) (W.faults out.new)) }
+    ensures read { (why : BoardError) → result ≡ Err (WriteError.Board why) → ⊥ }
+    ensures counts { W.faults out.old ≤ W.faults out.new }
+{
+    let written = text_by(alloc, text, source, commands)?;
     put_all(out, &written.text)?;
     Ok(written.refused)
 }

@@ -1,20 +1,15 @@
 //! The text of a board after commands.
 
-ghost use Rattle.std.specs.Prelude.{◌≡◌, ◌≤◌, ◌<◌, ◌⊎◌, length, map, All, IfOk, IfErr, Err};
-ghost use Rattle.board_items.specs.declared.errors.BoardError.{BoardError};
+ghost use Rattle.std.specs.Prelude.{◌<◌, length, map, All, IfOk};
 ghost use Rattle.edit_script.specs.Commands.{plain_command};
 ghost use Rattle.edit_script.specs.Fits.{Fits};
-ghost use Rattle.pcb_read.specs.BoardText.{Says};
-ghost use Rattle.board_write.specs.Answers.{IsCauseBefore};
-ghost use Rattle.board_write.specs.Sources.{HasText};
-ghost use Rattle.board_write.specs.declared.error.WriteError.{WriteError};
+ghost use Rattle.board_write.specs.Sources.{IsSource, HasText};
 
 use crate::course::carried_out;
-use crate::error::WriteError;
 use crate::root::{Units, text_after};
-use crate::source::{Source, read_source};
+use crate::source::Source;
 use edit_script::Command;
-use std::alloc::Global;
+use std::alloc::{AllocError, Global};
 
 /// The text after commands, and how many of them were refused.
 #[derive(Drop)]
@@ -27,16 +22,15 @@ pub(crate) struct Written {
 pub(crate) fn text_by(
     alloc: Global,
     text: &[u8],
+    source: Source<'_>,
     commands: &[Command<'_>],
-) -> Result<Written, WriteError>
-    requires text { length text.now ≤ 33_554_432 }
+) -> Result<Written, AllocError>
+    requires read { IsSource text.now source }
     requires few { length commands.now < 4_294_967_295 }
     requires fit { All Fits (map plain_command commands.now) }
-    ensures written { IfOk result (HasText text.now (map plain_command commands.now)) }
-    ensures cause { IfErr result (IsCauseBefore text.now) }
-    ensures refused { (why : BoardError) → Says text.now (Err why) → (result ≡ Err (WriteError.Board why)) ⊎ (result ≡ Err WriteError.OutOfMemory) }
+    ensures { IfOk result (HasText text.now (map plain_command commands.now)) }
 {
-    let Source { board, spans, doc } = read_source(alloc, text)?;
+    let Source { board, spans, doc } = source;
     let course = carried_out(alloc, board, commands)?;
     let units = Units {
         spans: spans.as_slice(),

@@ -2,7 +2,6 @@ pub mod Read
 pub mod Written
 pub mod Accepting
 pub mod OneProject
-pub mod FewRules
 pub mod FewCommands
 pub mod TurnLists
 pub mod OneTurn

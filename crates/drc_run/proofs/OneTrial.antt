@@ -1,5 +1,5 @@
 -- The trial of a command writes one text, and so do the trials of commands with the line behind them.
-use Rattle.std.proofs.Common.{◌≡◌, ◌∙◌, ap, sym, subst, ℕ, ◌+◌, Bool, false, List, [], ◌++◌, length, codes, decimal, append_assoc, slice_get, Option, Some, None, Result, Ok, Err}
+use Rattle.std.proofs.Common.{◌≡◌, ◌∙◌, ap, sym, subst, ℕ, ◌+◌, false, List, [], ◌++◌, length, codes, decimal, append_assoc, Option, Some, None, Result, Ok, Err}
 use Rattle.pair_check.specs.PlainRow.{PlainRow}
 use Rattle.pair_check.specs.Rows.{Checked, AreRows}
 use Rattle.drc_rows.specs.Report.{number_line}
@@ -9,7 +9,7 @@ use Rattle.drc_state.specs.States.{State, checked_in}
 use Rattle.drc_state.specs.Steps.{Answers}
 use Rattle.what_if.specs.Trials.{IsDifference, IsSurvey}
 use Rattle.drc_run.specs.Reports.{refused_trial, why_edit}
-use Rattle.drc_run.specs.Turns.{AreTurns, AreFirstTurns, marked_lines, IsTrialText, or_some, IsTrial, untried, tried}
+use Rattle.drc_run.specs.Turns.{marked_lines, IsTrialText, or_some, IsTrial, untried, tried}
 use Rattle.drc_run.specs.Output.{Output, IsLeastLine, status_if, AreTrialsTold, AreFirstTrials}
 use Rattle.drc_run.proofs.TurnLists.{IsOne, one_text, front_of_all}
 

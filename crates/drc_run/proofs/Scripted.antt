@@ -5,8 +5,8 @@ use Rattle.rule_text.specs.RulesOf.{no_rules}
 use Rattle.edit_script.specs.Commands.{PlainCommand, PlainStep}
 use Rattle.drc_state.specs.States.{State}
 use Rattle.drc_run.specs.declared.status.Status.{Status}
-use Rattle.drc_run.specs.declared.texts.Which.TheVariants.{Board, Steps, Trials}
-use Rattle.drc_run.specs.Calls.{Call, undo, try}
+use Rattle.drc_run.specs.declared.texts.Which.TheVariants.{Steps, Trials}
+use Rattle.drc_run.specs.Calls.{undo, try}
 use Rattle.drc_run.specs.Texts.{named, texts_of, Value, a_board, a_script, some_steps, accepted, SourceSays, AreAccepted}
 use Rattle.drc_run.specs.Output.{Output, IsOpenedBy, AreStepsTold, AreStepsToldSoFar, AreTrialsTold, IsOutputFor, given, IsBegunFor, whole, begun_by, ReadFails}
 use Rattle.drc_run.specs.Refusing.{AreOpened, only_board}

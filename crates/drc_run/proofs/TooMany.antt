@@ -9,7 +9,6 @@ use Rattle.edit_script.specs.Commands.{PlainCommand, plain_command, place_of}
 use Rattle.edit_script.specs.Reasons.{name_of, code_of, place_of as script_place_of}
 use Rattle.edit_script.specs.ScriptText.{Says as ScriptSays}
 use Rattle.drc_run.specs.declared.texts.Which.TheVariants.{Trials}
-use Rattle.drc_run.specs.declared.texts.Stop.{Stop}
 use Rattle.drc_run.specs.Texts.{at_place, a_script, accepted, ReaderSays, RefusesTrials}
 use Rattle.drc_run.specs.Refusing.{reason, StopsReading, stop_of}
 

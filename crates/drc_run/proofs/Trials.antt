@@ -1,17 +1,15 @@
 -- Trials as they are written.
-use Rattle.std.proofs.Common.{◌≡◌, ◌∙◌, ◌⊎◌, inl, inr, refl, sym, ap, subst, ℕ, zero, suc, ◌<◌, ◌≤◌, Bool, true, false, List, [], ◌∷◌, ◌++◌, length, codes, map, append_assoc, append-nil, Option, Some, None, Result, Ok, Err, MatchResult, All, arith}
+use Rattle.std.proofs.Common.{◌≡◌, ◌∙◌, inl, inr, refl, sym, ap, subst, ℕ, zero, suc, ◌≤◌, Bool, true, false, List, [], ◌∷◌, ◌++◌, length, codes, append_assoc, append-nil, Option, Result, Ok, Err, MatchResult, All, arith}
 use Rattle.std.specs.List.{flat_map}
 use Rattle.std.proofs.KnownBytes.{Appends-trans}
 use Rattle.std.proofs.lemmas.List.Elements.{All-contains}
 use Rattle.drc_io.specs.Causes.{Rose}
-use Rattle.drc_io.specs.Sinks.{AppendsFront, Writes}
+use Rattle.drc_io.specs.Sinks.{Writes}
 use Rattle.drc_io.specs.declared.Failed.{Failed}
 use Rattle.drc_io.proofs.Writing.{AppendsFront-after}
 use Rattle.pair_check.specs.PlainRow.{PlainRow}
 use Rattle.pair_check.specs.Rows.{Checked, IsRow, AreRows}
-use Rattle.edit_script.specs.declared.command.Command.{Command}
-use Rattle.edit_script.specs.Commands.{PlainCommand, plain_command}
-use Rattle.edit_script.specs.Fits.{Fits}
+use Rattle.edit_script.specs.Commands.{PlainCommand}
 use Rattle.drc_rows.specs.Report.{number_line}
 use Rattle.drc_state.specs.declared.error.EditError.{EditError}
 use Rattle.drc_state.specs.States.{State, checked_in}
@@ -19,9 +17,8 @@ use Rattle.drc_state.specs.Steps.{Answers}
 use Rattle.what_if.specs.declared.error.TrialError.{TrialError}
 use Rattle.what_if.specs.declared.error.TrialError.TheVariants.{Refused}
 use Rattle.what_if.specs.declared.outcome.Trial.{Trial}
-use Rattle.what_if.specs.Trials.{LeadTo, StopsAt, IsDifference, IsSurvey}
-use Rattle.what_if.specs.Tried.{IsTrial as IsTried, IsRefusal}
-use Rattle.what_if.proofs.Stopping.{refused_alone}
+use Rattle.what_if.specs.Trials.{IsDifference, IsSurvey}
+use Rattle.what_if.specs.Tried.{IsTrial as IsTried, IsRefusedAt}
 use Rattle.drc_run.specs.declared.status.Status.{Status}
 use Rattle.drc_run.specs.declared.status.Status.TheVariants.{WriteFault}
 use Rattle.drc_run.specs.Reports.{refused_trial, why_edit}
@@ -73,24 +70,15 @@ module _ (n : ℕ) (s after : State) (gone come rows : List PlainRow) where
   pub trial_text : IsDifference s after come gone → AreRows (checked_in after) rows → IsTrialText n s after come (first_text ++ gone_text ++ come_text ++ last_text)
   trial_text differ are = record { gone = gone; rows = rows; differ = differ; are_rows = are; text_is = refl }
 
--- what a list of one command leads to is the trial of that command
-module _ (s : State) (command : Command) (one : List Command) (is : one ≡ command ∷ []) where
-  plain_is : map plain_command one ≡ plain_command command ∷ []
-  plain_is = ap (map plain_command) is
-
-  pub fits_one : Fits (plain_command command) → All Fits (map plain_command one)
-  fits_one fits = subst (All Fits) (sym plain_is) (all_one Fits (plain_command command) fits)
-
-  pub carried : (number : ℕ) (comes next : Bool) (trial : Trial) (text : List ℕ) → IsTried s (map plain_command one) trial → IsTrialText number s trial.session.state trial.come.items text
-      → next ≡ or_some comes trial.come.items → IsTrial s number comes (plain_command command) next text
+-- what a command leads to is its trial
+module _ (s : State) (command : PlainCommand) where
+  pub carried : (number : ℕ) (comes next : Bool) (trial : Trial) (text : List ℕ) → IsTried s (command ∷ []) trial → IsTrialText number s trial.session.state trial.come.items text
+      → next ≡ or_some comes trial.come.items → IsTrial s number comes command next text
   carried number comes next trial text by told e =
-      let led = subst (λ (cs : List PlainCommand). LeadTo s cs trial.session.state) plain_is by.led in
-      tried trial.session.state (subst (λ (x : State). Answers s (plain_command command) (Ok x)) (sym led.2) led.1) trial.come.items told e
+      tried trial.session.state (subst (λ (x : State). Answers s command (Ok x)) (sym by.led.2) by.led.1) trial.come.items told e
 
-  pub not_carried : (number place : ℕ) (comes : Bool) (why : EditError) (e : TrialError) → e ≡ Refused place why → IsRefusal s (map plain_command one) e → IsTrial s number comes (plain_command command) comes (refused_trial number (why_edit why))
-  not_carried number place comes why e same by =
-      let found = subst (IsRefusal s (map plain_command one)) same by in
-      untried why (refused_alone s (plain_command command) place why (subst (λ (cs : List PlainCommand). StopsAt s cs place why) plain_is found.0)) refl refl
+  pub not_carried : (number place : ℕ) (comes : Bool) (why : EditError) (e : TrialError) → e ≡ Refused place why → IsRefusedAt s command 0 e → IsTrial s number comes command comes (refused_trial number (why_edit why))
+  not_carried number place comes why e same by = untried why (subst (IsRefusedAt s command 0) same by).1 refl refl
 
 -- ---- the end
 

@@ -1,20 +1,24 @@
 //! From a board and a script to the text of the board after the commands, or to the line that stands in its place.
 
-ghost use Rattle.std.specs.Prelude.{◌≡◌, ◌≤◌, length, map, All};
+ghost use Rattle.std.specs.Prelude.{◌≡◌, ◌≤◌, length, map, All, IfOk, MatchResult};
 ghost use Rattle.drc_io.specs.Causes.{Rose};
 ghost use Rattle.edit_script.specs.Commands.{plain_command};
 ghost use Rattle.edit_script.specs.Fits.{Fits as CommandFits};
+ghost use Rattle.board_write.specs.Sources.{IsSource};
 ghost use Rattle.drc_run.specs.declared.status.Status.{Status};
+ghost use Rattle.drc_run.specs.declared.texts.Which.{Which};
 ghost use Rattle.drc_run.specs.Calls.{write};
+ghost use Rattle.drc_run.specs.Texts.{a_text, accepted, ReaderSays};
+ghost use Rattle.drc_run.specs.Refusing.{StopsReading};
 ghost use Rattle.drc_run.specs.Output.{IsOutputFor, IsBegunFor, ReadFails, IsBoardWritten, status_after};
 ghost use Rattle.drc_run.specs.Endings.{Ends, IsTextOfOne, number_of};
 
 use crate::calls::Scripted;
 use crate::finish::write_stop;
 use crate::status::Status;
-use crate::texts::{Written, script_in, written_texts};
+use crate::texts::{Stop, Which, fetch_text, refused, script_in, script_text};
 use board_again::laws::read_back;
-use board_write::{WriteError, write_board};
+use board_write::{Source, WriteError, read_source, write_source};
 use drc_io::{Shelf, Sink};
 use edit_script::Command;
 use std::alloc::Global;
@@ -30,9 +34,30 @@ fn status_after(refused: u32) -> Status
     }
 }
 
-/// Writes the text of the board after the commands.
-fn rewritten<W: Sink>(alloc: Global, text: &[u8], commands: &[Command<'_>], out: &mut W) -> Status
-    requires short { length text.now ≤ 33_554_432 }
+/// The board of a text that is wanted itself.
+fn source_in<'t>(alloc: Global, text: &'t [u8]) -> Result<Source<'t>, Stop>
+    requires { length text.now ≤ 33_554_432 }
+    ensures says { MatchResult result (λ _. ReaderSays Which.Text text.entry.now (accepted (a_text text.entry.now))) (StopsReading Which.Text text.entry.now) }
+    ensures read { IfOk result (IsSource text.entry.now) }
+{
+    match read_source(alloc, text) {
+        Ok(source) => Ok(source),
+        Err(WriteError::Board(e)) => {
+            Err(refused(Which::Text, e.name(), e.code(), e.place(), None))
+        }
+        Err(WriteError::Failed | WriteError::OutOfMemory) => Err(Stop::OutOfMemory),
+    }
+}
+
+/// Writes the text of the board, which was read of it, after the commands.
+fn rewritten<W: Sink>(
+    alloc: Global,
+    text: &[u8],
+    source: Source<'_>,
+    commands: &[Command<'_>],
+    out: &mut W,
+) -> Status
+    requires read { IsSource text.now source }
     requires few { length commands.now ≤ 33_554_432 }
     requires fit { All CommandFits (map plain_command commands.now) }
     ensures ends { Ends (IsBoardWritten text.now (map plain_command commands.now)) (IsTextOfOne (IsBoardWritten text.now (map plain_command commands.now))) (λ _. ⊥) (W.written out.old) (W.written out.new) result }
@@ -40,15 +65,15 @@ fn rewritten<W: Sink>(alloc: Global, text: &[u8], commands: &[Command<'_>], out:
 {
     // What is written is read again as the board that the commands leave.
     read_back();
-    match write_board(alloc, text, commands, out) {
+    match write_source(alloc, text, source, commands, out) {
         Ok(refused) => status_after(refused),
         Err(WriteError::Failed) => Status::WriteFault,
-        // A board was read of the text before: only want of memory can refuse it.
+        // A board was read before, so none is refused.
         Err(WriteError::Board(_) | WriteError::OutOfMemory) => Status::OutOfMemory,
     }
 }
 
-/// Fetches and reads the board and the script, and writes the text of the board after the script's commands.
+/// Fetches and reads the board and then the script, and writes the text of the board after the script's commands.
 pub(crate) fn rewrite<F: Shelf, W: Sink>(
     alloc: Global,
     files: Scripted<'_>,
@@ -60,12 +85,20 @@ pub(crate) fn rewrite<F: Shelf, W: Sink>(
     ensures fault { result ≡ Status.WriteFault → Rose (W.faults out.old) (W.faults out.new) }
     ensures same { F.files shelf.new ≡ F.files shelf.old }
 {
-    let Written { board, script } = match written_texts(alloc, files, shelf) {
-        Ok(texts) => texts,
+    let text = match fetch_text(alloc, Which::Text, files.board, shelf) {
+        Ok(text) => text,
+        Err(stop) => return write_stop(stop, out),
+    };
+    let source = match source_in(alloc, &text) {
+        Ok(source) => source,
+        Err(stop) => return write_stop(stop, out),
+    };
+    let script = match script_text(alloc, Some(files.script), shelf) {
+        Ok(script) => script,
         Err(stop) => return write_stop(stop, out),
     };
     match script_in(alloc, &script) {
-        Ok(commands) => rewritten(alloc, &board, &commands, out),
+        Ok(commands) => rewritten(alloc, &text, source, &commands, out),
         Err(stop) => write_stop(stop, out),
     }
 }

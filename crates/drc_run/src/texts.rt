@@ -7,10 +7,10 @@ ghost use Rattle.rule_text.specs.RulesOf.{no_rules};
 ghost use Rattle.rule_text.specs.Views.{plain_rules};
 ghost use Rattle.edit_script.specs.Commands.{PlainCommand, place_of, plain_command, plain_step};
 ghost use Rattle.edit_script.specs.Fits.{Fits as CommandFits, StepFits};
-ghost use Rattle.drc_run.specs.Calls.{Call, check, write};
+ghost use Rattle.drc_run.specs.Calls.{Call, check};
 ghost use Rattle.drc_run.specs.MadeBoard.{made_text};
 ghost use Rattle.drc_run.specs.Views.{source_in, reading_in, SourceFits, Fits, opened_in};
-ghost use Rattle.drc_run.specs.Texts.{named, word_of, texts_of, a_board, a_project, a_rules, a_script, some_steps, a_text, accepted, ReaderSays, AreBytesOf, SourceSays};
+ghost use Rattle.drc_run.specs.Texts.{named, word_of, texts_of, a_board, a_project, a_rules, a_script, some_steps, accepted, ReaderSays, AreBytesOf, SourceSays};
 ghost use Rattle.drc_run.specs.Refusing.{StopsReading, StopsText, StopsTexts, StopsOption, StopsReadingOption, AreBytesOfOption, Gives, GivesReading, AreOpened, stop_of, only_board, board_and_script};
 
 use crate::calls::Scripted;
@@ -96,7 +96,7 @@ pub(crate) struct Texts {
 }
 
 /// The refusal of a text. Want of memory has no place.
-fn refused(
+pub(crate) fn refused(
     which: Which,
     name: &'static str,
     code: &'static str,
@@ -118,7 +118,7 @@ fn refused(
 }
 
 /// Fetches a text.
-fn fetch_text<F: Shelf>(
+pub(crate) fn fetch_text<F: Shelf>(
     alloc: Global,
     which: Which,
     name: &str,
@@ -440,66 +440,6 @@ pub(crate) fn scripted_texts<F: Shelf>(
     };
     match fetch_text(alloc, which, files.script, shelf) {
         Ok(script) => Ok((texts, script)),
-        Err(stop) => Err(stop),
-    }
-}
-
-/// Whether a board is read of the text.
-fn holds_board(alloc: Global, text: &[u8]) -> Result<(), Stop>
-    requires { length text.now ≤ 33_554_432 }
-    ensures { MatchResult result (λ _. ReaderSays Which.Text text.now (accepted (a_text text.now))) (StopsReading Which.Text text.now) }
-{
-    match read_board(alloc, text) {
-        Ok(_) => Ok(()),
-        Err(e) => Err(refused(Which::Text, e.name(), e.code(), e.place(), None)),
-    }
-}
-
-/// Fetches the text of a board.
-fn text_of_board<F: Shelf>(alloc: Global, name: &str, shelf: &mut F) -> Result<Vec<u8>, Stop>
-    ensures ok { IfOk result (λ text. SourceSays (F.files shelf.old) (named Which.Text name.now) (accepted (a_text text.items))) }
-    ensures short { IfOk result (λ text. length text.items ≤ 33_554_432) }
-    ensures stop { IfErr result (StopsText (F.files shelf.old) (F.faults shelf.old) (F.faults shelf.new) (named Which.Text name.now)) }
-    ensures same { F.files shelf.new ≡ F.files shelf.old }
-    ensures counts { (other : List ℕ) → F.faults shelf.old other ≤ F.faults shelf.new other }
-{
-    let text = match fetch_text(alloc, Which::Text, name, shelf) {
-        Ok(text) => text,
-        Err(stop) => return Err(stop),
-    };
-    match holds_board(alloc, &text) {
-        Ok(()) => Ok(text),
-        Err(stop) => Err(stop),
-    }
-}
-
-/// The text of a board, and that of a script.
-#[derive(Drop)]
-pub(crate) struct Written {
-    pub(crate) board: Vec<u8>,
-    pub(crate) script: Vec<u8>,
-}
-
-/// Fetches the board's text, and where a board is read of it, then the script's.
-pub(crate) fn written_texts<F: Shelf>(
-    alloc: Global,
-    files: Scripted<'_>,
-    shelf: &mut F,
-) -> Result<Written, Stop>
-    ensures ok { IfOk result (λ texts. SourceSays (F.files shelf.old) (named Which.Text files.entry.board.now) (accepted (a_text texts.board.items))) }
-    ensures short { IfOk result (λ texts. length texts.board.items ≤ 33_554_432) }
-    ensures whole { IfOk result (λ texts. IsWhole (F.files shelf.old) files.entry.script.now texts.script.items) }
-    ensures script { IfOk result (λ texts. length texts.script.items ≤ 33_554_432) }
-    ensures stop { IfErr result (StopsTexts (F.files shelf.old) (write files.entry.board.now files.entry.script.now) (F.faults shelf.old) (F.faults shelf.new)) }
-    ensures same { F.files shelf.new ≡ F.files shelf.old }
-    ensures counts { (other : List ℕ) → F.faults shelf.old other ≤ F.faults shelf.new other }
-{
-    let board = match text_of_board(alloc, files.board, shelf) {
-        Ok(board) => board,
-        Err(stop) => return Err(stop),
-    };
-    match fetch_text(alloc, Which::Script, files.script, shelf) {
-        Ok(script) => Ok(Written { board, script }),
         Err(stop) => Err(stop),
     }
 }

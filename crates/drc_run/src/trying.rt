@@ -38,7 +38,7 @@ use std::alloc::AllocGlobal;
 use std::slice::from_ref;
 use std::thread::Threads;
 use tile_pool::Gate;
-use what_if::{Survey, Trial, TrialError, survey, trial};
+use what_if::{Desk, Survey, Trial, TrialError, survey};
 
 /// Writes the line of a row behind a mark.
 fn write_marked_row<W: Sink>(
@@ -112,9 +112,9 @@ fn write_trial<W: Sink>(
 }
 
 /// What commands are tried on, and by how many workers, from 1 to 8.
-#[derive(Clone, Copy)]
+#[derive(Drop)]
 struct Ground<'a> {
-    session: &'a Session,
+    desk: Desk<'a>,
     workers: u32,
 }
 
@@ -133,24 +133,29 @@ fn or_some(comes: bool, come: &[Row]) -> bool
 fn turn<R: Threads + Sync + AllocGlobal, W: Sink, G: Gate>(
     rt: &R,
     gate: &G,
-    ground: Ground<'_>,
+    ground: &mut Ground<'_>,
     number: u64,
     command: &Command<'_>,
     comes: &mut bool,
     out: &mut W,
 ) -> Result<(), Break>
-    requires workers { (1 ≤ ground.workers) × (ground.workers ≤ 8) }
-    requires running { ground.session.now.stopped ≡ false }
+    requires workers { (1 ≤ ground.old.workers) × (ground.old.workers ≤ 8) }
     requires fits { Fits (plain_command command.now) }
-    ensures taken { IfOk result (λ _. IsTaken (IsTrial ground.entry.session.now.state) number comes.old (plain_command command.now) comes.new (W.written out.old) (W.written out.new)) }
-    ensures broken { IfErr result (λ _. Keeps (W.written out.old) (W.written out.new) ⊎ IsBroken (IsTrial ground.entry.session.now.state) number comes.old (plain_command command.now) (W.written out.old) (W.written out.new)) }
+    ensures same { (ground.new.desk ≡ ground.old.desk) × (ground.new.workers ≡ ground.old.workers) }
+    ensures taken { IfOk result (λ _. IsTaken (IsTrial ground.old.desk.state) number comes.old (plain_command command.now) comes.new (W.written out.old) (W.written out.new)) }
+    ensures broken { IfErr result (λ _. Keeps (W.written out.old) (W.written out.new) ⊎ IsBroken (IsTrial ground.old.desk.state) number comes.old (plain_command command.now) (W.written out.old) (W.written out.new)) }
     ensures fault { result ≡ Err Break.Unwritten → Rose (W.faults out.old) (W.faults out.new) }
     ensures later { W.faults out.old ≤ W.faults out.new }
 {
-    match trial(ground.session, rt, ground.workers, from_ref(command), gate) {
-        Ok(tried) => {
+    let session = ground.desk.lent();
+    match ground.desk.trial(rt, ground.workers, command, gate) {
+        Ok((tried, back)) => {
             *comes = or_some(*comes, tried.come.as_slice());
-            told(write_trial(number, ground.session, &tried, out))
+            let written = write_trial(number, session, &tried, out);
+            ground
+                .desk
+                .put_back(rt, ground.workers, command, tried, back);
+            told(written)
         }
         Err(TrialError::Refused { inner, .. }) => told(write_refused_trial(number, &inner, out)),
         Err(TrialError::OutOfMemory) => Err(Break::OutOfMemory),
@@ -161,15 +166,14 @@ fn turn<R: Threads + Sync + AllocGlobal, W: Sink, G: Gate>(
 fn turns<R: Threads + Sync + AllocGlobal, W: Sink, G: Gate>(
     rt: &R,
     gate: &G,
-    ground: Ground<'_>,
+    ground: &mut Ground<'_>,
     commands: &[Command<'_>],
     out: &mut W,
 ) -> Result<bool, Break>
-    requires workers { (1 ≤ ground.workers) × (ground.workers ≤ 8) }
-    requires running { ground.session.now.stopped ≡ false }
+    requires workers { (1 ≤ ground.old.workers) × (ground.old.workers ≤ 8) }
     requires fit { All Fits (map plain_command commands.now) }
-    ensures taken { IfOk result (λ comes. AreTaken (IsTrial ground.entry.session.now.state) false (map plain_command commands.now) comes (W.written out.old) (W.written out.new)) }
-    ensures broken { IfErr result (λ _. AreBroken (IsTrial ground.entry.session.now.state) false (map plain_command commands.now) (W.written out.old) (W.written out.new)) }
+    ensures taken { IfOk result (λ comes. AreTaken (IsTrial ground.old.desk.state) false (map plain_command commands.now) comes (W.written out.old) (W.written out.new)) }
+    ensures broken { IfErr result (λ _. AreBroken (IsTrial ground.old.desk.state) false (map plain_command commands.now) (W.written out.old) (W.written out.new)) }
     ensures fault { result ≡ Err Break.Unwritten → Rose (W.faults out.old) (W.faults out.new) }
     ensures later { W.faults out.old ≤ W.faults out.new }
 {
@@ -233,22 +237,27 @@ fn status_of(comes: bool) -> Status
 fn go_through<R: Threads + Sync + AllocGlobal, W: Sink, G: Gate>(
     rt: &R,
     gate: &G,
-    ground: Ground<'_>,
+    session: &Session,
+    workers: u32,
     commands: &[Command<'_>],
     out: &mut W,
 ) -> Status
-    requires workers { (1 ≤ ground.workers) × (ground.workers ≤ 8) }
-    requires running { ground.session.now.stopped ≡ false }
+    requires workers { (1 ≤ workers) × (workers ≤ 8) }
+    requires running { session.now.stopped ≡ false }
     requires fit { All Fits (map plain_command commands.now) }
     requires few { length commands.now ≤ 15_625 }
-    ensures ends { Ends (AreTrialsTold ground.entry.session.now.state (map plain_command commands.now)) (AreTrialsToldSoFar ground.entry.session.now.state (map plain_command commands.now)) (λ _. ⊥) (W.written out.old) (W.written out.new) result }
+    ensures ends { Ends (AreTrialsTold session.now.state (map plain_command commands.now)) (AreTrialsToldSoFar session.now.state (map plain_command commands.now)) (λ _. ⊥) (W.written out.old) (W.written out.new) result }
     ensures fault { result ≡ Status.WriteFault → Rose (W.faults out.old) (W.faults out.new) }
 {
-    let survey = match survey(ground.session, rt, ground.workers, commands, gate) {
+    let survey = match survey(session, rt, workers, commands, gate) {
         Ok(survey) => survey,
         Err(_) => return Status::OutOfMemory,
     };
-    match turns(rt, gate, ground, commands, out) {
+    let mut ground = Ground {
+        desk: Desk::new(session),
+        workers,
+    };
+    match turns(rt, gate, &mut ground, commands, out) {
         Ok(comes) => after(write_least(&survey, out), status_of(comes)),
         Err(Break::Unwritten) => Status::WriteFault,
         Err(Break::OutOfMemory) => Status::OutOfMemory,
@@ -272,13 +281,7 @@ fn report<R: Threads + Sync + AllocGlobal, W: Sink, G: Gate>(
     ensures fault { result ≡ Status.WriteFault → Rose (W.faults out.old) (W.faults out.new) }
 {
     match Session::begin(rt, workers, texts.board, texts.classes, texts.rules, gate) {
-        Ok((session, _)) => {
-            let ground = Ground {
-                session: &session,
-                workers,
-            };
-            go_through(rt, gate, ground, commands, out)
-        }
+        Ok((session, _)) => go_through(rt, gate, &session, workers, commands, out),
         Err(_) => Status::OutOfMemory,
     }
 }

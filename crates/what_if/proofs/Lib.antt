@@ -1,7 +1,10 @@
 pub mod Missing
 pub mod Leading
 pub mod Stopping
-pub mod Alone
+pub mod WayBack
+pub mod DeskKept
+pub mod Placed
+pub mod RunCounts
 pub mod Crossing
 pub mod Each
 pub mod OneOutcome

@@ -23,9 +23,7 @@ abbrev pub IsRefusal : State → List PlainCommand → TrialError → Type 0
 IsRefusal s commands (Refused step inner) = StopsAt s commands step inner × (inner ≢ Stopped) × (inner ≢ NoMemory)
 IsRefusal s commands OutOfMemory = Unit {0}
 
--- ---- private
-
--- the same of the command of this place
+-- there is none of this command alone, which has this place
 abbrev pub IsRefusedAt : State → PlainCommand → ℕ → TrialError → Type 0
 IsRefusedAt s command place (Refused step inner) = (step ≡ place) × Answers s command (Err inner) × (inner ≢ Stopped) × (inner ≢ NoMemory)
 IsRefusedAt s command place OutOfMemory = Unit {0}

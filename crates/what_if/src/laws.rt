@@ -1,13 +1,16 @@
 //! Laws of trials and surveys. The functions do nothing: each clause holds for all states and commands.
 
-ghost use Rattle.std.specs.Prelude.{◌≡◌, ℕ, List, Option};
+ghost use Rattle.std.specs.Prelude.{◌≡◌, ℕ, false, List, Option, Ok};
 ghost use Rattle.edit_script.specs.Commands.{PlainCommand};
 ghost use Rattle.pair_check.specs.PlainRow.{PlainRow};
 ghost use Rattle.drc_state.specs.declared.error.EditError.{EditError};
 ghost use Rattle.drc_state.specs.States.{State};
+ghost use Rattle.drc_state.specs.Steps.{Answers};
+ghost use Rattle.drc_state.specs.Changes.{PlainChange, Makes, LeadsBack};
 ghost use Rattle.what_if.specs.Trials.{LeadTo, StopsAt, IsDifference, IsSurvey};
+ghost use Rattle.what_if.specs.Desks.{adds};
 
-use drc_state::laws::one_answer;
+use drc_state::laws::{one_answer, one_state};
 use row_check::laws::one_list;
 
 /// Commands lead from a state to one state, or one of them is the first that is refused, and not both. Two states have one difference.
@@ -26,4 +29,11 @@ pub fn one_survey()
 {
     one_answer();
     one_list();
+}
+
+/// After a command that adds no list, the change that leads back makes the state from before, with the same numbers that come next.
+pub fn turned_back()
+    ensures { (s next last : State) (command : PlainCommand) (change : PlainChange) → adds command ≡ false → Answers s command (Ok next) → LeadsBack change next s → Makes change next last → last ≡ s }
+{
+    one_state();
 }

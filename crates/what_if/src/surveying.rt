@@ -8,12 +8,13 @@ ghost use Rattle.what_if.specs.Trials.{IsCount, IsSurvey};
 
 use crate::least::first_least;
 use crate::outcome::Survey;
+use crate::runs::in_order;
 use crate::work::Trials;
 use drc_session::Session;
 use edit_script::Command;
 use std::alloc::{AllocError, AllocGlobal};
 use std::thread::Threads;
-use tile_pool::{Gate, run_tiles};
+use tile_pool::{Gate, NoGate, run_tiles};
 
 // How many rows there are after each command alone.
 fn counts_of<R: Threads + Sync + AllocGlobal, G: Gate>(
@@ -29,19 +30,22 @@ fn counts_of<R: Threads + Sync + AllocGlobal, G: Gate>(
     requires fit { All Fits (map plain_command commands.now) }
     ensures { IfOk result (λ counts. AllZip (IsCount session.now.state) (map plain_command commands.now) counts.items) }
 {
+    let stride = workers.min((commands.len() as u32).max(1));
     let work = Trials {
         session,
         rt,
+        gate,
         commands,
+        stride,
     };
-    let count = commands.len() as u32;
-    let (counts, _) = run_tiles(rt, rt.alloc(), workers, count, &work, gate)?;
-    Ok(counts)
+    let (runs, _) = run_tiles(rt, rt.alloc(), workers, stride, &work, &NoGate)?;
+    in_order(rt.alloc(), session, commands, &runs)
 }
 
 /// Tries each of at most 15,625 commands alone, on a copy of the session. They are dealt to so many workers, from 1 to 64, and the gate
-/// is called before and after each command with its place. The session that is lent must not be stopped, and it stays as it is. Only
-/// want of memory refuses the call.
+/// is called before and after each command with its place. A worker turns its copy back after each command, and makes another after
+/// one that adds a list or replaces the rules. The session that is lent must not be stopped, and it stays as it is. Only want of
+/// memory refuses the call.
 pub fn survey<R: Threads + Sync + AllocGlobal, G: Gate>(
     session: &Session,
     rt: &R,

@@ -64,8 +64,8 @@ fn take_all<R: Threads + Sync + AllocGlobal, G: Gate>(
     Ok(())
 }
 
-// Which rows come, and which go.
-fn difference(
+/// Which rows come, and which go.
+pub(crate) fn difference(
     alloc: Global,
     before: &Session,
     after: &Session,
@@ -79,8 +79,8 @@ fn difference(
     Ok((come, gone))
 }
 
-/// A copy of the session that took the commands.
-pub(crate) fn taken<R: Threads + Sync + AllocGlobal, G: Gate>(
+// A copy of the session that took the commands.
+fn taken<R: Threads + Sync + AllocGlobal, G: Gate>(
     session: &Session,
     rt: &R,
     workers: u32,
@@ -100,8 +100,8 @@ pub(crate) fn taken<R: Threads + Sync + AllocGlobal, G: Gate>(
     Ok(copy)
 }
 
-// The rows and the nets of a session are those of its state. The function does nothing.
-fn is_checked(session: &Session)
+/// The rows and the nets of a session are those of its state. The function does nothing.
+pub(crate) fn is_checked(session: &Session)
     requires { session.now.stopped ≡ false }
     ensures { IsChecked session.now }
 {

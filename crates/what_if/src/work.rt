@@ -1,76 +1,76 @@
 //! Commands, each alone, as the work of workers.
 
-ghost use Rattle.std.specs.Prelude.{◌≡◌, ◌<◌, false, All, IfOk, length, map, take, drop};
+ghost use Rattle.std.specs.Prelude.{◌≡◌, ◌<◌, All, IfOk, length, map};
 ghost use Rattle.edit_script.specs.Commands.{plain_command};
 ghost use Rattle.edit_script.specs.Fits.{Fits};
 ghost use Rattle.what_if.specs.Trials.{IsCountAt};
 
-use crate::error::TrialError;
-use crate::trying::taken;
+use crate::desk::Desk;
 use drc_session::Session;
 use edit_script::Command;
 use std::alloc::{AllocError, AllocGlobal, Global};
 use std::thread::Threads;
-use tile_pool::{NoGate, TileWork};
+use tile_pool::{Gate, TileWork};
 
-/// Commands that are tried each alone, on a copy of the session. The number k of the work is `commands[k]`.
+/// Commands that are tried each alone. The number k of the work has the commands of the places k, k + `stride` and so on, one after another
+/// on one copy of the session. The gate is called before and after each with its place.
 #[derive(Drop)]
-pub(crate) struct Trials<'a, R> {
+pub(crate) struct Trials<'a, R, G> {
     pub(crate) session: &'a Session,
     pub(crate) rt: &'a R,
+    pub(crate) gate: &'a G,
     pub(crate) commands: &'a [Command<'a>],
+    pub(crate) stride: u32,
 }
 
-// The command of this place alone.
-fn alone<'a, 't>(commands: &'a [Command<'t>], place: usize) -> &'a [Command<'t>]
-    requires { place < length commands.now }
-    ensures { result.now ≡ take 1 (drop place commands.now) }
-{
-    &commands[place..=place]
-}
-
-// How many rows there are after that command, which one worker carries out.
-fn count_after<R: Threads + Sync + AllocGlobal>(
-    session: &Session,
+// How many rows there are after the command of this place alone.
+fn count_at<R: Threads + Sync + AllocGlobal>(
+    desk: &mut Desk<'_>,
     rt: &R,
     commands: &[Command<'_>],
     place: usize,
 ) -> Result<Option<u64>, AllocError>
-    requires running { session.now.stopped ≡ false }
     requires place { place < length commands.now }
     requires fit { All Fits (map plain_command commands.now) }
-    ensures { IfOk result (IsCountAt session.now.state (map plain_command commands.now) place) }
+    ensures same { desk.new ≡ desk.old }
+    ensures count { IfOk result (IsCountAt desk.old.state (map plain_command commands.now) place) }
 {
-    match taken(session, rt, 1, alone(commands, place), &NoGate) {
-        Ok(copy) => Ok(Some(copy.rows().len() as u64)),
-        Err(TrialError::Refused { .. }) => Ok(None),
-        Err(TrialError::OutOfMemory) => Err(AllocError),
-    }
+    desk.count(rt, &commands[place])
 }
 
-impl<'a, R: Threads + Sync> TileWork for Trials<'a, R> {
-    type Out = Option<u64>;
+impl<'a, R: Threads + Sync, G: Gate> TileWork for Trials<'a, R, G> {
+    type Out = Vec<Option<u64>>;
 
-    ghost use Rattle.std.specs.Prelude.{◌≡◌, false, All, length, map};
+    ghost use Rattle.std.specs.Prelude.{◌≡◌, ◌<◌, ◌≤◌, false, All, length, map};
     ghost use Rattle.std.specs.Thread.{IsSync};
     ghost use Rattle.edit_script.specs.Commands.{plain_command};
     ghost use Rattle.edit_script.specs.Fits.{Fits};
-    ghost use Rattle.what_if.specs.Trials.{IsCountAt};
+    ghost use Rattle.what_if.specs.Runs.{AreCountsFrom};
 
-    ghost ready = { λ work. IsSync R.row × (work.session.now.stopped ≡ false) × All Fits (map plain_command work.commands.now) };
+    ghost ready = { λ work. IsSync R.row × (work.session.now.stopped ≡ false) × All Fits (map plain_command work.commands.now) × (length work.commands.now ≤ 15625) × ((0 < work.stride) × (work.stride ≤ 64)) };
 
-    ghost count = { λ work. length work.commands.now };
+    ghost count = { λ work. work.stride };
 
-    ghost gives = { λ work number count. IsCountAt work.session.now.state (map plain_command work.commands.now) number count };
+    ghost gives = { λ work number counts. AreCountsFrom work.session.now.state (map plain_command work.commands.now) work.stride number counts.items };
 
     // The runtime goes beside the allocator of the work. That it gives one itself is known of the thread alone that calls for the survey,
     // and a trial starts threads.
-    fn test(&self, alloc: Global, number: u32) -> Result<Option<u64>, AllocError> {
-        count_after(
-            self.session,
-            &(self.rt, alloc),
-            self.commands,
-            number as usize,
-        )
+    fn test(&self, alloc: Global, number: u32) -> Result<Vec<Option<u64>>, AllocError> {
+        let rt = (self.rt, alloc);
+        let mut desk = Desk::new(self.session);
+        let mut counts = Vec::new(alloc);
+        let mut place = number as usize;
+        'places: while place < self.commands.len() {
+            self.gate.before(place as u32);
+            let counted = count_at(&mut desk, &rt, self.commands, place);
+            self.gate.after(place as u32);
+            let count = match counted {
+                Ok(count) => count,
+                Err(error) => return Err(error),
+            };
+            counts.push(count)?;
+            place += self.stride as usize;
+        }
+        Ok(counts)
     }
 }

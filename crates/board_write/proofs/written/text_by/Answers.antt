@@ -7,11 +7,11 @@ use Rattle.board_write.proofs.written.text_by.Goals as goal
 pub text_after-requires : goal.text_after-requires
 text_after-requires c = subst (All IsAlone) (sym c.deref.ensures.value) c.in_ok-course.ensures.drafted.alone
 
-pub returns-clause-written : goal.returns-clause-written
-returns-clause-written c =
-    let source = c.in_ok-board.field-0 in
-    let is_spans = c.in_ok-board.spans-is in
+pub returns : goal.returns
+returns c =
+    let source = c.args.source in
+    let view = c.spans.view_is in
     let slice = c.as_slice.ensures in
     let spans : c.as_slice.result.now ≡ source.spans = cc in
     finish_by c.args.text.now (map plain_command c.args.commands.now) source source.board source.doc c.in_ok-course.course c.as_slice-2.result.now c.as_slice.result.now c.deref.result.now c.in_ok-text.text.items
-    c.in_ok-board.ensures.read refl refl spans c.as_slice-2.ensures.value c.deref.ensures.value c.in_ok-course.ensures c.in_ok-text.ensures
+    c.requires.read refl refl spans c.as_slice-2.ensures.value c.deref.ensures.value c.in_ok-course.ensures c.in_ok-text.ensures

@@ -13,7 +13,7 @@ pub returns-in-Err-Failed-clause-ends : goal.returns-in-Err-Failed-clause-ends
 returns-in-Err-Failed-clause-ends g c =
     let text = c.args.text.now in
     let commands = map plain_command c.args.commands.now in
-    let cause = subst (IsCause text commands (g.W.Sink.written c.args.out.now) (g.W.Sink.written c.write_board.new.out) (g.W.Sink.faults c.args.out.now) (g.W.Sink.faults c.write_board.new.out)) c.in-Err-Failed.field-0-is
+    let cause = subst (IsCause text commands (g.W.Sink.written c.args.out.now) (g.W.Sink.written c.write_source.new.out) (g.W.Sink.faults c.args.out.now) (g.W.Sink.faults c.write_source.new.out)) c.in-Err-Failed.field-0-is
     c.in-Err-Failed.ensures.written in
     let law = c.read_back.ensures in
     front_ends law.again law.fit law.unchanged text commands c.requires.fit _ _ cause.0

@@ -1,4 +1,4 @@
-use Rattle.std.proofs.Common.{sym, subst, map, ◌++◌, All}
+use Rattle.std.proofs.Common.{sym, subst, map, All}
 use Rattle.std.proofs.lemmas.Result.{err_from_is_err_and}
 use Rattle.drc_io.proofs.Writing.{Writes-then, Writes-stop, Writes-text}
 use Rattle.cond_lang.specs.Rules.{plain_rule}

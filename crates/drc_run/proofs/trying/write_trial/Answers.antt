@@ -1,4 +1,4 @@
-use Rattle.std.proofs.Common.{refl, sym, subst, ap, ◌++◌, ◌∙◌, All, append_assoc, codes}
+use Rattle.std.proofs.Common.{refl, sym, subst, ap, ◌++◌, All, append_assoc, codes}
 use Rattle.std.proofs.lemmas.Result.{err_from_is_err_and}
 use Rattle.drc_io.proofs.Writing.{Writes-then, Writes-text}
 use Rattle.pair_check.specs.Rows.{IsRow}

@@ -1,0 +1,14 @@
+-- A copy of a session on which commands are tried, each turned back before the next.
+use Rattle.std.specs.Prelude.{◌≡◌, Bool, true, false, Option, IfSome}
+use Rattle.edit_script.specs.Commands.{PlainCommand, add}
+use Rattle.drc_session.specs.Sessions.{PlainSession}
+
+-- the command adds a list: the id and the unit number that come next are others after it, and no change sets them back
+abbrev pub adds : PlainCommand → Bool
+adds (add text at) = true
+adds command = false
+
+-- the session that is lent runs, and so does the copy, where there is one, which is at the same state
+pub record IsDesk (lent : PlainSession) (copy : Option PlainSession) : Type 0 where
+  pub running : lent.stopped ≡ false
+  pub same : IfSome copy (λ c. (c.stopped ≡ false) × (c.state ≡ lent.state))

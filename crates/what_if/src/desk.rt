@@ -1,0 +1,205 @@
+//! A copy of a session on which commands are tried one after another, each turned back before the next.
+
+ghost use Rattle.std.specs.Prelude.{◌≡◌, ◌<◌, ◌≤◌, ◌∷◌, [], true, false, Ok, IfOk, IfErr};
+ghost use Rattle.edit_script.specs.Commands.{plain_command};
+ghost use Rattle.edit_script.specs.Fits.{Fits};
+ghost use Rattle.drc_state.specs.Steps.{Answers};
+ghost use Rattle.drc_state.specs.Changes.{plain_change, LeadsBack};
+ghost use Rattle.what_if.specs.Trials.{IsCount};
+ghost use Rattle.what_if.specs.Tried.{IsTrial, IsRefusedAt};
+ghost use Rattle.what_if.specs.Desks.{adds};
+
+use crate::error::TrialError;
+use crate::laws::turned_back;
+use crate::outcome::Trial;
+use crate::trying::{difference, is_checked};
+use drc_session::Session;
+use drc_state::{Change, EditError};
+use edit_script::Command;
+use std::alloc::{AllocError, AllocGlobal};
+use std::marker::Model;
+use std::thread::Threads;
+use tile_pool::{Gate, NoGate};
+
+/// A session that is lent and stays as it is, and a copy of it, made where there is need of one and kept from command to command: so many
+/// commands cost as many edits, and not as many copies. Contracts see the session that is lent.
+#[derive(Drop)]
+pub struct Desk<'a> {
+    session: &'a Session,
+    copy: Option<Session>,
+}
+
+impl<'a> Model for Desk<'a> {
+    ghost use Rattle.std.specs.Coded.{codes};
+    ghost use Rattle.cond_lang.specs.TreeCode.{coded_tree};
+    ghost use Rattle.drc_session.specs.Sessions.{PlainSession};
+    ghost use Rattle.what_if.specs.Desks.{IsDesk};
+
+    ghost Value = { PlainSession };
+
+    ghost coded = { Prim.hlevel (codes, coded_tree (Prim.hlevel codes)) };
+
+    ghost view = { λ d. d.session.now };
+
+    ghost invariant = { λ d. IsDesk d.session.now d.copy };
+}
+
+// Whether a copy that took the command is turned back. After a list that is added it cannot be, since the numbers that come next do not go
+// back; and to check the whole board again under the rules from before takes longer than a copy.
+fn is_turned_back(command: &Command<'_>) -> bool
+    ensures { result ≡ true → adds (plain_command command.now) ≡ false }
+{
+    match command {
+        Command::Delete { .. } | Command::Move { .. } | Command::Again { .. } => true,
+        Command::Add { .. } | Command::Rules { .. } => false,
+    }
+}
+
+impl<'a> Desk<'a> {
+    /// A desk for a session that is not stopped. It takes no memory.
+    pub fn new(session: &'a Session) -> Desk<'a>
+        requires { session.now.stopped ≡ false }
+        ensures { result ≡ session.now }
+    {
+        Desk {
+            session,
+            copy: None,
+        }
+    }
+
+    /// The session that is lent. It is not stopped.
+    pub fn lent(&self) -> &'a Session
+        ensures same { result.now ≡ self.now }
+        ensures running { result.now.stopped ≡ false }
+    {
+        self.session
+    }
+
+    // The copy, which is kept no more, or a new one.
+    fn take_copy(&mut self) -> Result<Session, AllocError>
+        ensures same { self.new ≡ self.old }
+        ensures running { IfOk result (λ copy. copy.stopped ≡ false) }
+        ensures state { IfOk result (λ copy. copy.state ≡ self.old.state) }
+    {
+        match self.copy.take() {
+            Some(copy) => Ok(copy),
+            None => self.session.copy(),
+        }
+    }
+
+    // The copy once it took the command, and the change that leads back.
+    fn take<R: Threads + Sync + AllocGlobal, G: Gate>(
+        &mut self,
+        rt: &R,
+        workers: u32,
+        command: &Command<'_>,
+        gate: &G,
+    ) -> Result<(Session, Change), TrialError>
+        requires workers { (0 < workers) × (workers ≤ 64) }
+        requires fits { Fits (plain_command command.now) }
+        ensures same { self.new ≡ self.old }
+        ensures running { IfOk result (λ r. r.0.stopped ≡ false) }
+        ensures answer { IfOk result (λ r. Answers self.old.state (plain_command command.now) (Ok r.0.state)) }
+        ensures back { IfOk result (λ r. LeadsBack (plain_change r.1) r.0.state self.old.state) }
+        ensures refused { IfErr result (IsRefusedAt self.old.state (plain_command command.now) 0) }
+    {
+        let mut copy = self.take_copy()?;
+        match copy.apply_kept(rt, workers, command, gate) {
+            Ok((_, back)) => Ok((copy, back)),
+            Err(EditError::OutOfMemory) => Err(TrialError::OutOfMemory),
+            Err(inner) => {
+                self.copy = Some(copy);
+                Err(TrialError::Refused { step: 0, inner })
+            }
+        }
+    }
+
+    // Turns a copy that took the command back to where it was, and keeps it, or throws it away, as it does where memory runs out.
+    fn turn_back<R: Threads + Sync + AllocGlobal>(
+        &mut self,
+        rt: &R,
+        workers: u32,
+        command: &Command<'_>,
+        mut copy: Session,
+        back: Change,
+    )
+        requires workers { (0 < workers) × (workers ≤ 64) }
+        requires running { copy.stopped ≡ false }
+        requires answer { Answers self.old.state (plain_command command.now) (Ok copy.state) }
+        requires back { LeadsBack (plain_change back) copy.state self.old.state }
+        ensures same { self.new ≡ self.old }
+    {
+        turned_back();
+        if is_turned_back(command) && copy.turn(rt, workers, back, &NoGate).is_ok() {
+            self.copy = Some(copy);
+        }
+    }
+
+    /// How many rows there are after the command alone, which one worker carries out, or none where it is refused. Only want of memory
+    /// refuses the call.
+    pub(crate) fn count<R: Threads + Sync + AllocGlobal>(
+        &mut self,
+        rt: &R,
+        command: &Command<'_>,
+    ) -> Result<Option<u64>, AllocError>
+        requires fits { Fits (plain_command command.now) }
+        ensures same { self.new ≡ self.old }
+        ensures count { IfOk result (IsCount self.old.state (plain_command command.now)) }
+    {
+        match self.take(rt, 1, command, &NoGate) {
+            Ok((copy, back)) => {
+                let count = copy.rows().len() as u64;
+                self.turn_back(rt, 1, command, copy, back);
+                Ok(Some(count))
+            }
+            Err(TrialError::Refused { .. }) => Ok(None),
+            Err(TrialError::OutOfMemory) => Err(AllocError),
+        }
+    }
+
+    /// The trial of the command alone, with so many workers, from 1 to 64, and the change that leads back: the session of the trial is the
+    /// copy, which goes back by `put_back`. `Refused` says exactly that the command is refused.
+    pub fn trial<R: Threads + Sync + AllocGlobal, G: Gate>(
+        &mut self,
+        rt: &R,
+        workers: u32,
+        command: &Command<'_>,
+        gate: &G,
+    ) -> Result<(Trial, Change), TrialError>
+        requires workers { (0 < workers) × (workers ≤ 64) }
+        requires fits { Fits (plain_command command.now) }
+        ensures same { self.new ≡ self.old }
+        ensures tried { IfOk result (λ r. IsTrial self.old.state (plain_command command.now ∷ []) r.0) }
+        ensures back { IfOk result (λ r. LeadsBack (plain_change r.1) r.0.session.state self.old.state) }
+        ensures refused { IfErr result (IsRefusedAt self.old.state (plain_command command.now) 0) }
+    {
+        let (copy, back) = self.take(rt, workers, command, gate)?;
+        is_checked(&copy);
+        let (come, gone) = difference(rt.alloc(), self.session, &copy)?;
+        let tried = Trial {
+            session: copy,
+            come,
+            gone,
+        };
+        Ok((tried, back))
+    }
+
+    /// Turns the session of a trial of the command back and keeps it for the next one, but for a command that adds a list or replaces the
+    /// rules. It answers nothing: where the session is not kept, or memory runs out, the next trial makes a copy.
+    pub fn put_back<R: Threads + Sync + AllocGlobal>(
+        &mut self,
+        rt: &R,
+        workers: u32,
+        command: &Command<'_>,
+        trial: Trial,
+        back: Change,
+    )
+        requires workers { (0 < workers) × (workers ≤ 64) }
+        requires tried { IsTrial self.old.state (plain_command command.now ∷ []) trial }
+        requires back { LeadsBack (plain_change back) trial.session.state self.old.state }
+        ensures same { self.new ≡ self.old }
+    {
+        let Trial { session, .. } = trial;
+        self.turn_back(rt, workers, command, session, back);
+    }
+}
