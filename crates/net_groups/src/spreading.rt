@@ -9,6 +9,7 @@ use crate::stretch::Stretch;
 use box_index::TileIndex;
 use geo_seg::Bounds;
 use std::alloc::{AllocError, Global};
+use std::num::{nearest_i64_to_f64, saturating_f64_to_u32};
 
 // The least box around all rooms, or one that is empty.
 fn around(rooms: &[Bounds]) -> Bounds {
@@ -39,12 +40,31 @@ fn middle(low: i64, high: i64) -> i64
         .max(-1_500_000_000)
 }
 
-// How often a box of this size goes into the tiles, from 1 to 1,000 times.
-fn times_in(size: i64) -> i64
+// About the longer side of a room, in thousandths of a tile: the root of the mean of the squares.
+fn side_of(rooms: &[Bounds]) -> i64 {
+    let mut sum: i64 = 0;
+    for room in rooms {
+        let wide = room.right.saturating_sub(room.left);
+        let high = room.bottom.saturating_sub(room.top);
+        let side = wide.max(high) / 16_000;
+        sum = sum.saturating_add(side.saturating_mul(side));
+    }
+    let mean = sum / (rooms.len() as i64).max(1);
+    i64::from(saturating_f64_to_u32(nearest_i64_to_f64(mean).sqrt()))
+}
+
+// How often a box of this size goes into the tiles, where a room of this side, in thousandths of a tile, gets no larger than a tile, so
+// that rooms lie in a few tiles each.
+fn room_for(size: i64, side: i64) -> i64 {
+    (2_000_000_000 / size.max(1)).min(1_000 / side.max(1))
+}
+
+// The same, from 1 to 1,000 times.
+fn times_in(size: i64, side: i64) -> i64
     ensures from { pos 1 ≤ℤ result }
     ensures to { result ≤ℤ pos 1000 }
 {
-    (2_000_000_000 / size.max(1)).min(1_000).max(1)
+    room_for(size, side).min(1_000).max(1)
 }
 
 // What spreads the rooms over the tiles.
@@ -55,7 +75,7 @@ fn stretch_for(rooms: &[Bounds]) -> Stretch {
     Stretch {
         x: middle(all.left, all.right),
         y: middle(all.top, all.bottom),
-        times: times_in(wide.max(high)),
+        times: times_in(wide.max(high), side_of(rooms)),
     }
 }
 
