@@ -4,6 +4,7 @@ pub mod Theory
 pub mod Squares
 pub mod Order
 pub mod Waits
+pub mod Doubled
 pub mod Grown
 pub mod Whole
 pub mod Spots

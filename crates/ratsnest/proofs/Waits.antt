@@ -1,8 +1,8 @@
 -- What waits keeps its least link from what is reached.
-use Rattle.std.proofs.Common.{◌≡◌, ◌≢◌, ℕ, ◌+◌, ◌*◌, ◌≤◌, ◌<◌, ◌⊎◌, Bool, true, false, min, max, List, ◌++◌, length, get_or, set, take, unsigned_abs, ◌-ℤ◌, ℤ, inl, inr, refl, sym, ◌∙◌, ap, ap₂, subst, All, Contains, arith, true≢false}
+use Rattle.std.proofs.Common.{◌≡◌, ◌≢◌, ℕ, ◌*◌, ◌≤◌, ◌<◌, ◌⊎◌, Bool, true, false, min, max, List, ◌++◌, length, get_or, set, unsigned_abs, ◌-ℤ◌, ℤ, inl, inr, refl, sym, ◌∙◌, ap, ap₂, subst, All, Contains, arith, true≢false}
 use Rattle.std.proofs.lemmas.Bool.{cases_lt, cases_eq}
 use Rattle.std.proofs.lemmas.Int.{ints}
-use Rattle.std.proofs.lemmas.List.{get_or-take, length-take-le, get_or-set_same, get_or-set_other, get_or_read}
+use Rattle.std.proofs.lemmas.List.{get_or-set_same, get_or-set_other, get_or_read}
 use Rattle.std.proofs.lemmas.List.Elements.{All-contains, Contains-get_or, Contains-append_left, Contains-append_right, Contains-append_cases}
 use Rattle.std.proofs.lemmas.List.Sorted.{Contains-permutation, IsPermutation-sym}
 use Rattle.std.specs.List.Sorted.{IsPermutation}
@@ -10,14 +10,14 @@ use Rattle.ratsnest.specs.declared.anchor.Anchor.{Anchor}
 use Rattle.ratsnest.specs.declared.link.Link.{Link}
 use Rattle.ratsnest.specs.declared.waiting.Waiting.{Waiting}
 use Rattle.ratsnest.specs.NestOf.{nowhere, anchor_at, group_at, square_of, square_between}
-use Rattle.ratsnest.specs.Grow.{rank, link_at, rank_at, link_between, is_reached, IsDrawn, IsDrawnToAll, IsNearest, IsReach, IsHeld}
+use Rattle.ratsnest.specs.Grow.{rank, link_at, rank_at, link_between, is_reached, IsDrawnToAll, IsNearest, IsReach, IsHeld}
 
 -- what stands past the end of the list
 abbrev pub nobody : Waiting
 nobody = record { anchor = nowhere; place = 0; link = record { first = 0; second = 0; square = 0 } }
 
 -- the link depends on the place and the anchor alone
-same_between : (m a b : Waiting) → b.place ≡ a.place → b.anchor ≡ a.anchor → link_between m b ≡ link_between m a
+pub same_between : (m a b : Waiting) → b.place ≡ a.place → b.anchor ≡ a.anchor → link_between m b ≡ link_between m a
 unfolding link_between
 same_between m a b p q = rw (p, q) refl
 
@@ -47,46 +47,11 @@ pub group_is : (anchors : List Anchor) (w : Waiting) → w.anchor ≡ anchor_at 
 unfolding group_at
 group_is anchors w e = ap (λ (a : Anchor). a.group) e
 
-contains_more : (xs : List Waiting) (i : ℕ) (x : Waiting) → i < length xs → Contains (take i xs) x → Contains (take (i + 1) xs) x
-contains_more xs i x h c =
-    let short : length (take i xs) ≡ i = length-take-le i xs (omega arith) in
-    let long : length (take (i + 1) xs) ≡ i + 1 = length-take-le (i + 1) xs (omega arith) in
-    (c.0, omega (arith, c.1), get_or-take (i + 1) xs c.0 x (omega (arith, c.1)) ∙ sym (get_or-take i xs c.0 x (omega (arith, c.1))) ∙ c.2)
-
 -- what is read where the least one stands
 pub least_is : (xs : List Waiting) (i : ℕ) (e : Waiting) → i < length xs → e ≡ get_or xs i e →
     ((k : ℕ) (d : Waiting) → k < length xs → rank (get_or xs i d).link ≤ rank (get_or xs k d).link) →
     (k : ℕ) (d : Waiting) → k < length xs → rank e.link ≤ rank (get_or xs k d).link
 least_is xs i e h is l k d hk = subst (λ (z : Waiting). rank z.link ≤ rank (get_or xs k d).link) (sym (get_or_read xs i e h is d)) (l k d hk)
-
--- one more of the list
-pub drawn_more : (joined : List Waiting) (i : ℕ) (m old mid new : Waiting) → i < length joined → ((d : Waiting) → m ≡ get_or joined i d) →
-    IsDrawnToAll (take i joined) old mid → IsDrawn m mid new → IsDrawnToAll (take (i + 1) joined) old new
-drawn_more joined i m old mid new h is d e =
-    let same : link_between m mid ≡ link_between m old = same_between m old mid d.place d.anchor in
-    let short : length (take i joined) ≡ i = length-take-le i joined (omega arith) in
-    let long : length (take (i + 1) joined) ≡ i + 1 = length-take-le (i + 1) joined (omega arith) in
-    record {
-      place = e.place ∙ d.place;
-      anchor = e.anchor ∙ d.anchor;
-      choice = elim e.choice [
-        | inl q ↦ elim d.choice [
-          | inl r ↦ inl (q ∙ r)
-          | inr r ↦ inr (r.0, contains_more joined i r.0 h r.1, q ∙ r.2)
-        ]
-        | inr q ↦ inr (m, (i, omega arith, get_or-take (i + 1) joined i m (omega arith) ∙ sym (is m)), q ∙ same)
-      ];
-      not_old = omega (arith, e.not_old, d.not_old);
-      not_others = λ k x l. elim (cases_eq k i) [
-        | inl s ↦
-            let at : get_or (take (i + 1) joined) k x ≡ m = ap (λ z. get_or (take (i + 1) joined) z x) s ∙ get_or-take (i + 1) joined i x (omega arith) ∙ sym (is x) in
-            subst (λ z. rank new.link ≤ rank (link_between z old)) (sym at) (subst (λ (z : Link). rank new.link ≤ rank z) same e.not_m)
-        | inr n ↦
-            let at : get_or (take (i + 1) joined) k x ≡ get_or (take i joined) k x =
-            get_or-take (i + 1) joined k x (omega arith) ∙ sym (get_or-take i joined k x (omega arith)) in
-            subst (λ z. rank new.link ≤ rank (link_between z old)) (sym at) (omega (arith, e.not_old, d.not_others k x (omega arith)))
-      ];
-    }
 
 -- those of the group are taken out, and what is left is drawn to them
 pub reach_made : (group : ℕ) (were joined rest new : List Waiting) → IsPermutation were (joined ++ rest) →

@@ -44,6 +44,30 @@ pub record IsDrawnToAll (joined : List Waiting) (old new : Waiting) : Type 0 whe
   pub not_old : rank new.link ≤ rank old.link
   pub not_others : (k : ℕ) (d : Waiting) → k < length joined → rank new.link ≤ rank (link_between (slice_index_or joined k d) old)
 
+-- one of the list stands at the same spot, at a lower place
+pub record IsDoubled (joined : List Waiting) (m : Waiting) : Type 0 where
+  pub twin : Waiting
+  pub there : Contains joined twin
+  pub lower : twin.place < m.place
+  pub x : twin.anchor.x ≡ m.anchor.x
+  pub y : twin.anchor.y ≡ m.anchor.y
+
+-- what waited keeps the link that it had, or that from m, whichever is less, or m has a twin
+pub record IsTold (joined : List Waiting) (m old new : Waiting) : Type 0 where
+  pub place : new.place ≡ old.place
+  pub anchor : new.anchor ≡ old.anchor
+  pub choice : (new.link ≡ old.link) ⊎ (new.link ≡ link_between m old)
+  pub not_old : rank new.link ≤ rank old.link
+  pub not_m : (rank new.link ≤ rank (link_between m old)) ⊎ IsDoubled joined m
+
+-- the same over the first n of a list
+pub record IsDrawnToSome (joined : List Waiting) (n : ℕ) (old new : Waiting) : Type 0 where
+  pub place : new.place ≡ old.place
+  pub anchor : new.anchor ≡ old.anchor
+  pub choice : (new.link ≡ old.link) ⊎ ((m : Waiting) × Contains joined m × (new.link ≡ link_between m old))
+  pub not_old : rank new.link ≤ rank old.link
+  pub not_others : (k : ℕ) (d : Waiting) → k < n → (rank new.link ≤ rank (link_between (slice_index_or joined k d) old)) ⊎ IsDoubled joined (slice_index_or joined k d)
+
 -- the same over all of a group that were waiting
 pub record IsNearest (group : ℕ) (were : List Waiting) (old new : Waiting) : Type 0 where
   pub place : new.place ≡ old.place

@@ -19,7 +19,7 @@ use crate::waiting::{Waiting, all_waiting, least, reach};
 use std::alloc::{AllocError, Global};
 
 // So many anchors are joined faster by growing one group, which needs no tree.
-const FEW: usize = 500;
+const FEW: usize = 800;
 
 // The place of a link in the order, found by halves.
 fn place_for(links: &[Link], link: Link) -> usize

@@ -3,7 +3,7 @@
 ghost use Rattle.std.specs.Prelude.{◌≡◌, ◌≢◌, ◌<◌, ◌≤◌, ◌^◌, ◌++◌, IsTrue, ℕ, length, OnOk, IfOk, All, [], slice_index_or};
 ghost use Rattle.std.specs.List.Sorted.{IsPermutation};
 ghost use Rattle.ratsnest.specs.declared.waiting.Waiting.{Waiting};
-ghost use Rattle.ratsnest.specs.Grow.{rank, link_between, IsDrawn, IsDrawnToAll, IsReach, IsFirst};
+ghost use Rattle.ratsnest.specs.Grow.{rank, link_between, IsDrawn, IsDrawnToAll, IsDoubled, IsTold, IsReach, IsFirst};
 
 use crate::anchor::Anchor;
 use crate::link::Link;
@@ -58,12 +58,44 @@ fn draw_near(waiting: &mut [Waiting], from: &Waiting)
     }
 }
 
+// Whether the first stands at the very spot of the second, at a lower place in the list: then its links are less.
+fn is_lower_twin(first: &Waiting, second: &Waiting) -> bool
+    ensures { IsTrue result → (first.now.place < second.now.place) × (first.now.anchor.x ≡ second.now.anchor.x) × (first.now.anchor.y ≡ second.now.anchor.y) }
+{
+    first.anchor.x == second.anchor.x
+        && first.anchor.y == second.anchor.y
+        && first.place < second.place
+}
+
+// Whether one of these anchors has lesser links than this one for that reason.
+fn is_doubled(joined: &[Waiting], from: &Waiting) -> bool
+    ensures { IsTrue result → IsDoubled joined.now from.now }
+{
+    for other in joined {
+        if is_lower_twin(other, from) {
+            return true;
+        }
+    }
+    false
+}
+
+// Keeps the links from one of these anchors, unless those from another of them are less. Ends of tracks often stand at the
+// spot of another end; that is looked for only where it is far cheaper than to measure.
+fn draw_once(waiting: &mut [Waiting], joined: &[Waiting], from: &Waiting)
+    ensures { (k : ℕ) (d : Waiting) → k < length waiting.new → IsTold joined.now from.now (slice_index_or waiting.old k d) (slice_index_or waiting.new k d) }
+{
+    if joined.len() <= waiting.len() / 4 && is_doubled(joined, from) {
+        return;
+    }
+    draw_near(waiting, from);
+}
+
 // Keeps the least of the links from these anchors and the one that is kept.
 fn draw_to_all(waiting: &mut [Waiting], joined: &[Waiting])
     ensures { (k : ℕ) (d : Waiting) → k < length waiting.new → IsDrawnToAll joined.now (slice_index_or waiting.old k d) (slice_index_or waiting.new k d) }
 {
     for from in joined {
-        draw_near(waiting, from);
+        draw_once(waiting, joined, from);
     }
 }
 
