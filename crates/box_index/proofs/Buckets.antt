@@ -17,7 +17,7 @@ use Rattle.box_index.specs.Areas.{has_tile}
 use Rattle.box_index.specs.Cuts.{IsCut}
 use Rattle.box_index.specs.Walks.{Bucket, AreBuckets, IsChanged, CanTake, HasRoom, DoStay, IsPut, IsTaken}
 use Rattle.box_index.proofs.TileLemmas.{lane-within, owns_both}
-use Rattle.box_index.proofs.Numbers.{any_kept, filter_same}
+use Rattle.box_index.proofs.Numbers.{any_kept, filter_same, filter_nothing}
 use Rattle.box_index.proofs.EntryLists.{filter_all, filter_none, filter_swap, pairs_first, pairs_rest, below_true, below_false, is_below}
 
 abbrev pub index_of : ℤ → List Entry → PlainIndex
@@ -219,3 +219,18 @@ dirty_is inside index boxes all old new now s sound o n e =
     (λ tile l. ap (λ b. is_held index tile && b)
     (ap (λ (ms : List Bool). slice_index_or ms tile false) e ∙ n tile false l ∙ ap (λ b. b || is_met_by (passed (pos 2 *ℤ passed inside.reach)) boxes tile) (o tile false l)
     ∙ ap (λ m. all || is_met_by m boxes tile) (margin_is inside index s sound)))
+
+and_no : (b : Bool) → b && false ≡ false
+and_no true = refl
+and_no false = refl
+
+no_boxes : (boxes : List Bounds) → (length boxes == 0) ≡ true → boxes ≡ []
+no_boxes [] h = refl
+no_boxes (b ∷ bs) h = grind (arith, nat_tests)
+
+-- without boxes, and not of all tiles, there is none
+pub dirty_none : (index : PlainIndex) (boxes : List Bounds) (all : Bool) → (length boxes == 0) ≡ true → all ≡ false → [] ≡ dirty_of index boxes all
+dirty_none index boxes all e f = sym (
+    filter_nothing (λ tile. is_held index tile && (all || is_met_by (margin index) boxes tile)) tile_count
+    (λ tile. ap (λ b. is_held index tile && (b || is_met_by (margin index) boxes tile)) f ∙ ap (λ (bs : List Bounds). is_held index tile && (false || is_met_by (margin index) bs tile)) (no_boxes boxes e) ∙ and_no (is_held index tile))
+    )

@@ -169,6 +169,10 @@ impl TileIndex {
         ensures sound { IsSound self.now }
     {
         let alloc = *self.tiles.allocator();
+        // What no box marks is not walked over.
+        if boxes.is_empty() && !all {
+            return Ok(Vec::new(alloc));
+        }
         let mut marks = new_marks(alloc, TILES, all)?;
         mark_boxes(&mut marks, 2 * self.reach, boxes);
         self.marked(alloc, &marks)

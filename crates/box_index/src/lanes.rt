@@ -1,7 +1,6 @@
 //! Columns, rows and tiles.
 
-ghost use Rattle.std.specs.Prelude.{◌≡◌, ℕ, ℤ, ◌<◌, ◌≤◌, ◌+◌, ◌*◌, ◌≤ℤ◌, ◌-ℤ◌, ◌+ℤ◌, pos, neg_ℤ, true, false};
-ghost use Rattle.std.specs.Int.{int_max};
+ghost use Rattle.std.specs.Prelude.{◌≡◌, ℕ, ℤ, ◌<◌, ◌≤◌, ◌+◌, ◌*◌, ◌≤ℤ◌, pos, neg_ℤ, true, false};
 ghost use Rattle.geo_seg.specs.Boxes.{FitsWithin, widened, are_near};
 ghost use Rattle.box_index.specs.Tiles.{lane, meets_tile, owner_of, tile_count};
 ghost use Rattle.box_index.specs.Areas.{has_tile, end_of};

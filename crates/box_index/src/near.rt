@@ -1,6 +1,6 @@
 //! The ids of the entries near a box.
 
-ghost use Rattle.std.specs.Prelude.{◌≡◌, pos, OnOk};
+ghost use Rattle.std.specs.Prelude.{pos, OnOk};
 ghost use Rattle.geo_seg.specs.Boxes.{FitsWithin};
 ghost use Rattle.box_index.specs.Tiles.{near_of};
 ghost use Rattle.box_index.specs.Reached.{HasReached, AreInOrder};

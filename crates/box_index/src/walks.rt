@@ -1,6 +1,6 @@
 //! Walks over the tiles of an area.
 
-ghost use Rattle.std.specs.Prelude.{◌≡◌, ℕ, ◌<◌, length, true, false, slice_index_or, OnOk, Bool, All, pos, ◌≤ℤ◌, ◌||◌};
+ghost use Rattle.std.specs.Prelude.{◌≡◌, ℕ, ◌<◌, length, true, slice_index_or, OnOk, Bool, All, pos, ◌≤ℤ◌, ◌||◌};
 ghost use Rattle.geo_seg.specs.Boxes.{FitsWithin};
 ghost use Rattle.box_index.specs.Tiles.{IsRising, is_met_by, tile_count};
 ghost use Rattle.box_index.specs.Areas.{has_tile};

@@ -1,7 +1,7 @@
-use Rattle.std.proofs.Common.{◌∙◌, slice_index_or, ap}
+use Rattle.std.proofs.Common.{◌∙◌, slice_index_or, ap, sym}
 use Rattle.std.proofs.lemmas.List.{take_at}
 use Rattle.std.proofs.lemmas.Result.{IfOk-weaker}
-use Rattle.box_index.proofs.Buckets.{index_of, dirty_is}
+use Rattle.box_index.proofs.Buckets.{index_of, dirty_is, dirty_none}
 use Rattle.box_index.proofs.index.TileIndex.dirty.Goals as goal
 
 pub returns-clause-tiles : goal.returns-clause-tiles
@@ -10,3 +10,6 @@ returns-clause-tiles c =
     let same = dirty_is (index_of c.self.inside.reach c.self.inside.boxes) c.args.self.now c.args.boxes.now c.args.all c.deref_mut.result.now c.mark_boxes.new.marks c.deref.result.now c.self.view_is c.self.invariant.0
     (λ tile d l. ap (λ ms. slice_index_or ms tile d) c.deref_mut.ensures.value ∙ c.in_ok-marks.ensures.each tile d l) c.mark_boxes.ensures now in
     IfOk-weaker c.marked.result _ _ (λ tiles e. e ∙ same) c.marked.ensures
+
+pub returns-then-not-all-clause-tiles : goal.returns-then-not-all-clause-tiles
+returns-then-not-all-clause-tiles c = c.new.ensures.items ∙ dirty_none c.args.self.now c.args.boxes.now c.args.all (sym c.is_empty.ensures ∙ c.if-is_empty.true) c.if-not-all.true
