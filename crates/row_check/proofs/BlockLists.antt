@@ -64,26 +64,26 @@ blocks_end boxes entries front end split h = record {
   each = λ f e is k b at long. h.each (front ++ f) e (split ∙ ap (λ ys. front ++ ys) is ∙ sym (append_assoc front f e)) k b at long;
 }
 
-far_block : (index : PlainIndex) (tile : ℕ) (first : Entry) (boxes : List Bounds) (left : List Entry) → AreBlocks boxes left → IsFar index first boxes (length left) → filter (is_owned index tile first) (take 64 left) ≡ []
+far_block : (index : PlainIndex) (tile : ℕ) (first : Entry) (boxes : List Bounds) (left : List Entry) → AreBlocks boxes left → IsFar index first boxes (length left) → filter (is_owned index tile first) (take 32 left) ≡ []
 far_block index tile first boxes left h far =
-    filter_none (is_owned index tile first) (take 64 left)
+    filter_none (is_owned index tile first) (take 32 left)
     (All-weaker (λ (e : Entry). IsPartOf e.bounds far.box) (λ (e : Entry). is_owned index tile first e ≡ false)
-    (λ e part. not_owned (are_near (margin index) first.bounds e.bounds) _ (far_part (margin index) first.bounds e.bounds far.box part far.far)) (take 64 left) (h.each [] left refl far.k far.box far.stands far.count_is))
+    (λ e part. not_owned (are_near (margin index) first.bounds e.bounds) _ (far_part (margin index) first.bounds e.bounds far.box part far.far)) (take 32 left) (h.each [] left refl far.k far.box far.stands far.count_is))
 
 -- a block more that is far
-pub block_less : (index : PlainIndex) (tile : ℕ) (a : Entry) (boxes : List Bounds) (others left rest : List Entry) → rest ≡ drop 64 left → AreBlocks boxes left → IsFar index a boxes (length left) → IsEndOf index tile a others left → IsEndOf index tile a others rest
+pub block_less : (index : PlainIndex) (tile : ℕ) (a : Entry) (boxes : List Bounds) (others left rest : List Entry) → rest ≡ drop 32 left → AreBlocks boxes left → IsFar index a boxes (length left) → IsEndOf index tile a others left → IsEndOf index tile a others rest
 block_less index tile a boxes others left rest e blocks far h = record {
-  front = h.front ++ take 64 left;
-  split = h.split ∙ ap (λ ys. h.front ++ ys) (sym (take-append-drop 64 left) ∙ ap (λ ys. take 64 left ++ ys) (sym e)) ∙ sym (append_assoc h.front (take 64 left) rest);
+  front = h.front ++ take 32 left;
+  split = h.split ∙ ap (λ ys. h.front ++ ys) (sym (take-append-drop 32 left) ∙ ap (λ ys. take 32 left ++ ys) (sym e)) ∙ sym (append_assoc h.front (take 32 left) rest);
   none =
-      filter-append (is_owned index tile a) h.front (take 64 left)
-      ∙ ap (λ ys. ys ++ filter (is_owned index tile a) (take 64 left)) h.none
+      filter-append (is_owned index tile a) h.front (take 32 left)
+      ∙ ap (λ ys. ys ++ filter (is_owned index tile a) (take 32 left)) h.none
       ∙ far_block index tile a boxes left blocks far;
 }
 
 -- what a slice behind the block has
-pub behind_block : (n : ℕ) (xs : List Entry) → n ≡ length xs → take (n - 64) (drop 64 xs) ≡ drop 64 xs
-behind_block n xs e = take_all (n - 64) (drop 64 xs) (let long = length-drop 64 xs in omega (arith, long, e))
+pub behind_block : (n : ℕ) (xs : List Entry) → n ≡ length xs → take (n - 32) (drop 32 xs) ≡ drop 32 xs
+behind_block n xs e = take_all (n - 32) (drop 32 xs) (let long = length-drop 32 xs in omega (arith, long, e))
 
 -- ---- how the boxes are made
 
@@ -110,7 +110,7 @@ whole_end (x ∷ front) end all e l = let long = ap length e ∙ length-append (
 pub record AreBehind (boxes : List Bounds) (entries left : List Entry) : Type 0 where
   pub back : List Entry
   pub split : entries ≡ left ++ back
-  pub long : length back ≡ length boxes * 64
+  pub long : length back ≡ length boxes * 32
   pub blocks : AreBlocks boxes back
 
 no_box : (k : ℕ) (b : Bounds) → slice_get [] k ≡ Some b → ⊥
@@ -133,7 +133,7 @@ take_front : (xs ys : List Entry) → take (length xs) (xs ++ ys) ≡ xs
 take_front [] ys = refl
 take_front (x ∷ xs) ys = ap (λ zs. x ∷ zs) (take_front xs ys)
 
-pub more_behind : (boxes : List Bounds) (entries left front block : List Entry) (new : Bounds) → left ≡ front ++ block → length block ≡ 64 → All (λ (e : Entry). IsPartOf e.bounds new) block
+pub more_behind : (boxes : List Bounds) (entries left front block : List Entry) (new : Bounds) → left ≡ front ++ block → length block ≡ 32 → All (λ (e : Entry). IsPartOf e.bounds new) block
     → AreBehind boxes entries left → AreBehind (boxes ++ new ∷ []) entries front
 more_behind boxes entries left front block new e long all h = record {
   back = block ++ h.back;
@@ -142,41 +142,41 @@ more_behind boxes entries left front block new e long all h = record {
   blocks = record { each = each };
 }
   where
-    count : length (block ++ h.back) ≡ length (boxes ++ new ∷ []) * 64
+    count : length (block ++ h.back) ≡ length (boxes ++ new ∷ []) * 32
     count =
         let l = length-append block h.back in
         let m = length-append boxes (new ∷ []) in
         let n = h.long in omega (arith, l, m, n, long)
 
-    front_of : (ys : List Entry) → take 64 (block ++ ys) ≡ block
+    front_of : (ys : List Entry) → take 32 (block ++ ys) ≡ block
     front_of ys = ap (λ (n : ℕ). take n (block ++ ys)) (sym long) ∙ take_front block ys
 
-    each : (f end : List Entry) → block ++ h.back ≡ f ++ end → (k : ℕ) (b : Bounds) → slice_get (boxes ++ new ∷ []) k ≡ Some b → length end ≡ k * 64 + 64 → All (λ (e : Entry). IsPartOf e.bounds b) (take 64 end)
+    each : (f end : List Entry) → block ++ h.back ≡ f ++ end → (k : ℕ) (b : Bounds) → slice_get (boxes ++ new ∷ []) k ≡ Some b → length end ≡ k * 32 + 32 → All (λ (e : Entry). IsPartOf e.bounds b) (take 32 end)
     each f end is k b at l = by (get_push boxes new b k at)
       where
-        by : (slice_get boxes k ≡ Some b) ⊎ ((k ≡ length boxes) × (new ≡ b)) → All (λ (e : Entry). IsPartOf e.bounds b) (take 64 end)
+        by : (slice_get boxes k ≡ Some b) ⊎ ((k ≡ length boxes) × (new ≡ b)) → All (λ (e : Entry). IsPartOf e.bounds b) (take 32 end)
         by (inl old) =
             let lt = slice_get_within boxes k b old in
             let c = cut f end block h.back (sym is) (let n = h.long in omega (arith, l, lt, n)) in
             h.blocks.each c.0 end c.1 k b old l
         by (inr last) =
             let whole = whole_end f end (block ++ h.back) is (let n = h.long in let m = length-append block h.back in omega (arith, l, m, n, long, last.0)) in
-            subst (λ ys. All (λ (e : Entry). IsPartOf e.bounds b) (take 64 ys)) (sym whole)
+            subst (λ ys. All (λ (e : Entry). IsPartOf e.bounds b) (take 32 ys)) (sym whole)
             (subst (λ ys. All (λ (e : Entry). IsPartOf e.bounds b) ys) (sym (front_of h.back)) (subst (λ x. All (λ (e : Entry). IsPartOf e.bounds x) block) last.1 all))
 
 -- the block at the end of what is left
-pub more_cut : (boxes : List Bounds) (entries left front block : List Entry) (new : Bounds) (n : ℕ) → n ≡ length left - 64 → 64 ≤ length left → front ≡ take n left → block ≡ drop n left → All (λ (e : Entry). IsPartOf e.bounds new) block
+pub more_cut : (boxes : List Bounds) (entries left front block : List Entry) (new : Bounds) (n : ℕ) → n ≡ length left - 32 → 32 ≤ length left → front ≡ take n left → block ≡ drop n left → All (λ (e : Entry). IsPartOf e.bounds new) block
     → AreBehind boxes entries left → AreBehind (boxes ++ new ∷ []) entries front
 more_cut boxes entries left front block new n e le f b all h =
     more_behind boxes entries left front block new (sym (take-append-drop n left) ∙ ap (λ ys. ys ++ drop n left) (sym f) ∙ ap (λ ys. front ++ ys) (sym b)) (ap length b ∙ length-drop n left ∙ count (length left) n e le) all h
   where
-    count : (m n : ℕ) → n ≡ m - 64 → 64 ≤ m → m - n ≡ 64
+    count : (m n : ℕ) → n ≡ m - 32 → 32 ≤ m → m - n ≡ 32
     count m n e le = omega (arith, e, le)
 
 pub all_behind : (boxes : List Bounds) (entries left : List Entry) → AreBehind boxes entries left → AreBlocks boxes entries
 all_behind boxes entries left h = record { each = each }
   where
-    each : (f end : List Entry) → entries ≡ f ++ end → (k : ℕ) (b : Bounds) → slice_get boxes k ≡ Some b → length end ≡ k * 64 + 64 → All (λ (e : Entry). IsPartOf e.bounds b) (take 64 end)
+    each : (f end : List Entry) → entries ≡ f ++ end → (k : ℕ) (b : Bounds) → slice_get boxes k ≡ Some b → length end ≡ k * 32 + 32 → All (λ (e : Entry). IsPartOf e.bounds b) (take 32 end)
     each f end is k b at l =
         let lt = slice_get_within boxes k b at in
         let c = cut f end left h.back (sym is ∙ h.split) (let n = h.long in omega (arith, l, lt, n)) in

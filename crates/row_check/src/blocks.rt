@@ -9,7 +9,7 @@ use geo_seg::Bounds;
 use std::alloc::{AllocError, Global};
 
 /// How many entries have one box.
-pub(crate) const BLOCK: usize = 64;
+pub(crate) const BLOCK: usize = 32;
 
 // A box that holds the first and the others.
 fn box_with(first: &Entry, others: &[Entry]) -> Bounds

@@ -52,7 +52,11 @@ fn is_changed(changed: &[u32], id: u32) -> bool
     requires { IsStrictlyIncreasing changed.now }
     ensures { result ≡ is_changed changed.now id }
 {
-    changed.binary_search(&id).is_ok()
+    match changed.get(id as usize) {
+        // where all changed and none is gone, an id is its own place
+        Some(there) if *there == id => true,
+        _ => changed.binary_search(&id).is_ok(),
+    }
 }
 
 // The entries that changed.
