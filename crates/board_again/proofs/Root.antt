@@ -7,8 +7,8 @@ use Rattle.sexpr_read.specs.Tree.{Forest, none, atom, list, Tree, leaf, branch, 
 use Rattle.sexpr_read.specs.Spelling.{Spells}
 use Rattle.sexpr_read.specs.Refusals.{refusal_of_one}
 use Rattle.sexpr_read.proofs.Accepted.{accepted, refusal_of_utf8}
-use Rattle.board_items.specs.declared.errors.BoardError.{BoardError}
-use Rattle.board_items.specs.declared.errors.BoardError.TheVariants.{NotABoard, Missing}
+use Rattle.board_errors.specs.declared.errors.BoardError.{BoardError}
+use Rattle.board_errors.specs.declared.errors.BoardError.TheVariants.{NotABoard, Missing}
 use Rattle.board_items.specs.Boards.{PlainBoard}
 use Rattle.part_read.specs.Elements.{◌>>=◌, check, place, has_head}
 use Rattle.tree_text.specs.Pieces.{Writes}

@@ -3,8 +3,8 @@ use Rattle.std.proofs.Common.{◌≡◌, ◌∙◌, refl, sym, ap, subst, ℕ, B
 use Rattle.std.specs.Prelude.{nat_eq}
 use Rattle.sexpr_read.specs.declared.place.Span.{Span}
 use Rattle.sexpr_read.specs.Tree.{Forest, none, atom, list, Tree, branch, trees, is_list}
-use Rattle.board_items.specs.declared.errors.BoardError.{BoardError}
-use Rattle.board_items.specs.declared.errors.BoardError.TheVariants.{NotABoard, Version, Missing}
+use Rattle.board_errors.specs.declared.errors.BoardError.{BoardError}
+use Rattle.board_errors.specs.declared.errors.BoardError.TheVariants.{NotABoard, Version, Missing}
 use Rattle.part_read.specs.Elements.{◌>>=◌, needed, check, place, has_head, atom_of}
 use Rattle.tree_text.specs.Anew.{Fate, stays, inside_by, insides_after}
 use Rattle.pcb_read.specs.BoardOf.{Reading, is_version, version_in, header_in}

@@ -4,7 +4,7 @@ use Rattle.std.proofs.lemmas.Slice.Eq.{bytes_eq-Decides}
 use Rattle.std.specs.Prelude.{nat_eq, bytes_eq}
 use Rattle.sexpr_read.specs.declared.place.Span.{Span}
 use Rattle.sexpr_read.specs.Tree.{Forest, none, atom, list, Tree, leaf, branch, trees, unescaped}
-use Rattle.board_items.specs.declared.errors.BoardError.{BoardError}
+use Rattle.board_errors.specs.declared.errors.BoardError.{BoardError}
 use Rattle.part_read.specs.Elements.{◌>>=◌, check, has_head}
 use Rattle.tree_text.specs.Anew.{Fate, stays, first_fate, IsThere, FirstIsThere}
 use Rattle.pcb_read.specs.declared.sorts.Sort.{Sort}

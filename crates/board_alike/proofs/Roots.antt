@@ -6,7 +6,7 @@ use Rattle.sexpr_read.specs.Tree.{Tree}
 use Rattle.board_items.specs.declared.item.Item.{Item}
 use Rattle.board_items.specs.Boards.{PlainBoard, with_item}
 use Rattle.board_items.specs.Refusals.{room_of}
-use Rattle.board_items.specs.declared.errors.BoardError.{BoardError}
+use Rattle.board_errors.specs.declared.errors.BoardError.{BoardError}
 use Rattle.read_alike.specs.Alike.{AlikeTrees}
 use Rattle.part_read.specs.Elements.{◌>>=◌}
 use Rattle.pcb_read.specs.declared.sorts.Sort.{Sort}

@@ -4,10 +4,10 @@ use Rattle.sexpr_read.specs.declared.place.TextError.{TextError}
 use Rattle.sexpr_read.specs.Tree.{Tree, parts, is_list}
 use Rattle.sexpr_read.specs.Refusals.{refusal_of_all}
 use Rattle.sexpr_read.proofs.Unique.{unique_forms}
-use Rattle.board_items.specs.declared.errors.BoardError.{BoardError}
-use Rattle.board_items.specs.declared.errors.BoardError.TheVariants.{OutOfBoard}
-use Rattle.board_items.specs.declared.errors.Found.{Found}
-use Rattle.board_items.specs.declared.errors.Found.TheVariants.{None as NoUnit, Shared, Inside, Unit as OneUnit}
+use Rattle.board_errors.specs.declared.errors.BoardError.{BoardError}
+use Rattle.board_errors.specs.declared.errors.BoardError.TheVariants.{OutOfBoard}
+use Rattle.board_items.specs.declared.found.Found.{Found}
+use Rattle.board_items.specs.declared.found.Found.TheVariants.{None as NoUnit, Shared, Inside, Unit as OneUnit}
 use Rattle.board_items.specs.declared.item.Item.{Item}
 use Rattle.board_items.specs.Boards.{PlainBoard}
 use Rattle.board_items.specs.Moves.{unit_stays}

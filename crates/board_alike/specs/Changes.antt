@@ -2,7 +2,7 @@
 use Rattle.std.specs.Prelude.{◌≡◌, ℕ, List, [], ◌∷◌, true, Result, Ok, Err}
 use Rattle.sexpr_read.specs.Tree.{Tree, parts}
 use Rattle.sexpr_read.specs.Spelling.{SpellsAll}
-use Rattle.board_items.specs.declared.errors.Found.TheVariants.{Unit as OneUnit}
+use Rattle.board_items.specs.declared.found.Found.TheVariants.{Unit as OneUnit}
 use Rattle.board_items.specs.declared.item.Item.{Item}
 use Rattle.board_items.specs.Boards.{PlainBoard}
 use Rattle.board_items.specs.Moves.{unit_stays, IsMoved}

@@ -2,8 +2,8 @@
 use Rattle.std.proofs.Common.{◌≡◌, ◌≢◌, ◌⊎◌, inl, inr, refl, sym, ap, subst, ◌∙◌, ℕ, zero, suc, ℤ, pos, neg_ℤ, Bool, true, false, cond, not, ◌&&◌, nat_eq, List, [], ◌∷◌, filter, Option, None, Some, MatchBool, Result, Ok, Err, OnOk, IfErr, ◌-ℤ◌, arith, true≢false}
 use Rattle.std.proofs.lemmas.Int.{ints}
 use Rattle.int_algebra.proofs.Scalars.{passed}
-use Rattle.board_items.specs.declared.errors.ItemError.{ItemError}
-use Rattle.board_items.specs.declared.errors.ItemError.TheVariants.{OutOfBoard}
+use Rattle.board_errors.specs.declared.errors.ItemError.{ItemError}
+use Rattle.board_errors.specs.declared.errors.ItemError.TheVariants.{OutOfBoard}
 use Rattle.std.specs.List.{All, AllZip, Contains}
 use Rattle.std.specs.List.Sorted.{IsStrictlyIncreasing}
 use Rattle.std.specs.Ordering.{int_eq}

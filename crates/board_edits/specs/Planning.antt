@@ -1,9 +1,9 @@
 -- What the code finds out of a command.
 use Rattle.std.specs.Prelude.{◌≡◌, ◌⊎◌, ℕ, Result, Ok, Err}
-use Rattle.board_items.specs.declared.errors.BoardError.{BoardError}
-use Rattle.board_items.specs.declared.errors.BoardError.TheVariants.{OutOfMemory as NoMemory}
-use Rattle.board_items.specs.declared.errors.Found.{Found}
-use Rattle.board_items.specs.declared.errors.Found.TheVariants.{None as NoUnit, Shared, Inside, Unit as OneUnit}
+use Rattle.board_errors.specs.declared.errors.BoardError.{BoardError}
+use Rattle.board_errors.specs.declared.errors.BoardError.TheVariants.{OutOfMemory as NoMemory}
+use Rattle.board_items.specs.declared.found.Found.{Found}
+use Rattle.board_items.specs.declared.found.Found.TheVariants.{None as NoUnit, Shared, Inside, Unit as OneUnit}
 use Rattle.board_items.specs.Boards.{PlainBoard}
 use Rattle.edit_script.specs.Commands.{PlainCommand}
 use Rattle.board_edits.specs.declared.deed.Deed.{Deed}

@@ -1,7 +1,7 @@
 //! Deeds that are done.
 
 ghost use Rattle.std.specs.Prelude.{◌≡◌, true, map, IfOk, OnOk, All};
-ghost use Rattle.board_items.specs.Back.{kept_entry, entries_of, FitsBack};
+ghost use Rattle.board_items.specs.Back.{kept_entry, FitsBack};
 ghost use Rattle.board_items.specs.Boards.{IsSound};
 ghost use Rattle.board_items.specs.Moves.{unit_stays};
 ghost use Rattle.board_items.specs.Walks.{unit_left};

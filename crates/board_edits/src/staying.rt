@@ -1,6 +1,6 @@
 //! Whether a unit that is moved stays on the board.
 
-ghost use Rattle.std.specs.Prelude.{◌≡◌, ◌+ℤ◌, ◌++◌, ◌&&◌, unsigned_abs, ◌≤◌};
+ghost use Rattle.std.specs.Prelude.{◌≡◌, ◌+ℤ◌, ◌++◌, ◌&&◌};
 ghost use Rattle.std.specs.List.{list_all};
 ghost use Rattle.geo_seg.specs.Shifts.{core_stays};
 ghost use Rattle.board_items.specs.Boards.{is_near};

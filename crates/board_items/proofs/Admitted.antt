@@ -5,7 +5,7 @@ use Rattle.std.specs.Int.Bits.{and_zero_l, and_zero_r}
 use Rattle.std.specs.Option.{option_copied}
 use Rattle.std.specs.List.{list_all}
 use Rattle.std.specs.Map.{lookup}
-use Rattle.board_items.specs.declared.errors.ItemError.TheVariants.{OutOfBoard, UnknownNet, UnknownLayer, TooMany}
+use Rattle.board_errors.specs.declared.errors.ItemError.TheVariants.{OutOfBoard, UnknownNet, UnknownLayer, TooMany}
 use Rattle.copper_layers.specs.declared.set.LayerSet.{LayerSet}
 use Rattle.board_items.specs.declared.parts.Part.{Part}
 use Rattle.board_items.specs.declared.item.Item.{Item}

@@ -4,7 +4,6 @@ pub mod Extents
 pub mod Boards
 pub mod Refusals
 pub mod Walks
-pub mod Reasons
 pub mod Turns
 pub mod Copper
 pub mod Kept

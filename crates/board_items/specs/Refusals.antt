@@ -1,7 +1,7 @@
 -- When an item is refused: the first of four reasons, in this order.
 use Rattle.std.specs.Prelude.{ℕ, ◌-◌, min, not, length, nat_le, Option, None, Some, Result, Ok, Err, is_some, if◌then◌else◌}
-use Rattle.board_items.specs.declared.errors.ItemError.{ItemError}
-use Rattle.board_items.specs.declared.errors.ItemError.TheVariants.{OutOfBoard, UnknownNet, UnknownLayer, TooMany, OutOfMemory}
+use Rattle.board_errors.specs.declared.errors.ItemError.{ItemError}
+use Rattle.board_errors.specs.declared.errors.ItemError.TheVariants.{OutOfBoard, UnknownNet, UnknownLayer, TooMany, OutOfMemory}
 use Rattle.board_items.specs.declared.item.Item.{Item}
 use Rattle.board_items.specs.Boards.{PlainBoard, name_of}
 pub use Rattle.board_items.specs.Boards.{is_near, is_on_board, has_layers_of}

@@ -2,8 +2,8 @@
 use Rattle.std.specs.Prelude.{ℕ, Bool, true, false, ◌&&◌, not, nat_eq, List, [], ◌∷◌, Option, Some, None as Nothing, option_map, find, filter, bytes_eq, if◌then◌else◌}
 use Rattle.std.specs.List.{list_any}
 use Rattle.std.specs.Option.{option_map_or}
-use Rattle.board_items.specs.declared.errors.Found.{Found}
-use Rattle.board_items.specs.declared.errors.Found.TheVariants.{None, Shared, Inside, Unit}
+use Rattle.board_items.specs.declared.found.Found.{Found}
+use Rattle.board_items.specs.declared.found.Found.TheVariants.{None, Shared, Inside, Unit}
 use Rattle.board_items.specs.declared.item.What.{What}
 use Rattle.board_items.specs.declared.item.What.TheVariants.{Body}
 use Rattle.board_items.specs.declared.item.Item.{Item}

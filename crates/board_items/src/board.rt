@@ -1,12 +1,12 @@
 //! Boards.
 
-ghost use Rattle.std.specs.Prelude.{◌≡◌, ◌<◌, ◌≤◌, ℕ, List, is_some, true, false, None, Some, Err, ◌≢◌, not, nat_eq, filter, ◌&&◌, ◌++◌, ◌∷◌, [], IfOk, IfErr, OnOk, OnErr, IfSome, IsUtf8, length, vec_len, vec_capacity};
+ghost use Rattle.std.specs.Prelude.{◌≡◌, ◌<◌, true, false, None, Some, Err, ◌≢◌, not, nat_eq, filter, ◌&&◌, ◌++◌, ◌∷◌, [], IfOk, IfErr, OnOk, OnErr, IfSome, length, vec_len, vec_capacity};
 ghost use Rattle.std.specs.Option.{option_copied};
 ghost use Rattle.std.specs.List.{list_all};
 ghost use Rattle.copper_layers.specs.Layers.{is_within};
 ghost use Rattle.board_items.specs.Parts.{parts_of};
 ghost use Rattle.board_items.specs.Refusals.{refusal_of, reason_in, room_of};
-ghost use Rattle.board_items.specs.Boards.{PlainBoard, IsSound, Rise, empty_board, name_of, with_net, item_at, with_item, is_near, is_admitted, is_mark, marks_of, ids_of_net};
+ghost use Rattle.board_items.specs.Boards.{PlainBoard, IsSound, empty_board, name_of, with_net, item_at, with_item, is_near, is_admitted, is_mark, marks_of, ids_of_net};
 ghost use Rattle.board_items.specs.Kept.{IsNetAt};
 ghost use Rattle.board_items.specs.Moves.{unit_stays, IsMoved};
 ghost use Rattle.board_items.specs.Slots.{present, without_id};
@@ -14,7 +14,7 @@ ghost use Rattle.board_items.specs.Notes.{notes_of, body_of};
 ghost use Rattle.board_items.specs.Units.{without_unit, found_of};
 ghost use Rattle.board_items.specs.Walks.{items_left, unit_left, nets_left};
 
-use crate::errors::{Found, ItemError};
+use crate::found::Found;
 use crate::item::{Item, Nm, What};
 use crate::moves::{Step, shift_unit, unit_stays};
 use crate::notes::{goes_on, last_body};
@@ -24,6 +24,7 @@ use crate::slots::{drop_id, drop_if, item_at};
 use crate::tags::tag_of;
 use crate::units::found_of;
 use crate::walk::{BoardIter, BoardNets, UnitIter};
+use board_errors::ItemError;
 use copper_layers::LayerSet;
 use drc_io::Name;
 use indexmap::IndexMap;

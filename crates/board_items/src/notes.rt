@@ -1,6 +1,6 @@
 //! Bodies that notes speak of: a row of slots is gone through backwards, from the note on.
 
-ghost use Rattle.std.specs.Prelude.{◌≡◌, ◌<◌, ◌≤◌, ◌++◌, ◌∷◌, [], true, length, get_or, IsTrue};
+ghost use Rattle.std.specs.Prelude.{◌≡◌, ◌<◌, ◌++◌, ◌∷◌, [], true, length, get_or};
 ghost use Rattle.std.specs.Option.{option_copied};
 ghost use Rattle.board_items.specs.Slots.{present, IsUnitIn, AreUnitsIn, UnitsRise};
 ghost use Rattle.board_items.specs.Notes.{is_body_of, body_before, only_body};

@@ -1,6 +1,6 @@
 //! Slots: items by id.
 
-ghost use Rattle.std.specs.Prelude.{◌≡◌, ◌+◌, ◌<◌, ◌≤◌, [], Bool, true, None, Some, not, nat_eq, filter, length, slice_get, set, MatchOption, if◌then◌else◌};
+ghost use Rattle.std.specs.Prelude.{◌≡◌, ◌+◌, ◌<◌, ◌≤◌, [], true, None, Some, not, nat_eq, filter, length, slice_get, MatchOption, if◌then◌else◌};
 ghost use Rattle.std.specs.Option.{option_copied};
 ghost use Rattle.board_items.specs.Boards.{item_at};
 ghost use Rattle.board_items.specs.Slots.{present, at_slot, IsNext, IsUnitIn, are_units_in, unit_items, only_of, IsNextOf};

@@ -5,7 +5,7 @@ ghost use Rattle.board_items.specs.Walks.{named_left, unit_left};
 ghost use Rattle.board_items.specs.Units.{found_of, is_body, has_other_unit, has_body_named_otherwise, is_footprint_named_otherwise};
 
 use crate::board::Board;
-use crate::errors::Found;
+use crate::found::Found;
 use crate::item::{Item, What};
 use crate::walk::{NamedIter, UnitIter};
 use drc_io::Name;

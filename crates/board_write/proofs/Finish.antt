@@ -9,10 +9,10 @@ use Rattle.sexpr_read.specs.Refusals.{refusal_of_one}
 use Rattle.sexpr_read.specs.declared.view.Doc.{Doc}
 use Rattle.sexpr_read.specs.Views.{root_of}
 use Rattle.sexpr_read.proofs.Ordered.{one_in_order}
-use Rattle.board_items.specs.declared.errors.BoardError.{BoardError}
+use Rattle.board_errors.specs.declared.errors.BoardError.{BoardError}
 use Rattle.board_items.specs.Boards.{PlainBoard}
 use Rattle.edit_script.specs.Commands.{PlainCommand}
-use Rattle.board_items.specs.declared.errors.BoardError.TheVariants.{Missing}
+use Rattle.board_errors.specs.declared.errors.BoardError.TheVariants.{Missing}
 use Rattle.part_read.specs.Elements.{◌>>=◌, check, place}
 use Rattle.pcb_read.specs.BoardOf.{Reading, unread, header_in, board_in, SaysParts, SaysAfter, SaysBoard}
 use Rattle.pcb_read.specs.Spans.{AreSpans}

@@ -3,7 +3,7 @@ use Rattle.std.proofs.Common.{◌≡◌, ◌∙◌, ap, sym, subst, refl, ℕ, L
 use Rattle.sexpr_read.specs.Tree.{Tree, parts}
 use Rattle.sexpr_read.specs.Spelling.{Spells, SpellsAll}
 use Rattle.sexpr_read.specs.Refusals.{refusal_of_one}
-use Rattle.board_items.specs.declared.errors.BoardError.{BoardError}
+use Rattle.board_errors.specs.declared.errors.BoardError.{BoardError}
 use Rattle.board_items.specs.declared.item.Item.{Item}
 use Rattle.board_items.specs.Boards.{PlainBoard}
 use Rattle.part_read.specs.Elements.{◌>>=◌}

@@ -14,10 +14,10 @@ use Rattle.sexpr_read.specs.Refusals.{refusal_of_all}
 use Rattle.sexpr_read.specs.Spelling.{SpellsAll}
 use Rattle.sexpr_read.specs.Views.{root_of}
 use Rattle.sexpr_read.proofs.Unique.{unique_forms}
-use Rattle.board_items.specs.declared.errors.BoardError.{BoardError}
-use Rattle.board_items.specs.declared.errors.BoardError.TheVariants.{OutOfBoard, Text}
-use Rattle.board_items.specs.declared.errors.Found.{Found}
-use Rattle.board_items.specs.declared.errors.Found.TheVariants.{None as NoUnit, Shared, Inside, Unit as OneUnit}
+use Rattle.board_errors.specs.declared.errors.BoardError.{BoardError}
+use Rattle.board_errors.specs.declared.errors.BoardError.TheVariants.{OutOfBoard, Text}
+use Rattle.board_items.specs.declared.found.Found.{Found}
+use Rattle.board_items.specs.declared.found.Found.TheVariants.{None as NoUnit, Shared, Inside, Unit as OneUnit}
 use Rattle.board_items.specs.declared.item.Item.{Item}
 use Rattle.board_items.specs.Boards.{PlainBoard, IsSound}
 use Rattle.board_items.specs.Moves.{unit_stays}

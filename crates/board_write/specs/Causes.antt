@@ -1,6 +1,6 @@
 -- Refusals of boards as those of writing.
-use Rattle.board_items.specs.declared.errors.BoardError.{BoardError}
-use Rattle.board_items.specs.declared.errors.BoardError.TheVariants.{OutOfMemory as NoMemory}
+use Rattle.board_errors.specs.declared.errors.BoardError.{BoardError}
+use Rattle.board_errors.specs.declared.errors.BoardError.TheVariants.{OutOfMemory as NoMemory}
 use Rattle.board_write.specs.declared.error.WriteError.{WriteError}
 use Rattle.board_write.specs.declared.error.WriteError.TheVariants.{Board, OutOfMemory}
 

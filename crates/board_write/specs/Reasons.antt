@@ -1,6 +1,6 @@
 -- What the refusals of writing are called, their codes and places. That of the board stands behind a point.
 use Rattle.std.specs.Prelude.{ℕ, List, ◌++◌, Option, None, codes}
-use Rattle.board_items.specs.Reasons.{board_name_of, board_code_of, board_place_of}
+use Rattle.board_errors.specs.Reasons.{board_name_of, board_code_of, board_place_of}
 use Rattle.board_write.specs.declared.error.WriteError.{WriteError}
 use Rattle.board_write.specs.declared.error.WriteError.TheVariants.{Board, Failed, OutOfMemory}
 

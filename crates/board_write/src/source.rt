@@ -1,7 +1,7 @@
 //! A board and its text, as they are read.
 
 ghost use Rattle.std.specs.Prelude.{◌≡◌, ◌≤◌, ◌⊎◌, length, IfOk, IfErr, Ok, Err};
-ghost use Rattle.board_items.specs.declared.errors.BoardError.{BoardError};
+ghost use Rattle.board_errors.specs.declared.errors.BoardError.{BoardError};
 ghost use Rattle.pcb_read.specs.BoardText.{Says};
 ghost use Rattle.board_write.specs.Answers.{IsCauseBefore};
 ghost use Rattle.board_write.specs.Sources.{IsSource};

@@ -2,7 +2,7 @@
 use Rattle.std.proofs.Common.{◌∙◌, refl, sym, ap, subst, Bool, true, false, cond, List, [], ◌∷◌, ◌++◌, codes, Option, Result, Ok}
 use Rattle.sexpr_read.specs.declared.place.Span.{Span}
 use Rattle.sexpr_read.specs.Tree.{Forest, none, atom, list, Tree, leaf, branch, trees, parts}
-use Rattle.board_items.specs.declared.errors.BoardError.{BoardError}
+use Rattle.board_errors.specs.declared.errors.BoardError.{BoardError}
 use Rattle.copper_layers.specs.declared.set.LayerSet.{LayerSet}
 use Rattle.part_read.specs.Elements.{◌>>=◌}
 use Rattle.part_read.specs.LayersWhere.{layers_of_any}

@@ -1,7 +1,7 @@
 -- Single steps of chains of answers.
 use Rattle.std.proofs.Common.{◌≡◌, refl, sym, subst, ℕ, Bool, true, false, List, Option, None, Some, Result, Ok, Err}
 use Rattle.sexpr_read.specs.Tree.{none, Tree, leaf, branch, trees, parts}
-use Rattle.board_items.specs.declared.errors.BoardError.{BoardError}
+use Rattle.board_errors.specs.declared.errors.BoardError.{BoardError}
 use Rattle.part_read.specs.Elements.{◌>>=◌, needed, check, has_head, element}
 use Rattle.read_alike.specs.Alike.{Shift}
 use Rattle.read_alike.specs.Agreeing.{Agrees, Same, AlikeParts, FoundAlike, forest_in}

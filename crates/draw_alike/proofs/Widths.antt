@@ -3,8 +3,8 @@ use Rattle.std.proofs.Common.{◌≡◌, ◌∙◌, refl, sym, ap, subst, ℕ, �
 use Rattle.std.specs.Prelude.{int_le}
 use Rattle.sexpr_read.specs.declared.place.Span.{Span}
 use Rattle.sexpr_read.specs.Tree.{Forest, Tree, branch}
-use Rattle.board_items.specs.declared.errors.BoardError.{BoardError}
-use Rattle.board_items.specs.declared.errors.BoardError.TheVariants.{BadNumber}
+use Rattle.board_errors.specs.declared.errors.BoardError.{BoardError}
+use Rattle.board_errors.specs.declared.errors.BoardError.TheVariants.{BadNumber}
 use Rattle.part_read.specs.Elements.{◌>>=◌, place, is_value, is_text, has_head, element, atom_of}
 use Rattle.part_read.specs.Numbers.{length_in, size_in, size_at}
 use Rattle.part_read.specs.Drawings.{stroke_width, first_there, width_among, width_of, filled_by, fill_among, fill_of}

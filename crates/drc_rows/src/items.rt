@@ -1,6 +1,6 @@
 //! How an item stands in a line: by its kind, a name, and its place.
 
-ghost use Rattle.std.specs.Prelude.{◌≡◌, ◌++◌, ℕ, List, IsSome, codes, true};
+ghost use Rattle.std.specs.Prelude.{◌≡◌, ◌++◌, IsSome, codes, true};
 ghost use Rattle.board_items.specs.Boards.{item_at, is_on_board};
 ghost use Rattle.drc_rows.specs.Line.{Puts, named};
 ghost use Rattle.drc_rows.specs.Report.{title_of, item_text, text_of};

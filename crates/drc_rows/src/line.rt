@@ -2,7 +2,7 @@
 
 ghost use Rattle.std.specs.Prelude.{◌≡◌, ◌≤◌, ◌+◌, ◌++◌, ℕ, List, [], length, take};
 ghost use Rattle.drc_io.specs.Sinks.{Writes};
-ghost use Rattle.drc_rows.specs.Line.{Puts, escaped};
+ghost use Rattle.drc_rows.specs.Line.{Puts};
 
 use drc_io::{Failed, Sink, put_all};
 use std::marker::Model;

@@ -3,7 +3,7 @@
 ghost use Rattle.std.specs.Prelude.{◌≡◌, ◌<◌, ◌++◌, All, IsSome, length, decimal};
 ghost use Rattle.std.specs.List.{flat_map};
 ghost use Rattle.drc_io.specs.Sinks.{Writes};
-ghost use Rattle.board_items.specs.Boards.{item_at, name_of};
+ghost use Rattle.board_items.specs.Boards.{name_of};
 ghost use Rattle.net_groups.specs.Groups.{IsOnBoard};
 ghost use Rattle.ratsnest.specs.NestOf.{anchor_at, HasPlaces};
 ghost use Rattle.drc_rows.specs.Line.{Puts};

@@ -1,6 +1,6 @@
 //! Texts that go into a line piece by piece.
 
-ghost use Rattle.std.specs.Prelude.{◌≡◌, ◌++◌, ℕ, List, [], ◌∷◌, MatchOption};
+ghost use Rattle.std.specs.Prelude.{◌≡◌, [], ◌∷◌, MatchOption};
 ghost use Rattle.std.specs.List.{flat_map};
 ghost use Rattle.drc_rows.specs.Line.{Puts, escaped, escaped_byte, named};
 

@@ -2,9 +2,9 @@
 use Rattle.std.proofs.Common.{◌≡◌, ℕ, ◌≤◌, Bool, List, [], ◌∷◌, ◌++◌, length, codes, append-nil, slice_get, Option, Some, None, Result, Ok, Err, inl, inr, sym, ap, subst, ◌∙◌, refl, arith}
 use Rattle.std.proofs.lemmas.Option.{slice_get_within}
 use Rattle.drc_io.specs.Files.{file_of}
-use Rattle.board_items.specs.declared.errors.BoardError.{BoardError}
+use Rattle.board_errors.specs.declared.errors.BoardError.{BoardError}
 use Rattle.board_items.specs.Boards.{PlainBoard}
-use Rattle.board_items.specs.Reasons.{board_reason_of, board_place_of}
+use Rattle.board_errors.specs.Reasons.{board_reason_of, board_place_of}
 use Rattle.pcb_read.specs.BoardText.{Says}
 use Rattle.net_class.specs.Classes.{PlainClasses}
 use Rattle.net_class.specs.ProjectText.{Says as ProjectSays}

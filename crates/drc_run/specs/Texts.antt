@@ -2,8 +2,8 @@
 -- here.
 use Rattle.std.specs.Prelude.{◌≡◌, ◌⊎◌, ℕ, ◌<◌, ◌≤◌, List, [], ◌∷◌, ◌++◌, length, codes, decimal, Option, None, Some, Ok, Err, slice_get}
 use Rattle.drc_io.specs.Files.{IsWhole}
-use Rattle.board_items.specs.declared.errors.BoardError.{BoardError}
-use Rattle.board_items.specs.Reasons.{board_reason_of, board_place_of}
+use Rattle.board_errors.specs.declared.errors.BoardError.{BoardError}
+use Rattle.board_errors.specs.Reasons.{board_reason_of, board_place_of}
 use Rattle.board_items.specs.Boards.{PlainBoard}
 use Rattle.pcb_read.specs.BoardText.{Says as BoardSays}
 use Rattle.net_class.specs.declared.error.ProjectError.{ProjectError}

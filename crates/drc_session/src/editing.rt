@@ -1,6 +1,6 @@
 //! Edits of the board.
 
-ghost use Rattle.std.specs.Prelude.{◌≡◌, ◌≢◌, ◌++◌, ◌<◌, ◌≤◌, ℕ, pos, true, false, [], List, length, map, All, OnOk, IfOk};
+ghost use Rattle.std.specs.Prelude.{◌≡◌, ◌≢◌, ◌<◌, ◌≤◌, pos, true, false, [], List, length, All, OnOk, IfOk};
 ghost use Rattle.std.specs.List.Sorted.{IsStrictlyIncreasing};
 ghost use Rattle.drc_io.specs.Lengths.{IsLength};
 ghost use Rattle.geo_seg.specs.declared.boxes.Bounds.{Bounds};
@@ -20,7 +20,7 @@ ghost use Rattle.drc_state.specs.States.{checked_in};
 ghost use Rattle.drc_state.specs.Changes.{edit, Makes, LeadsBack};
 ghost use Rattle.drc_session.specs.Sessions.{IsApplied, IsDealt};
 ghost use Rattle.drc_session.specs.Holding.{state_of, IsKept};
-ghost use Rattle.drc_session.specs.Looks.{AreBoxesIn, HasNetsOf};
+ghost use Rattle.drc_session.specs.Looks.{HasNetsOf};
 ghost use Rattle.drc_session.specs.Steps.{IsLook, AreTilesNear};
 
 use crate::applied::Applied;

@@ -1,6 +1,6 @@
 -- What the refusals of commands are called, their codes and places. A refusal of an added list or of rules stands behind a point.
 use Rattle.std.specs.Prelude.{ℕ, List, ◌++◌, Option, None, codes}
-use Rattle.board_items.specs.Reasons.{board_name_of, board_code_of, board_place_of}
+use Rattle.board_errors.specs.Reasons.{board_name_of, board_code_of, board_place_of}
 use Rattle.rule_text.specs.Reasons.{name_of as rules_name_of, code_of as rules_code_of, place_of as rules_place_of, inner_place_of as rules_inner_place_of}
 use Rattle.drc_state.specs.declared.error.EditError.{EditError}
 use Rattle.drc_state.specs.declared.error.EditError.TheVariants.{NoSuchItem, SharedName, PartOfFootprint, Item, Rules, Stopped, OutOfMemory}

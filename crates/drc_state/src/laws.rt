@@ -10,7 +10,7 @@ ghost use Rattle.drc_state.specs.declared.error.EditError.{EditError};
 ghost use Rattle.drc_state.specs.States.{State};
 ghost use Rattle.drc_state.specs.Steps.{Answers};
 ghost use Rattle.drc_state.specs.Changes.{PlainChange, Makes};
-ghost use Rattle.drc_state.specs.Recheck.{IsFarthest, AreHeld, ReachStays, ReachDiffers, AreRechecked};
+ghost use Rattle.drc_state.specs.Recheck.{IsFarthest, AreHeld, ReachDiffers, AreRechecked};
 ghost use Rattle.drc_state.specs.Boxes.{AreBoxesOf};
 
 use board_edits::laws::{one_board, one_deed};

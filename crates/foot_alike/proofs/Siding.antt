@@ -4,8 +4,8 @@ use Rattle.std.specs.Prelude.{nat_le, if◌then◌else◌}
 use Rattle.std.specs.List.{AllZip, list_any}
 use Rattle.std.proofs.lemmas.List.{map-append}
 use Rattle.sexpr_read.specs.Tree.{Forest, none, atom, list, Tree, leaf, branch, trees, parts}
-use Rattle.board_items.specs.declared.errors.BoardError.{BoardError}
-use Rattle.board_items.specs.declared.errors.BoardError.TheVariants.{Missing}
+use Rattle.board_errors.specs.declared.errors.BoardError.{BoardError}
+use Rattle.board_errors.specs.declared.errors.BoardError.TheVariants.{Missing}
 use Rattle.part_read.specs.declared.numbers.Spot.{Spot}
 use Rattle.part_read.specs.declared.stances.Stance.{Stance}
 use Rattle.part_read.specs.declared.figures.Figure.TheVariants.{Outline as OutlineFigure}

@@ -4,7 +4,7 @@ use Rattle.std.specs.Prelude.{slice_get}
 use Rattle.std.proofs.lemmas.Int.{ints}
 use Rattle.sexpr_read.specs.declared.place.Span.{Span}
 use Rattle.sexpr_read.specs.Tree.{Forest, none, atom, list, Tree, leaf, branch, trees}
-use Rattle.board_items.specs.declared.errors.BoardError.{BoardError}
+use Rattle.board_errors.specs.declared.errors.BoardError.{BoardError}
 use Rattle.part_read.specs.declared.numbers.Spot.{Spot}
 use Rattle.part_read.specs.Elements.{first_is}
 use Rattle.part_read.specs.Numbers.{spot_at}

@@ -3,8 +3,8 @@ use Rattle.std.proofs.Common.{◌≡◌, refl, sym, subst, ℕ, ◌⊎◌, inl, 
 use Rattle.std.specs.Prelude.{Vec}
 use Rattle.std.specs.declared.alloc.Global.{Global}
 use Rattle.sexpr_read.specs.Tree.{Tree}
-use Rattle.board_items.specs.declared.errors.BoardError.{BoardError}
-use Rattle.board_items.specs.declared.errors.BoardError.TheVariants.{OutOfMemory}
+use Rattle.board_errors.specs.declared.errors.BoardError.{BoardError}
+use Rattle.board_errors.specs.declared.errors.BoardError.TheVariants.{OutOfMemory}
 use Rattle.board_items.specs.declared.item.Item.{Item}
 use Rattle.board_items.specs.Boards.{PlainBoard}
 use Rattle.part_read.specs.Lists.{GivesItems}

@@ -2,8 +2,8 @@
 -- this order.
 use Rattle.std.specs.Prelude.{ℕ, ◌==◌, ◌&&◌, Bool, true, false, List, [], codes, Option, None, Some, slice_get, find, Result, Ok, Err, if◌then◌else◌}
 use Rattle.sexpr_read.specs.Tree.{Tree, parts}
-use Rattle.board_items.specs.declared.errors.BoardError.{BoardError}
-use Rattle.board_items.specs.declared.errors.BoardError.TheVariants.{Missing, Turned, UnknownLayer}
+use Rattle.board_errors.specs.declared.errors.BoardError.{BoardError}
+use Rattle.board_errors.specs.declared.errors.BoardError.TheVariants.{Missing, Turned, UnknownLayer}
 use Rattle.copper_layers.specs.declared.set.LayerSet.{LayerSet}
 use Rattle.part_read.specs.Elements.{◌>>=◌, needed, place, text_of, is_text, has_head, element, atom_of}
 use Rattle.part_read.specs.LayersOf.{copper_in}

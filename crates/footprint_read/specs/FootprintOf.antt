@@ -4,8 +4,8 @@
 use Rattle.std.specs.Prelude.{◌≡◌, ◌⊎◌, Vec, ℕ, suc, nat_lt, Bool, ◌&&◌, ◌||◌, List, [], ◌∷◌, ◌++◌, map, codes, Option, None, Some, Result, Ok, Err, refl, if◌then◌else◌}
 use Rattle.std.specs.declared.alloc.Global.{Global}
 use Rattle.sexpr_read.specs.Tree.{Tree, parts}
-use Rattle.board_items.specs.declared.errors.BoardError.{BoardError}
-use Rattle.board_items.specs.declared.errors.BoardError.TheVariants.{OutOfBoard, TooMany, OutOfMemory}
+use Rattle.board_errors.specs.declared.errors.BoardError.{BoardError}
+use Rattle.board_errors.specs.declared.errors.BoardError.TheVariants.{OutOfBoard, TooMany, OutOfMemory}
 use Rattle.board_items.specs.declared.item.About.TheVariants.{Text, Courtyard, FootZone}
 use Rattle.board_items.specs.declared.item.What.TheVariants.{Body}
 use Rattle.board_items.specs.declared.item.Item.{Item}

@@ -1,8 +1,7 @@
 //! The children of a footprint, in the order of the text.
 
 ghost use Rattle.std.specs.Prelude.{◌≡◌, ◌<◌, ◌∷◌, [], ℕ, IfOk, All};
-ghost use Rattle.sexpr_read.specs.Tree.{parts};
-ghost use Rattle.sexpr_read.specs.Views.{tree_of, trees_left};
+ghost use Rattle.sexpr_read.specs.Views.{tree_of};
 ghost use Rattle.board_items.specs.Boards.{PlainBoard};
 ghost use Rattle.board_items.specs.declared.item.About.TheVariants.{FootZone};
 ghost use Rattle.part_read.specs.Elements.{name_in};
@@ -11,7 +10,7 @@ ghost use Rattle.part_read.specs.Nodes.{Gives};
 ghost use Rattle.part_read.specs.Grounds.{IsOn};
 ghost use Rattle.part_read.specs.Stances.{IsWithin};
 ghost use Rattle.part_read.specs.Ready.{IsReady};
-ghost use Rattle.footprint_read.specs.FootprintOf.{items_of, with_items, with_drawn, with_arc, drawn_kind, is_curve, is_writing, with_other, with_child, with_children, contents_of, empty};
+ghost use Rattle.footprint_read.specs.FootprintOf.{items_of, with_items, with_drawn, with_arc, drawn_kind, is_curve, is_writing, with_other, with_child, contents_of};
 
 use crate::contents::Contents;
 use crate::court_lists::with_graphic;

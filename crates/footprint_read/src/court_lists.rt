@@ -1,15 +1,13 @@
 //! What the lists of courtyards add to their sides.
 
 ghost use Rattle.std.specs.Prelude.{◌≡◌, ◌<◌, ◌++◌, ◌∷◌, [], IfOk};
-ghost use Rattle.std.specs.List.{list_any};
-ghost use Rattle.sexpr_read.specs.Tree.{parts};
-ghost use Rattle.sexpr_read.specs.Views.{tree_of, trees_left};
+ghost use Rattle.sexpr_read.specs.Views.{tree_of};
 ghost use Rattle.part_read.specs.Elements.{element, in_needed, has_head};
 ghost use Rattle.part_read.specs.Nodes.{Gives};
 ghost use Rattle.part_read.specs.Numbers.{spot_at};
 ghost use Rattle.part_read.specs.Stances.{IsWithin};
 ghost use Rattle.part_read.specs.Figures.{HasReach};
-ghost use Rattle.footprint_read.specs.Courtyards.{with_figure, with_line, with_rect, with_circle, with_spots, has_arc, with_outline, with_graphic};
+ghost use Rattle.footprint_read.specs.Courtyards.{with_figure, with_line, with_rect, with_circle, has_arc, with_outline, with_graphic};
 
 use crate::sides::{Course, Side};
 use board_items::BoardError;

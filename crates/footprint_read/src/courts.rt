@@ -1,7 +1,7 @@
 //! The courtyard of a side.
 
-ghost use Rattle.std.specs.Prelude.{◌≡◌, ℕ, ◌<◌, ◌++◌, ◌∷◌, [], map, IfOk, OnOk, All, option_map};
-ghost use Rattle.part_read.specs.OnBoard.{tested, fits_board, point_at};
+ghost use Rattle.std.specs.Prelude.{◌≡◌, ◌<◌, ◌++◌, ◌∷◌, [], map, IfOk, OnOk, All, option_map};
+ghost use Rattle.part_read.specs.OnBoard.{point_at};
 ghost use Rattle.part_read.specs.Stances.{IsWithin};
 ghost use Rattle.part_read.specs.Figures.{HasReach, box_core};
 ghost use Rattle.footprint_read.specs.Bare.{AreBare};

@@ -5,7 +5,6 @@ ghost use Rattle.sexpr_read.specs.Views.{tree_of};
 ghost use Rattle.board_items.specs.Boards.{name_of};
 ghost use Rattle.part_read.specs.Lists.{GivesItems};
 ghost use Rattle.part_read.specs.OnBoard.{fits_board};
-ghost use Rattle.part_read.specs.Stances.{IsWithin};
 ghost use Rattle.part_read.specs.Ready.{IsReady, AreReady};
 ghost use Rattle.footprint_read.specs.Courtyards.{parts_in, lies_on_board};
 ghost use Rattle.footprint_read.specs.Bare.{AreBare};

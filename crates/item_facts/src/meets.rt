@@ -1,9 +1,8 @@
 //! Which areas and courtyards an item meets.
 
-ghost use Rattle.std.specs.Prelude.{◌≡◌, ◌<◌, ℕ, List, IsTrue, ◌↔◌, MatchOption};
+ghost use Rattle.std.specs.Prelude.{◌<◌, ℕ, List, IsTrue, ◌↔◌, MatchOption};
 ghost use Rattle.std.specs.List.{Any};
 ghost use Rattle.geo_seg.specs.Distances.{Meet};
-ghost use Rattle.copper_layers.specs.Layers.{has_layer};
 ghost use Rattle.board_items.specs.Parts.{hole_parts};
 ghost use Rattle.board_items.specs.Copper.{PartsMeet, SomeMeet, on_layer};
 ghost use Rattle.rule_pick.specs.FactsOf.{MeetsOn, MeetsPart, MeetsArea, MeetsEither, MeetsCourtyard, placed_parts};

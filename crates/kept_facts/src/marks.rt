@@ -1,6 +1,6 @@
 //! Areas and bodies, and the names that they give items.
 
-ghost use Rattle.std.specs.Prelude.{◌≡◌, ℕ, List, map, IsTrue, ◌↔◌, IfOk};
+ghost use Rattle.std.specs.Prelude.{◌≡◌, map, IsTrue, ◌↔◌, IfOk};
 ghost use Rattle.std.specs.Option.{option_copied};
 ghost use Rattle.board_items.specs.Boards.{is_mark};
 ghost use Rattle.rule_pick.specs.FactsOf.{MeetsArea, MeetsCourtyard};

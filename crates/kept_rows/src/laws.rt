@@ -1,6 +1,6 @@
 //! Laws of rows that are kept. The functions do nothing: each clause holds for all that is checked.
 
-ghost use Rattle.std.specs.Prelude.{◌≡◌, ◌++◌, ℕ, List, filter, not};
+ghost use Rattle.std.specs.Prelude.{◌++◌, ℕ, List, filter, not};
 ghost use Rattle.std.specs.List.Sorted.{IsPermutation};
 ghost use Rattle.box_index.specs.Tiles.{PlainIndex, IsSound};
 ghost use Rattle.pair_check.specs.PlainRow.{PlainRow};

@@ -12,8 +12,8 @@ use Rattle.geo_seg.specs.declared.shapes.Core.{Core}
 use Rattle.geo_seg.specs.declared.shapes.Core.TheVariants.{Line as LineCore, Area as AreaCore}
 use Rattle.geo_seg.specs.declared.shapes.Shape.{Shape}
 use Rattle.geo_seg.specs.Shifts.{IsShiftedShape, IsShiftedCore}
-use Rattle.board_items.specs.declared.errors.BoardError.{BoardError}
-use Rattle.board_items.specs.declared.errors.BoardError.TheVariants.{Missing, OutOfBoard, ThickFill, TooMany}
+use Rattle.board_errors.specs.declared.errors.BoardError.{BoardError}
+use Rattle.board_errors.specs.declared.errors.BoardError.TheVariants.{Missing, OutOfBoard, ThickFill, TooMany}
 use Rattle.copper_layers.specs.declared.set.LayerSet.{LayerSet}
 use Rattle.board_items.specs.declared.parts.Part.{Part}
 use Rattle.board_items.specs.declared.item.Bans.{Bans}

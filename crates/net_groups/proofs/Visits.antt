@@ -1,6 +1,6 @@
 -- A visit of a place, one of the others at a time.
 use Rattle.std.proofs.Common.{◌≡◌, ◌⊎◌, ℕ, ◌+◌, ◌<◌, ◌≤◌, take, List, [], ◌∷◌, ◌++◌, length, get_or, set, Contains, Option, None, Some, inl, inr, refl, sym, subst, ◌∙◌, arith}
-use Rattle.std.proofs.lemmas.List.{length-set, length_push, length-take, get_or-take, get_or_default, take_more, take_all, append-nil, append_assoc}
+use Rattle.std.proofs.lemmas.List.{length-set, length_push, length-take, get_or-take, get_or_default, take_more, take_all}
 use Rattle.std.proofs.lemmas.List.Elements.{Contains-push, Contains-push_cases, Contains-append_left, Contains-append_cases}
 use Rattle.net_groups.specs.Classes.{Rises}
 use Rattle.net_groups.specs.Labels.{label_at, IsLabelled, IsVisited}

@@ -1,5 +1,5 @@
 -- Private words of the search: which pairs are asked for in a tile.
-use Rattle.std.specs.Prelude.{◌≡◌, ℕ, ◌==◌, ◌<◌, ℤ, Bool, true, ◌&&◌, if◌then◌else◌, nat_lt, List, [], ◌∷◌, ◌⊎◌, length, slice_index, Option, Some, Contains, IsTrue}
+use Rattle.std.specs.Prelude.{◌≡◌, ℕ, ◌==◌, ◌<◌, ℤ, Bool, true, ◌&&◌, if◌then◌else◌, nat_lt, List, [], ◌∷◌, ◌⊎◌, length, slice_index, Option, Contains}
 use Rattle.geo_seg.specs.Boxes.{do_boxes_meet}
 use Rattle.box_index.specs.declared.area.Area.{Area}
 use Rattle.box_index.specs.Areas.{has_tile, end_of}

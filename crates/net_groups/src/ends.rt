@@ -1,6 +1,6 @@
 //! The two ends of a track.
 
-ghost use Rattle.std.specs.Prelude.{◌≡◌, ◌≤◌, ◌≢◌, ◌*ℤ◌, ℤ, pos, unsigned_abs, MatchOption, Some};
+ghost use Rattle.std.specs.Prelude.{◌≡◌, ◌≢◌, ◌*ℤ◌, ℤ, pos, MatchOption, Some};
 ghost use Rattle.ratsnest.specs.Reach.{IsInReach};
 ghost use Rattle.net_groups.specs.Anchors.{core_end, copper_end, track_end, IsSpot};
 

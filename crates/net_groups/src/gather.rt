@@ -1,6 +1,6 @@
 //! Groups of labels.
 
-ghost use Rattle.std.specs.Prelude.{◌≡◌, ◌<◌, ℕ, List, [], Some, IfOk, length, replicate};
+ghost use Rattle.std.specs.Prelude.{◌≡◌, ◌<◌, ℕ, [], Some, IfOk, length, replicate};
 ghost use Rattle.net_groups.specs.Labels.{label_at, AreGathered};
 
 use crate::group::Group;

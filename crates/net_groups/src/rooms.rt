@@ -1,6 +1,6 @@
 //! The conductors of a net, each with its room.
 
-ghost use Rattle.std.specs.Prelude.{◌≡◌, ◌≢◌, pos, Some, [], IfOk};
+ghost use Rattle.std.specs.Prelude.{◌≢◌, pos, Some, [], IfOk};
 ghost use Rattle.board_items.specs.Parts.{parts_of};
 ghost use Rattle.board_items.specs.Extents.{AreBoundsOf};
 ghost use Rattle.geo_seg.specs.Boxes.{FitsWithin};

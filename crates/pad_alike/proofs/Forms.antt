@@ -5,8 +5,8 @@ use Rattle.std.specs.List.{AllZip}
 use Rattle.exact_dec.specs.declared.DecError.{DecError}
 use Rattle.exact_dec.specs.Computed.{ratio_near_answer}
 use Rattle.sexpr_read.specs.Tree.{Forest, none, atom, list, Tree, leaf, branch, trees, parts, content}
-use Rattle.board_items.specs.declared.errors.BoardError.{BoardError}
-use Rattle.board_items.specs.declared.errors.BoardError.TheVariants.{BadNumber, PadShape, Arc, Ring}
+use Rattle.board_errors.specs.declared.errors.BoardError.{BoardError}
+use Rattle.board_errors.specs.declared.errors.BoardError.TheVariants.{BadNumber, PadShape, Arc, Ring}
 use Rattle.part_read.specs.declared.numbers.Spot.{Spot}
 use Rattle.part_read.specs.declared.figures.Figure.{Figure}
 use Rattle.part_read.specs.declared.figures.Figure.TheVariants.{Line, Rect, Circle, Outline}

@@ -1,7 +1,7 @@
 -- What was gathered, and what is still to come.
 use Rattle.std.proofs.Common.{◌≡◌, ◌∙◌, refl, ap, sym, List, ◌∷◌, ◌++◌, append_assoc, Result, Ok, Err}
 use Rattle.sexpr_read.specs.Tree.{Tree}
-use Rattle.board_items.specs.declared.errors.BoardError.{BoardError}
+use Rattle.board_errors.specs.declared.errors.BoardError.{BoardError}
 use Rattle.part_read.specs.declared.figures.Drawing.{Drawing}
 use Rattle.part_read.specs.Elements.{◌>>=◌}
 use Rattle.part_read.specs.Lists.{before}

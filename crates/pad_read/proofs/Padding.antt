@@ -17,7 +17,7 @@ use Rattle.part_read.specs.declared.numbers.Spot.{Spot}
 use Rattle.part_read.specs.declared.stances.Stance.{Stance}
 use Rattle.part_read.specs.declared.radii.Radius.{Radius}
 use Rattle.part_read.specs.declared.figures.Drawing.{Drawing}
-use Rattle.board_items.specs.declared.errors.BoardError.TheVariants.{OutOfBoard}
+use Rattle.board_errors.specs.declared.errors.BoardError.TheVariants.{OutOfBoard}
 use Rattle.part_read.specs.Elements.{needed, place, element, atom_of, in_needed}
 use Rattle.part_read.specs.LayersOf.{layers_named}
 use Rattle.part_read.specs.NetsOf.{net_of}

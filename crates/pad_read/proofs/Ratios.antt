@@ -6,7 +6,7 @@ use Rattle.exact_dec.specs.declared.DecError.TheVariants.{TooWide}
 use Rattle.exact_dec.specs.Reading.{is_long, is_far, is_no_half}
 use Rattle.exact_dec.specs.Decimal.{Parts, times, value}
 use Rattle.exact_dec.specs.Computed.{near, ratio_near_answer, answer_of, parts_of}
-use Rattle.board_items.specs.declared.errors.BoardError.{BoardError}
+use Rattle.board_errors.specs.declared.errors.BoardError.{BoardError}
 use Rattle.sexpr_read.specs.Tree.{Tree, content}
 use Rattle.part_read.specs.Elements.{◌>>=◌, needed}
 use Rattle.part_read.specs.Numbers.{read_as}

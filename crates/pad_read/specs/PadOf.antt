@@ -5,8 +5,8 @@ use Rattle.std.proofs.Common.{subst}
 use Rattle.sexpr_read.specs.Tree.{Tree}
 use Rattle.geo_seg.specs.declared.shapes.Shape.{Shape}
 use Rattle.drc_io.specs.Lengths.{IsLengthIfSome}
-use Rattle.board_items.specs.declared.errors.BoardError.{BoardError}
-use Rattle.board_items.specs.declared.errors.BoardError.TheVariants.{OutOfBoard}
+use Rattle.board_errors.specs.declared.errors.BoardError.{BoardError}
+use Rattle.board_errors.specs.declared.errors.BoardError.TheVariants.{OutOfBoard}
 use Rattle.copper_layers.specs.declared.set.LayerSet.{LayerSet}
 use Rattle.board_items.specs.declared.parts.Part.{Part}
 use Rattle.board_items.specs.declared.item.Hole.{Hole}

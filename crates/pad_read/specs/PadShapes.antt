@@ -5,8 +5,8 @@ use Rattle.sexpr_read.specs.Tree.{Tree, content}
 use Rattle.exact_dec.specs.Computed.{ratio_near_answer}
 use Rattle.geo_seg.specs.declared.points.Point.{Point}
 use Rattle.geo_seg.specs.declared.shapes.Shape.{Shape}
-use Rattle.board_items.specs.declared.errors.BoardError.{BoardError}
-use Rattle.board_items.specs.declared.errors.BoardError.TheVariants.{BadNumber}
+use Rattle.board_errors.specs.declared.errors.BoardError.{BoardError}
+use Rattle.board_errors.specs.declared.errors.BoardError.TheVariants.{BadNumber}
 use Rattle.part_read.specs.declared.numbers.Spot.{Spot}
 use Rattle.part_read.specs.Elements.{◌>>=◌, needed, place, element, atom_of}
 use Rattle.part_read.specs.Numbers.{read_as}

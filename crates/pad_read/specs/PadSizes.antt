@@ -2,7 +2,7 @@
 use Rattle.std.specs.Prelude.{ℤ, pos, ◌≤ℤ◌, ◌&&◌, Bool, codes, Option, None, Some, slice_get, int_le, Result, Ok, if◌then◌else◌}
 use Rattle.std.specs.Ordering.{int_eq}
 use Rattle.sexpr_read.specs.Tree.{Tree, parts, is_list}
-use Rattle.board_items.specs.declared.errors.BoardError.{BoardError}
+use Rattle.board_errors.specs.declared.errors.BoardError.{BoardError}
 use Rattle.part_read.specs.declared.numbers.Spot.{Spot}
 use Rattle.part_read.specs.Elements.{◌>>=◌, is_text, element, atom_of, in_needed}
 use Rattle.part_read.specs.Numbers.{size_in, spot_at}

@@ -3,7 +3,7 @@
 use Rattle.std.specs.Prelude.{ℕ, ℤ, pos, ◌/◌, ◌%◌, ◌==◌, unsigned_abs, codes, Option, None, Some, slice_get, Result, Ok, if◌then◌else◌}
 use Rattle.std.specs.Int.{int_rem_euclid}
 use Rattle.sexpr_read.specs.Tree.{Tree, parts, is_list}
-use Rattle.board_items.specs.declared.errors.BoardError.{BoardError}
+use Rattle.board_errors.specs.declared.errors.BoardError.{BoardError}
 use Rattle.part_read.specs.Elements.{◌>>=◌, element, atom_of, in_needed}
 use Rattle.part_read.specs.Numbers.{length_in, spot_at}
 use Rattle.pad_read.specs.declared.postures.Posture.{Posture}

@@ -1,9 +1,9 @@
 //! Custom pads.
 
-ghost use Rattle.std.specs.Prelude.{◌≡◌, ◌⊎◌, ◌++◌, ◌∷◌, [], OnOk, IfOk, All, option_map};
+ghost use Rattle.std.specs.Prelude.{◌≡◌, ◌++◌, ◌∷◌, [], OnOk, IfOk, All};
 ghost use Rattle.sexpr_read.specs.Tree.{parts};
-ghost use Rattle.sexpr_read.specs.Views.{tree_of, trees_left};
-ghost use Rattle.part_read.specs.Lists.{GivesItems, before};
+ghost use Rattle.sexpr_read.specs.Views.{tree_of};
+ghost use Rattle.part_read.specs.Lists.{GivesItems};
 ghost use Rattle.part_read.specs.Nodes.{Gives};
 ghost use Rattle.part_read.specs.Figures.{IsDrawable};
 ghost use Rattle.pad_read.specs.PadSizes.{AreRead};

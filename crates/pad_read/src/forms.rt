@@ -1,9 +1,8 @@
 //! The forms of pads.
 
-ghost use Rattle.std.specs.Prelude.{◌≡◌, [], All, IfOk};
+ghost use Rattle.std.specs.Prelude.{◌≡◌, [], IfOk};
 ghost use Rattle.sexpr_read.specs.Views.{tree_of};
 ghost use Rattle.part_read.specs.Nodes.{Gives};
-ghost use Rattle.part_read.specs.Figures.{IsDrawable};
 ghost use Rattle.pad_read.specs.PadSizes.{AreRead};
 ghost use Rattle.pad_read.specs.PadShapes.{IsSmall};
 ghost use Rattle.pad_read.specs.PadOf.{without_primitives, form_of};

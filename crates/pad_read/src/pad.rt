@@ -1,6 +1,6 @@
 //! Pads as items.
 
-ghost use Rattle.std.specs.Prelude.{◌≡◌, ◌<◌, true, codes, is_some, IfOk, IfSome, IsTrue};
+ghost use Rattle.std.specs.Prelude.{◌≡◌, ◌<◌, true, codes, is_some, IfOk, IsTrue};
 ghost use Rattle.sexpr_read.specs.Views.{tree_of};
 ghost use Rattle.board_items.specs.Boards.{name_of};
 ghost use Rattle.copper_layers.specs.Layers.{is_within};
@@ -14,7 +14,7 @@ ghost use Rattle.pad_read.specs.PadShapes.{IsSmall};
 ghost use Rattle.pad_read.specs.PadFrames.{IsFramed};
 ghost use Rattle.pad_read.specs.PadOf.{frame_copper, frame_hole, frame_fits, local_fits, pad_item, pad_with, placed, label_of, pad_of};
 ghost use Rattle.board_items.specs.declared.item.What.TheVariants.{Pad};
-ghost use Rattle.board_items.specs.declared.errors.BoardError.TheVariants.{OutOfBoard};
+ghost use Rattle.board_errors.specs.declared.errors.BoardError.TheVariants.{OutOfBoard};
 ghost use Rattle.part_read.specs.NetsOf.{net_of};
 
 use crate::copper::frame_copper;

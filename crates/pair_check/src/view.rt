@@ -1,7 +1,5 @@
 //! What is checked.
 
-ghost use Rattle.std.specs.Prelude.{◌≡◌};
-
 use board_items::Board;
 use cond_lang::Rule;
 use net_class::Classes;

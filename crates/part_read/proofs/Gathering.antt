@@ -1,8 +1,7 @@
 -- What was gathered, and what is still to come.
-use Rattle.std.proofs.Common.{◌≡◌, refl, List, [], ◌∷◌, ◌++◌, append_assoc, Option, None, Some}
+use Rattle.std.proofs.Common.{◌≡◌, refl, List, [], ◌∷◌, ◌++◌, Option, None, Some}
 use Rattle.geo_seg.specs.declared.points.Point.{Point}
 use Rattle.board_items.specs.declared.parts.Part.{Part}
-use Rattle.part_read.specs.Stances.{with_point}
 use Rattle.part_read.specs.Figures.{added}
 
 abbrev pub after_points : List Point → Option (List Point) → Option (List Point)

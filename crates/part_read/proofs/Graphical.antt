@@ -1,16 +1,16 @@
 -- The items of graphics and of notes may stand on the board.
-use Rattle.std.proofs.Common.{◌≡◌, ◌∙◌, refl, ap, sym, subst, ℕ, ◌≤◌, ◌<◌, ℤ, pos, arith, List, [], ◌∷◌, ◌++◌, length, map, All, Bool, true, false, ◌&&◌, cond, leb, not, is_some, IsTrue, Option, None, Some, Result, Ok, Err, codes}
+use Rattle.std.proofs.Common.{◌≡◌, refl, ap, sym, subst, ℕ, ◌≤◌, pos, arith, List, [], ◌∷◌, ◌++◌, length, map, All, Bool, true, false, ◌&&◌, cond, leb, not, is_some, IsTrue, Option, None, Some, Result, Ok, Err, codes}
 use Rattle.std.specs.List.{list_all}
 use Rattle.std.proofs.lemmas.Bool.{leb-true}
 use Rattle.std.proofs.lemmas.List.Elements.{All-nil, All-cons}
 use Rattle.sexpr_read.specs.Tree.{Tree, parts}
 use Rattle.geo_seg.specs.declared.points.Point.{Point}
 use Rattle.geo_seg.specs.declared.shapes.Core.{Core}
-use Rattle.board_items.specs.declared.errors.BoardError.{BoardError}
+use Rattle.board_errors.specs.declared.errors.BoardError.{BoardError}
 use Rattle.copper_layers.specs.declared.set.LayerSet.{LayerSet}
 use Rattle.board_items.specs.declared.parts.Part.{Part}
 use Rattle.board_items.specs.declared.item.About.{About}
-use Rattle.board_items.specs.declared.item.What.TheVariants.{Graphic, Edge, Note}
+use Rattle.board_items.specs.declared.item.What.TheVariants.{Graphic, Edge}
 use Rattle.board_items.specs.declared.item.Item.{Item}
 use Rattle.copper_layers.specs.Layers.{has_layer, is_within, single_layer}
 use Rattle.board_items.specs.Boards.{PlainBoard, name_of, is_admitted}
@@ -25,13 +25,13 @@ use Rattle.part_read.specs.declared.drawings.Kind.{Kind}
 use Rattle.part_read.specs.declared.drawings.Kind.TheVariants.{Line as LineKind, Rect as RectKind, Circle as CircleKind, Outline as OutlineKind}
 use Rattle.part_read.specs.declared.graphics.Ground.{Ground}
 use Rattle.part_read.specs.declared.graphics.Ground.TheVariants.{Copper, Outlines, Front, Back, Elsewhere}
-use Rattle.part_read.specs.Elements.{◌>>=◌, needed, check, place, element, atom_of, in_needed, name_among, name_in}
-use Rattle.board_items.specs.declared.errors.BoardError.TheVariants.{Missing, OutOfBoard, Ring}
+use Rattle.part_read.specs.Elements.{◌>>=◌, needed, check, place, element, atom_of, name_among, name_in}
+use Rattle.board_errors.specs.declared.errors.BoardError.TheVariants.{Missing, OutOfBoard, Ring}
 use Rattle.part_read.specs.OnBoard.{tested, is_length, fits_board, point_at}
 use Rattle.part_read.specs.NetsOf.{declared_in, net_among, net_of}
 use Rattle.part_read.specs.Numbers.{number_in, spot_of}
 use Rattle.part_read.specs.Stances.{stood, point_stood, with_point, points_stood}
-use Rattle.part_read.specs.Figures.{cores_between, cores_around, cores_of, around, radius_of, radius_with, parts_around, drawn, drawn_edge, first_of, first_spot, is_ring, is_circle}
+use Rattle.part_read.specs.Figures.{cores_between, cores_around, cores_of, around, parts_around, drawn, drawn_edge, first_of, first_spot, is_ring, is_circle}
 use Rattle.part_read.specs.Drawings.{spots_among, enough, corners_in, corners_of, width_of, fill_of, line_drawing, rect_drawing, circle_drawing, outline_drawing, drawing_of}
 use Rattle.part_read.specs.Grounds.{IsOn}
 use Rattle.part_read.specs.PlainItems.{plain_item}

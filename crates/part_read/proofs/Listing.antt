@@ -1,7 +1,6 @@
 -- What the parts of a list of layers give, case by case.
-use Rattle.std.proofs.Common.{◌≡◌, refl, ℕ, [], ◌∷◌, Option, None, Some, Result, Ok, Err, true, false, List}
+use Rattle.std.proofs.Common.{◌≡◌, refl, ℕ, [], ◌∷◌, None, Some, Ok, true, false}
 use Rattle.sexpr_read.specs.Tree.{Tree, is_list}
-use Rattle.board_items.specs.declared.errors.BoardError.{BoardError}
 use Rattle.copper_layers.specs.declared.set.LayerSet.{LayerSet}
 use Rattle.copper_layers.specs.Layers.{single_layer}
 use Rattle.part_read.specs.Elements.{atom_of}

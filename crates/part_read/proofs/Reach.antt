@@ -3,14 +3,14 @@ use Rattle.std.proofs.Common.{◌≡◌, ◌∙◌, refl, ap, sym, subst, ℕ, �
 use Rattle.std.specs.Prelude.{int_le}
 use Rattle.std.proofs.lemmas.Int.{ints}
 use Rattle.int_algebra.proofs.Tested.{le_by_test}
-use Rattle.board_items.specs.declared.errors.BoardError.TheVariants.{BadNumber as BadNumberAt}
+use Rattle.board_errors.specs.declared.errors.BoardError.TheVariants.{BadNumber as BadNumberAt}
 use Rattle.std.proofs.lemmas.Bool.{ltb-false}
 use Rattle.exact_dec.specs.declared.DecError.{DecError}
-use Rattle.exact_dec.specs.declared.DecError.TheVariants.{BadNumber, TooWide}
+use Rattle.exact_dec.specs.declared.DecError.TheVariants.{TooWide}
 use Rattle.exact_dec.specs.Reading.{is_long, is_far, no_more}
 use Rattle.exact_dec.specs.Decimal.{Parts, Fraction, cut, times, value}
 use Rattle.exact_dec.specs.Computed.{mm_cut_answer, answer_of, parts_of}
-use Rattle.board_items.specs.declared.errors.BoardError.{BoardError}
+use Rattle.board_errors.specs.declared.errors.BoardError.{BoardError}
 use Rattle.sexpr_read.specs.Tree.{Tree, content}
 use Rattle.part_read.specs.Elements.{◌>>=◌, needed, place, atom_of}
 use Rattle.part_read.specs.Numbers.{read_as, length_in, size_in, size_at, spot_at}

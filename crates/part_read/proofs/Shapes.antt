@@ -1,5 +1,5 @@
 -- Points and shapes are the same where their numbers and their cores are: what bounds them has one proof.
-use Rattle.std.proofs.Common.{◌≡◌, refl, ap, subst, sym, ◌∙◌, ℤ, pos, negsuc, neg_ℤ, ◌*ℤ◌, ◌≤ℤ◌, ◌≤◌, unsigned_abs, Bool, true, false, ◌&&◌, Option, None, Some, w64, arith}
+use Rattle.std.proofs.Common.{◌≡◌, refl, ap, subst, sym, ◌∙◌, ℤ, pos, negsuc, ◌*ℤ◌, ◌≤ℤ◌, ◌≤◌, unsigned_abs, Bool, true, false, None, Some, w64, arith}
 use Rattle.std.proofs.Math.Bridge.{le_prop}
 use Rattle.std.proofs.Math.Dec.{T_prop}
 use Rattle.std.proofs.Math.Facts.{to_z-of_z}
@@ -8,7 +8,6 @@ use Rattle.std.specs.Prelude.{FitsSigned}
 use Rattle.std.proofs.lemmas.Int.{ints}
 use Rattle.std.specs.Int.Signed.{le_z}
 use Rattle.geo_seg.specs.declared.points.Point.{Point}
-use Rattle.geo_seg.specs.declared.points.Seg.{Seg}
 use Rattle.geo_seg.specs.declared.shapes.Core.{Core}
 use Rattle.geo_seg.specs.declared.shapes.Core.TheVariants.{Line}
 use Rattle.geo_seg.specs.declared.shapes.Shape.{Shape}

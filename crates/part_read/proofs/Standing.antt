@@ -5,7 +5,7 @@ use Rattle.int_algebra.proofs.Scalars.{passed, passed_is}
 use Rattle.board_items.specs.Turns.{turned}
 use Rattle.part_read.specs.declared.numbers.Spot.{Spot}
 use Rattle.part_read.specs.declared.stances.Stance.{Stance}
-use Rattle.part_read.specs.Stances.{IsWithin, turned_spot, stood}
+use Rattle.part_read.specs.Stances.{IsWithin, stood}
 
 by_tests : (a b c : Bool) (x y : ℤ) (most : ℕ) → unsigned_abs x ≤ most → unsigned_abs y ≤ most
     → let t = cond {A = ℤ × ℤ} a (x, y) (cond b (y, neg_ℤ x) (cond c (neg_ℤ x, neg_ℤ y) (neg_ℤ y, x))) in (unsigned_abs t.0 ≤ most) × (unsigned_abs t.1 ≤ most)

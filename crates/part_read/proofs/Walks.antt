@@ -1,12 +1,12 @@
 -- The walk over the parts of a list: what is found so far, completed by what is left, is what all gives.
-use Rattle.std.proofs.Common.{◌≡◌, ◌∙◌, refl, sym, ap, subst, ℕ, zero, suc, ◌+◌, ◌<◌, ◌≤◌, arith, add-one, List, [], ◌∷◌, ◌++◌, length, take, drop, map, get_or, set, find, Option, None, Some, option_map, Bool, true, false, codes}
+use Rattle.std.proofs.Common.{◌≡◌, ◌∙◌, refl, sym, ap, subst, ℕ, zero, suc, ◌+◌, ◌<◌, arith, add-one, List, [], ◌∷◌, ◌++◌, length, take, drop, map, get_or, set, find, Option, None, Some, option_map, Bool, true, false}
 use Rattle.std.proofs.lemmas.List.{set-get_or, map-set, length-map, get_or_default}
 use Rattle.sexpr_read.specs.declared.view.Node.{Node}
 use Rattle.sexpr_read.specs.Tree.{Tree, parts}
 use Rattle.sexpr_read.specs.Views.{tree_of}
 use Rattle.part_read.specs.declared.elements.Wanted.{Wanted}
 use Rattle.part_read.specs.declared.elements.Wanted.TheVariants.{Head, Name}
-use Rattle.part_read.specs.Elements.{is_text, has_head, is_naming, element, naming}
+use Rattle.part_read.specs.Elements.{has_head, is_naming, element, naming}
 use Rattle.part_read.specs.Wanted.{found_in}
 use Rattle.part_read.specs.Walk.{is_wanted_first, is_new, noted_one, noted}
 

@@ -1,9 +1,9 @@
 -- What graphics draw, read from their lists: (HEAD (start X Y) (end X Y) (stroke (width W)) (fill F) ..) and its kin. The elements
 -- are looked at in the order in which they stand here.
-use Rattle.std.specs.Prelude.{ℕ, ◌≤◌, nat_le, length, ℤ, pos, Bool, true, false, ◌&&◌, ◌||◌, not, List, [], ◌∷◌, codes, Option, None, Some, Result, Ok, Err, if◌then◌else◌}
+use Rattle.std.specs.Prelude.{nat_le, length, ℤ, pos, Bool, true, false, ◌&&◌, ◌||◌, not, List, [], ◌∷◌, codes, Option, None, Some, Result, Ok, Err, if◌then◌else◌}
 use Rattle.sexpr_read.specs.Tree.{Tree, parts}
-use Rattle.board_items.specs.declared.errors.BoardError.{BoardError}
-use Rattle.board_items.specs.declared.errors.BoardError.TheVariants.{Missing, Arc}
+use Rattle.board_errors.specs.declared.errors.BoardError.{BoardError}
+use Rattle.board_errors.specs.declared.errors.BoardError.TheVariants.{Missing, Arc}
 use Rattle.part_read.specs.declared.numbers.Spot.{Spot}
 use Rattle.part_read.specs.declared.figures.Figure.TheVariants.{Line, Rect, Circle, Outline}
 use Rattle.part_read.specs.declared.figures.Drawing.{Drawing}

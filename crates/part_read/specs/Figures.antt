@@ -1,6 +1,6 @@
 -- Figures: what graphics draw, as plain numbers, and the parts of copper, the lines of an edge or the courtyards that they give
 -- where they lie on a board. Shapes count half nanometres, so half of a width is the width itself.
-use Rattle.std.specs.Prelude.{◌≡◌, ℕ, ◌≤◌, ℤ, pos, ◌+ℤ◌, ◌*ℤ◌, ◌≤ℤ◌, Bool, true, false, ◌||◌, List, [], ◌∷◌, ◌++◌, map, Option, None, Some, ⊤, refl, if◌then◌else◌}
+use Rattle.std.specs.Prelude.{◌≡◌, ◌≤◌, ℤ, pos, ◌+ℤ◌, ◌*ℤ◌, ◌≤ℤ◌, Bool, true, false, ◌||◌, List, [], ◌∷◌, ◌++◌, map, Option, None, Some, ⊤, refl, if◌then◌else◌}
 use Rattle.std.specs.Ordering.{int_eq}
 use Rattle.int_algebra.proofs.Tested.{le_by_test}
 use Rattle.geo_seg.specs.declared.points.Point.{Point}

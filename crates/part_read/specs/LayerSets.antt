@@ -1,6 +1,6 @@
 -- A set that stands for a list of sets: its layers are theirs.
 use Rattle.std.specs.Prelude.{◌≡◌, List, Result, Ok, Err}
-use Rattle.board_items.specs.declared.errors.BoardError.{BoardError}
+use Rattle.board_errors.specs.declared.errors.BoardError.{BoardError}
 use Rattle.copper_layers.specs.declared.set.LayerSet.{LayerSet}
 use Rattle.part_read.specs.LayersWhere.{layers_of_any}
 

@@ -5,8 +5,8 @@ use Rattle.std.specs.List.{position_from}
 use Rattle.sexpr_read.specs.Tree.{Tree, parts, is_list}
 use Rattle.sexpr_read.specs.Endings.{ends_in}
 use Rattle.copper_layers.specs.declared.set.LayerSet.{LayerSet}
-use Rattle.board_items.specs.declared.errors.BoardError.{BoardError}
-use Rattle.board_items.specs.declared.errors.BoardError.TheVariants.{UnknownLayer}
+use Rattle.board_errors.specs.declared.errors.BoardError.{BoardError}
+use Rattle.board_errors.specs.declared.errors.BoardError.TheVariants.{UnknownLayer}
 use Rattle.copper_layers.specs.Layers.{has_layer, layer_names, single_layer, layers_between}
 use Rattle.part_read.specs.Elements.{◌>>=◌, place, text_of, is_text, element, atom_of, in_needed}
 use Rattle.part_read.specs.LayersWhere.{layers_of_any}

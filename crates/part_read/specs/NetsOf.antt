@@ -1,8 +1,8 @@
 -- The net of an item.
 use Rattle.std.specs.Prelude.{ℕ, codes, Option, None, Some, is_some, Result, Ok, Err, if◌then◌else◌}
 use Rattle.sexpr_read.specs.Tree.{Tree}
-use Rattle.board_items.specs.declared.errors.BoardError.{BoardError}
-use Rattle.board_items.specs.declared.errors.BoardError.TheVariants.{UnknownNet}
+use Rattle.board_errors.specs.declared.errors.BoardError.{BoardError}
+use Rattle.board_errors.specs.declared.errors.BoardError.TheVariants.{UnknownNet}
 use Rattle.board_items.specs.Boards.{PlainBoard, name_of}
 use Rattle.part_read.specs.Elements.{◌>>=◌, place, element, atom_of}
 use Rattle.part_read.specs.Numbers.{number_in}

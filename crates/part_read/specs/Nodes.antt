@@ -3,8 +3,8 @@ use Rattle.std.specs.Prelude.{◌≡◌, ◌⊎◌, Result, Ok, Err}
 use Rattle.sexpr_read.specs.declared.view.Node.{Node}
 use Rattle.sexpr_read.specs.Tree.{Tree}
 use Rattle.sexpr_read.specs.Views.{tree_of}
-use Rattle.board_items.specs.declared.errors.BoardError.{BoardError}
-use Rattle.board_items.specs.declared.errors.BoardError.TheVariants.{OutOfMemory}
+use Rattle.board_errors.specs.declared.errors.BoardError.{BoardError}
+use Rattle.board_errors.specs.declared.errors.BoardError.TheVariants.{OutOfMemory}
 
 -- the tree of a node that was found
 abbrev pub tree_in : Result Node BoardError → Result Tree BoardError

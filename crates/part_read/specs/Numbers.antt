@@ -1,10 +1,10 @@
 -- The numbers of a board, read from atoms as they stand in the text. Lengths are whole nanometres, what is finer cut off.
-use Rattle.std.specs.Prelude.{ℕ, ℤ, pos, int_le, List, Option, Result, Ok, Err, if◌then◌else◌}
+use Rattle.std.specs.Prelude.{ℕ, ℤ, pos, int_le, List, Result, Ok, Err, if◌then◌else◌}
 use Rattle.sexpr_read.specs.Tree.{Tree, content}
 use Rattle.exact_dec.specs.Computed.{mm_cut_answer, count_answer}
 use Rattle.exact_dec.specs.declared.DecError.{DecError}
-use Rattle.board_items.specs.declared.errors.BoardError.{BoardError}
-use Rattle.board_items.specs.declared.errors.BoardError.TheVariants.{BadNumber}
+use Rattle.board_errors.specs.declared.errors.BoardError.{BoardError}
+use Rattle.board_errors.specs.declared.errors.BoardError.TheVariants.{BadNumber}
 use Rattle.part_read.specs.declared.numbers.Spot.{Spot}
 use Rattle.part_read.specs.Elements.{◌>>=◌, needed, place, element, atom_of, in_needed}
 

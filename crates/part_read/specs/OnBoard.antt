@@ -1,7 +1,7 @@
 -- Points and shapes, from numbers in nanometres. Those that lie off the board are plain numbers too, and are tested last; a point
 -- and a shape are made where the test holds. They count half nanometres, so a coordinate is doubled, and half of a width is the
 -- width itself.
-use Rattle.std.specs.Prelude.{◌≡◌, ℤ, pos, neg_ℤ, ◌*ℤ◌, ◌≤◌, unsigned_abs, Bool, true, false, ◌&&◌, List, Option, None, Some, refl}
+use Rattle.std.specs.Prelude.{◌≡◌, ℤ, pos, ◌*ℤ◌, ◌≤◌, unsigned_abs, Bool, true, false, ◌&&◌, Option, None, Some, refl}
 use Rattle.std.specs.Int.Signed.{le_z}
 use Rattle.geo_seg.specs.declared.points.Point.{Point}
 use Rattle.geo_seg.specs.declared.shapes.Core.{Core}

@@ -1,5 +1,5 @@
 -- What is looked for among the parts of a list, and what is found.
-use Rattle.std.specs.Prelude.{List, Option}
+use Rattle.std.specs.Prelude.{Option}
 use Rattle.sexpr_read.specs.Tree.{Tree}
 use Rattle.part_read.specs.declared.elements.Wanted.{Wanted}
 use Rattle.part_read.specs.declared.elements.Wanted.TheVariants.{Head, Name}

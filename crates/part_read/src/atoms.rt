@@ -1,7 +1,7 @@
 //! Lists by their heads, and the atoms in them.
 
 ghost use Rattle.std.specs.Prelude.{◌≡◌};
-ghost use Rattle.sexpr_read.specs.Views.{tree_of, trees_left};
+ghost use Rattle.sexpr_read.specs.Views.{tree_of};
 ghost use Rattle.part_read.specs.Elements.{place, has_head, has_word, atom_of};
 ghost use Rattle.part_read.specs.Nodes.{tree_in};
 

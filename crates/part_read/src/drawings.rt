@@ -1,15 +1,15 @@
 //! What graphics draw, read from their lists.
 
-ghost use Rattle.std.specs.Prelude.{◌≡◌, ◌≤◌, ◌≤ℤ◌, pos, codes, option_map, ◌++◌, ◌∷◌, [], IfOk, OnOk, All};
-ghost use Rattle.sexpr_read.specs.Views.{tree_of, trees_left};
+ghost use Rattle.std.specs.Prelude.{◌≡◌, ◌≤◌, ◌≤ℤ◌, pos, option_map, ◌++◌, ◌∷◌, [], IfOk, OnOk, All};
+ghost use Rattle.sexpr_read.specs.Views.{tree_of};
 ghost use Rattle.part_read.specs.Elements.{element, in_needed};
-ghost use Rattle.part_read.specs.Numbers.{spot_at, size_at, length_in};
+ghost use Rattle.part_read.specs.Numbers.{spot_at, size_at};
 ghost use Rattle.part_read.specs.Nodes.{Gives};
-ghost use Rattle.part_read.specs.Lists.{GivesItems, before};
+ghost use Rattle.part_read.specs.Lists.{GivesItems};
 ghost use Rattle.sexpr_read.specs.Tree.{parts};
 ghost use Rattle.part_read.specs.Stances.{IsWithin};
 ghost use Rattle.part_read.specs.Figures.{IsDrawable};
-ghost use Rattle.part_read.specs.Drawings.{spots_among, corners_in, corners_of, stroke_width, width_among, width_of, filled_by, fill_among, fill_of, line_drawing, rect_drawing, circle_drawing, outline_drawing, drawing_of};
+ghost use Rattle.part_read.specs.Drawings.{spots_among, corners_in, corners_of, stroke_width, width_among, width_of, filled_by, fill_of, line_drawing, rect_drawing, circle_drawing, outline_drawing, drawing_of};
 
 use crate::atoms::{first_atom, has_head, missing, place};
 use crate::circles::radius_between;

@@ -1,7 +1,7 @@
 //! The elements of a list, found in one walk over its parts.
 
-ghost use Rattle.std.specs.Prelude.{◌≡◌, ◌<◌, ◌≤◌, length, EachIndex, slice_index_or, None, map, option_map};
-ghost use Rattle.sexpr_read.specs.Views.{tree_of, trees_left};
+ghost use Rattle.std.specs.Prelude.{◌≡◌, ◌<◌, length, EachIndex, slice_index_or, None, map, option_map};
+ghost use Rattle.sexpr_read.specs.Views.{tree_of};
 ghost use Rattle.part_read.specs.Wanted.{found_in};
 ghost use Rattle.part_read.specs.Walk.{is_wanted_first, is_new, noted};
 

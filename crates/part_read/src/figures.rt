@@ -1,11 +1,11 @@
 //! What graphics draw, and the parts that they give where they lie on a board.
 
-ghost use Rattle.std.specs.Prelude.{◌≡◌, ◌<◌, ◌≤◌, ◌≤ℤ◌, pos, ◌∷◌, ◌++◌, [], true, OnOk, Some, None, if◌then◌else◌, length, option_map, IfOk};
+ghost use Rattle.std.specs.Prelude.{◌≡◌, ◌<◌, ◌≤◌, pos, ◌∷◌, ◌++◌, [], true, OnOk, Some, None, if◌then◌else◌, length, option_map, IfOk};
 ghost use Rattle.part_read.specs.OnBoard.{is_length};
-ghost use Rattle.part_read.specs.Stances.{IsWithin, stood};
+ghost use Rattle.part_read.specs.Stances.{IsWithin};
 ghost use Rattle.part_read.specs.declared.figures.Figure.{Figure};
 ghost use Rattle.part_read.specs.declared.figures.Drawing.{Drawing};
-ghost use Rattle.part_read.specs.Figures.{sides, sides_from, box_corners, box_core, line_cores, cores_between, line_between, box_between, cores_around, cores_of, around, parts_around, radius_with, added, drawn, drawn_edge, first_spot, is_ring, is_circle, HasReach, IsDrawable};
+ghost use Rattle.part_read.specs.Figures.{sides, box_corners, box_core, line_cores, cores_between, line_between, box_between, cores_around, cores_of, around, parts_around, radius_with, added, drawn, drawn_edge, first_spot, is_ring, is_circle, HasReach, IsDrawable};
 
 use crate::corners::Corners;
 use crate::numbers::Spot;

@@ -1,9 +1,6 @@
 //! Graphics and texts of boards and of footprints.
 
-ghost use Rattle.std.specs.Prelude.{◌≡◌, ◌<◌, ◌∷◌, [], ℕ, true, false, Some, is_some, IfOk, IfSome, IsTrue, OnOk, All, codes, option_map};
-ghost use Rattle.std.specs.List.{list_all};
-ghost use Rattle.board_items.specs.Boards.{name_of, is_admitted};
-ghost use Rattle.copper_layers.specs.Layers.{has_layer};
+ghost use Rattle.std.specs.Prelude.{◌≡◌, ◌<◌, ◌∷◌, [], false, Some, IfOk, All, codes, option_map};
 ghost use Rattle.board_items.specs.declared.item.Item.{Item};
 ghost use Rattle.sexpr_read.specs.Views.{tree_of};
 ghost use Rattle.part_read.specs.Nodes.{Gives};

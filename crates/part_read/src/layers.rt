@@ -2,8 +2,7 @@
 
 ghost use Rattle.std.specs.Prelude.{◌≡◌, ◌<◌, IfOk, IfSome, IsTrue, option_map};
 ghost use Rattle.copper_layers.specs.Layers.{has_layer, is_within};
-ghost use Rattle.sexpr_read.specs.Tree.{parts};
-ghost use Rattle.sexpr_read.specs.Views.{tree_of, trees_left};
+ghost use Rattle.sexpr_read.specs.Views.{tree_of};
 ghost use Rattle.part_read.specs.Elements.{in_needed};
 ghost use Rattle.part_read.specs.LayersOf.{layer_number, listed, layers_listed, layer_in, copper_in, layer_at, layers_through, layer_if, outer_of, named, layers_named, drawn_on};
 ghost use Rattle.part_read.specs.LayersWhere.{layers_of_any};

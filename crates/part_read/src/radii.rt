@@ -1,6 +1,6 @@
 //! Radii of shapes.
 
-ghost use Rattle.std.specs.Prelude.{◌≡◌, ◌≤ℤ◌, pos};
+ghost use Rattle.std.specs.Prelude.{◌≤ℤ◌, pos};
 
 use board_items::Nm;
 

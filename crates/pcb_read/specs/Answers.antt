@@ -1,8 +1,8 @@
 -- Calls whose answer is one of those that a relation has.
 use Rattle.std.specs.Prelude.{◌≡◌, ◌⊎◌, List, Vec, Result, Ok, Err}
 use Rattle.std.specs.declared.alloc.Global.{Global}
-use Rattle.board_items.specs.declared.errors.BoardError.{BoardError}
-use Rattle.board_items.specs.declared.errors.BoardError.TheVariants.{OutOfMemory}
+use Rattle.board_errors.specs.declared.errors.BoardError.{BoardError}
+use Rattle.board_errors.specs.declared.errors.BoardError.TheVariants.{OutOfMemory}
 
 -- the call gives a vector of such a list, or such a refusal, unless memory ran out
 abbrev pub GivesSome : {A : Type 0} → Result (Vec A Global) BoardError → (Result (List A) BoardError → Type 0) → Type 0

@@ -4,8 +4,8 @@ use Rattle.sexpr_read.specs.declared.place.TextError.{TextError}
 use Rattle.sexpr_read.specs.Tree.{Tree}
 use Rattle.sexpr_read.specs.Spelling.{Spells}
 use Rattle.sexpr_read.specs.Refusals.{refusal_of_one}
-use Rattle.board_items.specs.declared.errors.BoardError.{BoardError}
-use Rattle.board_items.specs.declared.errors.BoardError.TheVariants.{Text}
+use Rattle.board_errors.specs.declared.errors.BoardError.{BoardError}
+use Rattle.board_errors.specs.declared.errors.BoardError.TheVariants.{Text}
 use Rattle.board_items.specs.Boards.{PlainBoard}
 use Rattle.pcb_read.specs.BoardOf.{SaysBoard}
 

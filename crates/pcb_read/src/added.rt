@@ -1,10 +1,10 @@
 //! Lists that are added to a board, read from their own text.
 
 ghost use Rattle.std.specs.Prelude.{◌≡◌, ◌≤◌, ◌⊎◌, List, length, MatchResult, IfOk, IfErr, Result, Ok, Err};
-ghost use Rattle.board_items.specs.declared.errors.BoardError.{BoardError};
+ghost use Rattle.board_errors.specs.declared.errors.BoardError.{BoardError};
 ghost use Rattle.board_items.specs.declared.item.Item.{Item};
 ghost use Rattle.sexpr_read.specs.Tree.{parts};
-ghost use Rattle.sexpr_read.specs.Views.{tree_of, trees_left};
+ghost use Rattle.sexpr_read.specs.Views.{tree_of};
 ghost use Rattle.part_read.specs.Elements.{place};
 ghost use Rattle.part_read.specs.Nodes.{tree_in};
 ghost use Rattle.part_read.specs.Ready.{AreReady};

@@ -1,6 +1,6 @@
 //! Tracks and vias as items.
 
-ghost use Rattle.std.specs.Prelude.{◌≡◌, ℤ, true, is_some, IfSome, IsTrue};
+ghost use Rattle.std.specs.Prelude.{◌≡◌, true, is_some, IfSome, IsTrue};
 ghost use Rattle.copper_layers.specs.Layers.{is_within};
 ghost use Rattle.board_items.specs.Boards.{PlainBoard, name_of, is_admitted};
 ghost use Rattle.part_read.specs.OnBoard.{tested};

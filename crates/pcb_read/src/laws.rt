@@ -1,7 +1,7 @@
 //! Laws of what texts say. The functions do nothing: each clause holds for all texts.
 
 ghost use Rattle.std.specs.Prelude.{◌≡◌, ℕ, List, Result};
-ghost use Rattle.board_items.specs.declared.errors.BoardError.{BoardError};
+ghost use Rattle.board_errors.specs.declared.errors.BoardError.{BoardError};
 ghost use Rattle.board_items.specs.Boards.{PlainBoard};
 ghost use Rattle.board_items.specs.declared.item.Item.{Item};
 ghost use Rattle.pcb_read.specs.BoardText.{Says};

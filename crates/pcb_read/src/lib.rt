@@ -4,8 +4,8 @@
 //! whole nanometres on the board, what is finer cut off.
 #![tactic(auto)]
 
-ghost use Rattle.std.specs.Prelude.{◌≡◌, ◌≤◌, ◌⊎◌, ℕ, List, length, MatchResult, IfOk, Result, Ok, Err};
-ghost use Rattle.board_items.specs.declared.errors.BoardError.{BoardError};
+ghost use Rattle.std.specs.Prelude.{◌≡◌, ◌≤◌, ◌⊎◌, length, MatchResult, IfOk, Result, Ok, Err};
+ghost use Rattle.board_errors.specs.declared.errors.BoardError.{BoardError};
 ghost use Rattle.board_items.specs.Boards.{PlainBoard};
 ghost use Rattle.pcb_read.specs.BoardText.{Says};
 ghost use Rattle.sexpr_read.specs.Views.{root_of};

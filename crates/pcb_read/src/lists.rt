@@ -1,9 +1,9 @@
 //! The items of a list of a board, by its sort.
 
-ghost use Rattle.std.specs.Prelude.{◌≡◌, ◌∷◌, [], true, All, IfOk, Result, Ok};
+ghost use Rattle.std.specs.Prelude.{◌≡◌, ◌∷◌, [], All, IfOk, Result, Ok};
 ghost use Rattle.board_items.specs.Boards.{IsSound};
 ghost use Rattle.sexpr_read.specs.Views.{tree_of};
-ghost use Rattle.board_items.specs.declared.errors.BoardError.{BoardError};
+ghost use Rattle.board_errors.specs.declared.errors.BoardError.{BoardError};
 ghost use Rattle.board_items.specs.declared.item.Item.{Item};
 ghost use Rattle.part_read.specs.Nodes.{Gives};
 ghost use Rattle.part_read.specs.Lists.{GivesItems};

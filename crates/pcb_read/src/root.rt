@@ -1,12 +1,12 @@
 //! The root of a board's text, part by part.
 
 ghost use Rattle.std.specs.Prelude.{◌≡◌, ◌≤◌, ◌++◌, ◌∷◌, [], suc, List, length, option_map, find, false, OnOk, IfOk};
-ghost use Rattle.sexpr_read.specs.Tree.{Tree, parts, is_list};
-ghost use Rattle.sexpr_read.specs.Views.{tree_of, trees_left};
+ghost use Rattle.sexpr_read.specs.Tree.{parts, is_list};
+ghost use Rattle.sexpr_read.specs.Views.{tree_of};
 ghost use Rattle.part_read.specs.Nodes.{Leaves};
 ghost use Rattle.sexpr_read.specs.declared.place.Span.{Span};
 ghost use Rattle.pcb_read.specs.Answers.{LeavesSome};
-ghost use Rattle.pcb_read.specs.BoardOf.{Reading, with_layers, with_other, SaysWith, SaysPart, SaysParts, version_in, header_in, unread, SaysBoard};
+ghost use Rattle.pcb_read.specs.BoardOf.{with_layers, with_other, SaysWith, SaysPart, SaysParts, version_in, header_in, SaysBoard};
 ghost use Rattle.pcb_read.specs.Spans.{with_span, SaysSpans, AreSpans, GivesBoardWith};
 
 use crate::adding::add_items;

@@ -7,8 +7,8 @@ use Rattle.exact_dec.specs.Computed.{mm_cut_answer, count_answer}
 use Rattle.sexpr_read.specs.declared.place.Span.{Span}
 use Rattle.sexpr_read.specs.Tree.{Forest, Tree, branch, trees, content}
 use Rattle.sexpr_read.specs.Endings.{ends_in}
-use Rattle.board_items.specs.declared.errors.BoardError.{BoardError}
-use Rattle.board_items.specs.declared.errors.BoardError.TheVariants.{BadNumber, UnknownNet, UnknownLayer}
+use Rattle.board_errors.specs.declared.errors.BoardError.{BoardError}
+use Rattle.board_errors.specs.declared.errors.BoardError.TheVariants.{BadNumber, UnknownNet, UnknownLayer}
 use Rattle.copper_layers.specs.declared.set.LayerSet.{LayerSet}
 use Rattle.board_items.specs.Boards.{PlainBoard, name_of}
 use Rattle.copper_layers.specs.Layers.{has_layer, layer_names}

@@ -5,8 +5,8 @@ use Rattle.exact_dec.specs.Computed.{mm_cut_answer}
 use Rattle.exact_dec.specs.Reading.{is_far}
 use Rattle.sexpr_read.specs.declared.place.Span.{Span}
 use Rattle.sexpr_read.specs.Tree.{Forest, none, atom, list, Tree, leaf, branch, trees, value}
-use Rattle.board_items.specs.declared.errors.BoardError.{BoardError}
-use Rattle.board_items.specs.declared.errors.BoardError.TheVariants.{Missing, BadNumber}
+use Rattle.board_errors.specs.declared.errors.BoardError.{BoardError}
+use Rattle.board_errors.specs.declared.errors.BoardError.TheVariants.{Missing, BadNumber}
 use Rattle.part_read.specs.declared.numbers.Spot.{Spot}
 use Rattle.part_read.specs.Elements.{◌>>=◌, place, first_is, has_head, atom_of}
 use Rattle.part_read.specs.Numbers.{read_as, length_in, spot_at, spot_of}

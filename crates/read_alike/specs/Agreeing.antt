@@ -1,7 +1,7 @@
 -- Answers that agree.
 use Rattle.std.specs.Prelude.{◌≡◌, Bool, true, Option, None, Some, Result, Ok, Err, ⊤}
 use Rattle.sexpr_read.specs.Tree.{Forest, none, Tree, leaf, branch}
-use Rattle.board_items.specs.declared.errors.BoardError.{BoardError}
+use Rattle.board_errors.specs.declared.errors.BoardError.{BoardError}
 use Rattle.read_alike.specs.Alike.{Shift, Alike, AlikeTrees}
 
 -- where the one is accepted, so is the other, and what they give is so related

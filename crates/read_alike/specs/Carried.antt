@@ -1,7 +1,7 @@
 -- Items that are carried to another place and another unit.
 use Rattle.std.specs.Prelude.{◌≡◌, ℕ, pos, ◌+ℤ◌, ◌*ℤ◌, true, false, List, [], ◌∷◌, map, MatchBool, Option, None, Some, Result, Ok, Err, ⊤}
 use Rattle.std.specs.List.{AllZip}
-use Rattle.board_items.specs.declared.errors.BoardError.{BoardError}
+use Rattle.board_errors.specs.declared.errors.BoardError.{BoardError}
 use Rattle.board_items.specs.declared.item.Item.{Item}
 use Rattle.board_items.specs.Moves.{AreShifted, HoleIsShifted, KindIsShifted, is_note}
 use Rattle.board_items.specs.Boards.{is_on_board}

@@ -1,11 +1,10 @@
 //! What conditions say.
 
-ghost use Rattle.std.specs.Prelude.{◌≡◌, map, false};
+ghost use Rattle.std.specs.Prelude.{◌≡◌, false};
 ghost use Rattle.std.specs.Option.{option_copied};
-ghost use Rattle.std.specs.List.{list_any};
 ghost use Rattle.net_class.specs.Wild.{matches};
 ghost use Rattle.copper_layers.specs.Layers.{layer_names};
-ghost use Rattle.cond_lang.specs.Trees.{tree_of, trees_of};
+ghost use Rattle.cond_lang.specs.Trees.{tree_of};
 ghost use Rattle.rule_pick.specs.Meaning.{do_agree, compare_texts, compare_lengths, compare_values, compares, some_layer, exists_on_layer, some_name, answer, answers, holds};
 ghost use Rattle.rule_pick.specs.Shown.{shown};
 

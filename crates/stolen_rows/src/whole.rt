@@ -1,6 +1,6 @@
 //! All rows of a board.
 
-ghost use Rattle.std.specs.Prelude.{◌≡◌, ◌<◌, ◌≤◌, IfOk};
+ghost use Rattle.std.specs.Prelude.{◌<◌, ◌≤◌, IfOk};
 ghost use Rattle.pair_check.specs.Views.{checked_by, IsWhole};
 ghost use Rattle.pair_check.specs.Rows.{AreRows};
 ghost use Rattle.row_check.specs.Tiles.{IsIndexOf};

@@ -1,7 +1,6 @@
 //! Laws of the past. The functions do nothing: each clause holds for all states and steps.
 
-ghost use Rattle.std.specs.Prelude.{◌≡◌, ◌≤◌, ℕ, true, false, List, [], ◌∷◌, filter, nat_eq, Result, Ok};
-ghost use Rattle.board_items.specs.declared.item.Item.{Item};
+ghost use Rattle.std.specs.Prelude.{◌≡◌, ◌≤◌, ℕ, true, false, List, [], ◌∷◌, Result, Ok};
 ghost use Rattle.board_items.specs.Back.{IsPutBack, entries_of};
 ghost use Rattle.board_items.specs.Boards.{PlainBoard, Rise};
 ghost use Rattle.board_items.specs.Units.{without_unit};

@@ -1,6 +1,6 @@
 //! Steps of a history.
 
-ghost use Rattle.std.specs.Prelude.{◌≡◌, ◌<◌, ◌≤◌, ℕ, IfOk, IfErr};
+ghost use Rattle.std.specs.Prelude.{◌<◌, ◌≤◌, ℕ, IfOk, IfErr};
 ghost use Rattle.edit_script.specs.Commands.{plain_command, edit, undo, redo};
 ghost use Rattle.edit_script.specs.Fits.{Fits};
 ghost use Rattle.drc_session.specs.Sessions.{IsDealt};

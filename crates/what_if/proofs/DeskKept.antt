@@ -1,9 +1,8 @@
 -- The copy of a desk, where it is kept.
-use Rattle.std.proofs.Common.{◌≡◌, ◌≢◌, refl, sym, ap, subst, ◌∙◌, true≢false, true, false, Option, Some, Result, Ok, Err, is_ok, IfOk}
+use Rattle.std.proofs.Common.{◌≡◌, ◌≢◌, refl, sym, ap, ◌∙◌, true≢false, true, false, Some, Result, Ok, Err, is_ok, IfOk}
 use Rattle.edit_script.specs.Commands.{PlainCommand}
 use Rattle.drc_state.specs.declared.error.EditError.{EditError}
 use Rattle.drc_state.specs.declared.error.EditError.TheVariants.{NoSuchItem, SharedName, PartOfFootprint, Item, Rules, Stopped, OutOfMemory as NoMemory}
-use Rattle.drc_state.specs.States.{State}
 use Rattle.drc_session.specs.Sessions.{PlainSession, IsRefusedBy}
 use Rattle.what_if.specs.Desks.{IsDesk}
 

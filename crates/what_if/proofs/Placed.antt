@@ -2,7 +2,7 @@
 use Rattle.std.proofs.Common.{◌≡◌, ℕ, zero, suc, ◌<◌, List, [], ◌∷◌, length, get_or, map, Some, sym, ap, arith}
 use Rattle.std.specs.List.{slice_get}
 use Rattle.edit_script.specs.declared.command.Command.{Command}
-use Rattle.edit_script.specs.Commands.{PlainCommand, plain_command}
+use Rattle.edit_script.specs.Commands.{plain_command}
 
 pub stands_at : (commands : List Command) (i : ℕ) (command : Command) → i < length commands → command ≡ get_or commands i command → slice_get (map plain_command commands) i ≡ Some (plain_command command)
 stands_at [] i command lt is = absurd (omega arith)

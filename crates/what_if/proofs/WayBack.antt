@@ -1,8 +1,8 @@
 -- A command that adds no list is turned back.
 use Rattle.std.proofs.Common.{◌≡◌, refl, sym, ap, subst, ◌∙◌, true≢false, ℕ, ℤ, Bool, true, false, Result, Ok, Err, if◌then◌else◌}
-use Rattle.board_items.specs.declared.errors.BoardError.TheVariants.{OutOfBoard}
-use Rattle.board_items.specs.declared.errors.Found.{Found}
-use Rattle.board_items.specs.declared.errors.Found.TheVariants.{None as NoUnit, Shared, Inside, Unit as OneUnit}
+use Rattle.board_errors.specs.declared.errors.BoardError.TheVariants.{OutOfBoard}
+use Rattle.board_items.specs.declared.found.Found.{Found}
+use Rattle.board_items.specs.declared.found.Found.TheVariants.{None as NoUnit, Shared, Inside, Unit as OneUnit}
 use Rattle.board_items.specs.Boards.{PlainBoard}
 use Rattle.board_items.specs.Moves.{unit_stays}
 use Rattle.board_items.specs.Units.{found_of}

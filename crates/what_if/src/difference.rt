@@ -1,6 +1,6 @@
 //! Rows that stand in one list and not in another. Both lists are in the order of rows, so each is gone through once.
 
-ghost use Rattle.std.specs.Prelude.{◌≡◌, ◌≢◌, ◌↔◌, ◌++◌, ◌∷◌, [], ◌<◌, ◌≤◌, ℕ, IsTrue, Some, MatchBool, OnOk, IfOk, length, take, slice_get, slice_index_or};
+ghost use Rattle.std.specs.Prelude.{◌≡◌, ◌≢◌, ◌↔◌, ◌++◌, ◌∷◌, [], ◌<◌, ◌≤◌, ℕ, IsTrue, Some, MatchBool, OnOk, IfOk, length, slice_get, slice_index_or};
 ghost use Rattle.std.specs.List.{AllPairs};
 ghost use Rattle.pair_check.specs.PlainRow.{PlainRow};
 ghost use Rattle.pair_check.specs.Rows.{Before};

@@ -1,6 +1,6 @@
 //! The counts of runs, in the order of the commands.
 
-ghost use Rattle.std.specs.Prelude.{◌≡◌, ◌<◌, ◌≤◌, IfOk, length, map};
+ghost use Rattle.std.specs.Prelude.{◌<◌, IfOk, length, map};
 ghost use Rattle.edit_script.specs.Commands.{plain_command};
 ghost use Rattle.tile_pool.specs.Answers.{AreAnswers};
 ghost use Rattle.what_if.specs.Trials.{IsCountAt};

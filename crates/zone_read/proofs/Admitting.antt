@@ -1,6 +1,5 @@
 -- The items of a zone may stand on the board.
-use Rattle.std.proofs.Common.{◌≡◌, ◌∙◌, refl, ap, sym, subst, ℕ, ◌≤◌, ℤ, pos, ◌+ℤ◌, arith, List, [], ◌∷◌, length, Bool, true, false, ◌&&◌, is_some, IsTrue, Option, None, Some}
-use Rattle.std.specs.List.{list_all}
+use Rattle.std.proofs.Common.{◌≡◌, ◌∙◌, refl, ap, sym, ℕ, ◌≤◌, ℤ, pos, ◌+ℤ◌, arith, List, [], ◌∷◌, length, Bool, true, false, ◌&&◌, is_some, IsTrue, Option, None, Some}
 use Rattle.std.proofs.lemmas.Int.{ints}
 use Rattle.geo_seg.specs.declared.points.Point.{Point}
 use Rattle.geo_seg.specs.declared.shapes.Shape.{Shape}
@@ -16,7 +15,7 @@ use Rattle.part_read.specs.OnBoard.{tested, fits_board, point_at}
 use Rattle.part_read.specs.Stances.{stood, with_point, points_stood}
 use Rattle.part_read.specs.Figures.{first_of}
 use Rattle.part_read.specs.PlainItems.{plain_item}
-use Rattle.std.proofs.Common.{◌<◌, ◌++◌, All, ltb, length-append}
+use Rattle.std.proofs.Common.{◌<◌, ◌++◌, ltb, length-append}
 use Rattle.std.proofs.lemmas.Bool.{ltb-true}
 use Rattle.std.proofs.lemmas.List.Elements.{All-nil, All-cons, All-append}
 use Rattle.board_items.specs.declared.item.Item.{Item}

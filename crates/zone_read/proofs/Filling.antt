@@ -1,7 +1,7 @@
 -- One fill more among those of a zone.
-use Rattle.std.proofs.Common.{◌≡◌, ◌∙◌, refl, ap, sym, ℕ, suc, List, [], ◌∷◌, ◌++◌, length, append_assoc, length-append, arith, Option, None, Some, Result, Ok, Err, Bool, true, false, codes}
+use Rattle.std.proofs.Common.{◌≡◌, ◌∙◌, refl, ap, sym, ℕ, suc, List, [], ◌∷◌, ◌++◌, length, append_assoc, length-append, arith, Some, Result, Ok, Err, true, codes}
 use Rattle.sexpr_read.specs.Tree.{Tree}
-use Rattle.board_items.specs.declared.errors.BoardError.{BoardError}
+use Rattle.board_errors.specs.declared.errors.BoardError.{BoardError}
 use Rattle.board_items.specs.declared.item.Item.{Item}
 use Rattle.board_items.specs.Boards.{PlainBoard}
 use Rattle.part_read.specs.Elements.{◌>>=◌, has_head}
@@ -14,7 +14,7 @@ use Rattle.part_read.specs.declared.numbers.Spot.{Spot}
 use Rattle.part_read.specs.Elements.{name_in}
 use Rattle.part_read.specs.Figures.{first_of}
 use Rattle.part_read.specs.PlainItems.{plain_item}
-use Rattle.zone_read.specs.ZoneOf.{fill_layer, fill_in_room, with_fill, fills_after, bans_in, polygon_of, area_in_room, rule_area}
+use Rattle.zone_read.specs.ZoneOf.{fill_layer, fill_in_room, fills_after, bans_in, polygon_of, area_in_room, rule_area}
 
 before_one : (old : List Item) (fill : Item) (r : Result (List Item) BoardError) → before old (r >>= λ fills. Ok (fill ∷ fills)) ≡ before (old ++ fill ∷ []) r
 before_one old fill (Ok fills) = ap (λ (items : List Item). Ok items) (sym (append_assoc old (fill ∷ []) fills))

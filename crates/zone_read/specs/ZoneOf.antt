@@ -1,14 +1,13 @@
 -- Zones: the items that (zone (net N) (layer NAME) (name TEXT) ..) gives. With `keepout` it is a rule area, by its polygon; else each
 -- filled polygon on copper is a fill. The elements are looked at in this order.
-use Rattle.std.specs.Prelude.{ℕ, suc, nat_lt, nat_eq, ℤ, pos, Bool, true, false, ◌&&◌, List, [], ◌∷◌, codes, Option, None, Some, Result, Ok, Err, refl, if◌then◌else◌}
-use Rattle.sexpr_read.specs.Tree.{Tree, parts, is_list}
+use Rattle.std.specs.Prelude.{ℕ, suc, nat_lt, pos, Bool, false, ◌&&◌, List, [], ◌∷◌, codes, Option, None, Some, Result, Ok, Err, refl, if◌then◌else◌}
+use Rattle.sexpr_read.specs.Tree.{Tree, parts}
 use Rattle.geo_seg.specs.declared.points.Point.{Point}
 use Rattle.geo_seg.specs.declared.shapes.Core.TheVariants.{Area as AreaCore}
 use Rattle.geo_seg.specs.declared.shapes.Shape.{Shape}
-use Rattle.board_items.specs.declared.errors.BoardError.{BoardError}
-use Rattle.board_items.specs.declared.errors.BoardError.TheVariants.{Missing, OutOfBoard, ThickFill, TooMany}
+use Rattle.board_errors.specs.declared.errors.BoardError.{BoardError}
+use Rattle.board_errors.specs.declared.errors.BoardError.TheVariants.{Missing, OutOfBoard, ThickFill, TooMany}
 use Rattle.copper_layers.specs.declared.set.LayerSet.{LayerSet}
-use Rattle.board_items.specs.declared.parts.Part.{Part}
 use Rattle.board_items.specs.declared.item.Bans.{Bans}
 use Rattle.board_items.specs.declared.item.What.TheVariants.{Fill, Area}
 use Rattle.board_items.specs.declared.item.Item.{Item}
@@ -18,12 +17,12 @@ use Rattle.board_items.specs.Refusals.{room_of}
 use Rattle.part_read.specs.declared.numbers.Spot.{Spot}
 use Rattle.part_read.specs.declared.stances.Stance.{Stance}
 use Rattle.part_read.specs.Elements.{◌>>=◌, needed, check, place, text_of, is_text, has_head, element, atom_of, in_needed, name_in}
-use Rattle.part_read.specs.LayersOf.{layer_in, layers_named, each_set, named}
+use Rattle.part_read.specs.LayersOf.{layer_in, layers_named, named}
 use Rattle.part_read.specs.LayersWhere.{layers_of_any}
 use Rattle.part_read.specs.NetsOf.{net_of}
 use Rattle.part_read.specs.Stances.{points_stood}
 use Rattle.part_read.specs.Figures.{first_of, no_radius, around}
-use Rattle.part_read.specs.Drawings.{corners_of, corners_in}
+use Rattle.part_read.specs.Drawings.{corners_of}
 use Rattle.part_read.specs.PlainItems.{plain_item}
 
 -- ---- layers and name

@@ -1,19 +1,19 @@
 //! Zones.
 
-ghost use Rattle.std.specs.Prelude.{◌≡◌, ◌+◌, ◌<◌, ◌≤◌, ◌∷◌, ◌++◌, [], ℕ, true, false, nat_lt, Some, is_some, length, codes, IfOk, IfSome, OnOk, IsTrue, option_map};
+ghost use Rattle.std.specs.Prelude.{◌≡◌, ◌+◌, ◌<◌, ◌∷◌, ◌++◌, [], true, false, Some, is_some, IfOk, IfSome, OnOk, IsTrue, option_map};
 ghost use Rattle.board_items.specs.Boards.{PlainBoard, IsSound, name_of};
 ghost use Rattle.copper_layers.specs.Layers.{has_layer, is_within};
 ghost use Rattle.part_read.specs.OnBoard.{fits_board};
 ghost use Rattle.part_read.specs.Ready.{IsReady, AreReady};
 ghost use Rattle.sexpr_read.specs.Tree.{parts};
-ghost use Rattle.sexpr_read.specs.Views.{tree_of, trees_left};
+ghost use Rattle.sexpr_read.specs.Views.{tree_of};
 ghost use Rattle.part_read.specs.Nodes.{Gives};
 ghost use Rattle.part_read.specs.Lists.{GivesItems};
-ghost use Rattle.part_read.specs.Elements.{element, name_in};
+ghost use Rattle.part_read.specs.Elements.{element};
 ghost use Rattle.part_read.specs.NetsOf.{net_of};
 ghost use Rattle.part_read.specs.Figures.{first_of};
 ghost use Rattle.zone_read.specs.Taking.{TakesFill};
-ghost use Rattle.zone_read.specs.ZoneOf.{layers_among, zone_layers, title_among, title_of, as_it_is, area_with, area_of, has_room_after, ban_among, ban_of, bans_in, polygon_of, area_in_room, rule_area, is_thin_by, is_thin, fill_layer, fill_on, fill_in_room, fills_after, zone_by, zone_of};
+ghost use Rattle.zone_read.specs.ZoneOf.{layers_among, zone_layers, title_of, area_of, has_room_after, ban_of, bans_in, polygon_of, area_in_room, rule_area, is_thin, fill_layer, fill_on, fill_in_room, fills_after, zone_of};
 
 use board_items::{Bans, Board, BoardError, Boxed, Item, Part, What};
 use copper_layers::LayerSet;

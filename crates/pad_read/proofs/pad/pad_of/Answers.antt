@@ -1,7 +1,7 @@
 use Rattle.std.proofs.Common.{◌∙◌, ap, sym, subst, codes, ℤ, Result, w64, rules}
 use mir.Val.{SFits}
 use Rattle.sexpr_read.specs.Views.{tree_of}
-use Rattle.board_items.specs.declared.errors.BoardError.{BoardError}
+use Rattle.board_errors.specs.declared.errors.BoardError.{BoardError}
 use Rattle.copper_layers.specs.declared.set.LayerSet.{LayerSet}
 use Rattle.board_items.specs.declared.item.Item.{Item}
 use Rattle.part_read.specs.Elements.{element, in_needed}

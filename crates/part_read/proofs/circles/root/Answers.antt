@@ -1,4 +1,4 @@
-use Rattle.std.proofs.Common.{◌≤◌, ◌*◌, arith}
+use Rattle.std.proofs.Common.{arith}
 use Rattle.part_read.proofs.Roots.{one_root, root_most}
 use Rattle.part_read.proofs.circles.root.Goals as goal
 

@@ -1,4 +1,4 @@
-use Rattle.std.proofs.Common.{◌≡◌, ◌∙◌, ◌<◌, length, map, option_map, ap, arith}
+use Rattle.std.proofs.Common.{◌∙◌, ◌<◌, length, map, option_map, ap, arith}
 use Rattle.sexpr_read.specs.Views.{tree_of}
 use Rattle.part_read.proofs.Walks.{note_here, keep_here}
 use Rattle.part_read.proofs.elements.note_part.Goals as goal

@@ -1,4 +1,4 @@
-use Rattle.std.proofs.Common.{◌≡◌, length, map, take, drop, ◌++◌, option_map}
+use Rattle.std.proofs.Common.{◌≡◌, map, take, drop, ◌++◌, option_map}
 use Rattle.sexpr_read.specs.Views.{tree_of}
 use Rattle.part_read.specs.Walk.{noted}
 use Rattle.part_read.proofs.elements.note_part.Given as goal

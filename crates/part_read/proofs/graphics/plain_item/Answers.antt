@@ -1,4 +1,4 @@
-use Rattle.std.proofs.Common.{◌≡◌, w64, rules}
+use Rattle.std.proofs.Common.{w64, rules}
 use mir.Val.{SFits}
 use Rattle.part_read.proofs.Shapes.{clean}
 use Rattle.part_read.proofs.Plain.{plain_is}

@@ -1,9 +1,6 @@
-use Rattle.std.proofs.Common.{◌≡◌, ◌∙◌, sym, ap, List, ◌∷◌, [], Ok, Result, arith, rules, ◌<◌, ◌^◌, true, false, IsTrue}
-use Rattle.sexpr_read.specs.Tree.{Tree, parts, is_list}
+use Rattle.std.proofs.Common.{◌∙◌, sym, ap, ◌∷◌, [], arith}
+use Rattle.sexpr_read.specs.Tree.{parts}
 use Rattle.sexpr_read.specs.Views.{tree_of, trees_left}
-use Rattle.board_items.specs.declared.errors.BoardError.{BoardError}
-use Rattle.copper_layers.specs.declared.set.LayerSet.{LayerSet}
-use Rattle.copper_layers.specs.Layers.{has_layer, is_within, single_layer, union_of}
 use Rattle.part_read.specs.LayersOf.{listed, layers_listed}
 use Rattle.part_read.proofs.Layering.{no_layers, gathered, gathered_begun, gathered_more, few_none, few_union, gathered_few}
 use Rattle.part_read.proofs.layers.layers_listed.Goals as goal

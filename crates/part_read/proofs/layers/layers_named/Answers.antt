@@ -1,11 +1,8 @@
-use Rattle.std.proofs.Common.{◌≡◌, ◌∙◌, sym, ap, List, ◌∷◌, [], Ok, Result, arith, rules, ◌<◌, ◌^◌, true, false, IsTrue}
-use Rattle.sexpr_read.specs.Tree.{Tree, parts, is_list}
+use Rattle.std.proofs.Common.{◌∙◌, sym, ap, ◌∷◌, [], arith, rules, ◌<◌, ◌^◌}
+use Rattle.sexpr_read.specs.Tree.{parts}
 use Rattle.sexpr_read.specs.Views.{tree_of, trees_left}
-use Rattle.board_items.specs.declared.errors.BoardError.{BoardError}
-use Rattle.copper_layers.specs.declared.set.LayerSet.{LayerSet}
-use Rattle.copper_layers.specs.Layers.{has_layer, is_within, single_layer, union_of}
 use Rattle.part_read.specs.LayersOf.{named, layers_named}
-use Rattle.part_read.proofs.Layering.{no_layers, gathered, gathered_begun, gathered_all, gathered_more, gathered_refused, union_within, none_within}
+use Rattle.part_read.proofs.Layering.{gathered, gathered_begun, gathered_all, gathered_more, union_within}
 use Rattle.part_read.proofs.layers.layers_named.Goals as goal
 
 pub loop-part-preserved : goal.loop-part-preserved

@@ -1,11 +1,7 @@
-use Rattle.std.proofs.Common.{◌≡◌, ◌∙◌, sym, ap, List, ◌∷◌, [], Ok, Result, arith, rules, ◌<◌, ◌^◌, true, false, IsTrue}
-use Rattle.sexpr_read.specs.Tree.{Tree, parts, is_list}
-use Rattle.sexpr_read.specs.Views.{tree_of, trees_left}
-use Rattle.board_items.specs.declared.errors.BoardError.{BoardError}
-use Rattle.copper_layers.specs.declared.set.LayerSet.{LayerSet}
-use Rattle.copper_layers.specs.Layers.{has_layer, is_within, single_layer, union_of}
+use Rattle.std.proofs.Common.{◌≡◌, ◌∙◌, ◌∷◌, [], arith, rules, ◌<◌, ◌^◌, true, false}
+use Rattle.sexpr_read.specs.Tree.{is_list}
+use Rattle.sexpr_read.specs.Views.{tree_of}
 use Rattle.part_read.specs.LayersOf.{named, is_all_copper, is_outer, outer_of}
-use Rattle.part_read.specs.Elements.{is_text}
 use Rattle.part_read.proofs.LayerNames.{text_is}
 use Rattle.part_read.proofs.Layering.{gives_none, gives_one, gives_single, gives_any}
 use Rattle.part_read.proofs.Listing.{named_passed, named_all, named_outer, named_none, named_some}

@@ -1,6 +1,6 @@
-use Rattle.std.proofs.Common.{◌≡◌, ◌∙◌, sym, ap, true, w64, rules}
+use Rattle.std.proofs.Common.{◌∙◌, sym, w64, rules}
 use mir.Val.{SFits}
-use Rattle.part_read.specs.OnBoard.{fits_board, point_at, is_strip, strip_shape}
+use Rattle.part_read.specs.OnBoard.{is_strip, strip_shape}
 use Rattle.part_read.proofs.Shapes.{is_tested, one_shape, one_line, clean}
 use Rattle.part_read.proofs.on_board.strip_shape.Goals as goal
 

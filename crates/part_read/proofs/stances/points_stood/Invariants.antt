@@ -1,5 +1,4 @@
 use Rattle.std.proofs.Common.{◌≡◌, drop, length}
-use Rattle.std.specs.Prelude.{Vec}
 use Rattle.part_read.specs.Stances.{points_stood}
 use Rattle.part_read.proofs.Gathering.{after_points}
 use Rattle.part_read.proofs.stances.points_stood.Given as goal

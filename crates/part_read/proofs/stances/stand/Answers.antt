@@ -1,6 +1,6 @@
-use Rattle.std.proofs.Common.{◌≡◌, ℕ, ◌+◌, sym, subst}
+use Rattle.std.proofs.Common.{◌+◌, sym, subst}
 use Rattle.part_read.specs.declared.numbers.Spot.{Spot}
-use Rattle.part_read.specs.Stances.{IsWithin, stood}
+use Rattle.part_read.specs.Stances.{IsWithin}
 use Rattle.part_read.proofs.Standing.{stand_is, stood_within}
 use Rattle.part_read.proofs.stances.stand.Goals as goal
 

@@ -1,6 +1,6 @@
 use Rattle.std.proofs.Common.{◌∙◌, ap, sym, List, Result}
 use Rattle.sexpr_read.specs.Refusals.{refusal_of_all}
-use Rattle.board_items.specs.declared.errors.BoardError.{BoardError}
+use Rattle.board_errors.specs.declared.errors.BoardError.{BoardError}
 use Rattle.board_items.specs.declared.item.Item.{Item}
 use Rattle.pcb_read.specs.ItemText.{answer_further}
 use Rattle.pcb_read.proofs.OneReading.{one_added}

@@ -1,4 +1,4 @@
-use Rattle.std.proofs.Common.{map, length, arith}
+use Rattle.std.proofs.Common.{map, arith}
 use Rattle.std.proofs.lemmas.List.{length-map}
 use Rattle.edit_script.specs.Commands.{plain_command}
 use Rattle.what_if.proofs.RunCounts.{count_found, count_none}

@@ -1,4 +1,4 @@
-use Rattle.std.proofs.Common.{◌+◌, ℕ, List, Option, length, map, sym, subst, arith}
+use Rattle.std.proofs.Common.{◌+◌, ℕ, List, Option, map, sym, subst, arith}
 use Rattle.edit_script.specs.Commands.{plain_command}
 use Rattle.tile_pool.specs.Answers.{AreAnswers}
 use Rattle.what_if.specs.Trials.{IsCountAt}

@@ -1,4 +1,4 @@
-use Rattle.std.proofs.Common.{◌≡◌, ◌≤◌, length, map, vec_capacity}
+use Rattle.std.proofs.Common.{◌≤◌, length, map, vec_capacity}
 use Rattle.edit_script.specs.Commands.{plain_command}
 use Rattle.tile_pool.specs.Answers.{AreAnswers}
 use Rattle.what_if.specs.Trials.{IsCountAt}

@@ -1,4 +1,4 @@
-use Rattle.std.proofs.Common.{◌∙◌, ℕ, Option, Result, IfOk, length, map, subst, arith}
+use Rattle.std.proofs.Common.{◌∙◌, IfOk, map, subst, arith}
 use Rattle.std.proofs.lemmas.List.{length-map}
 use Rattle.edit_script.specs.Commands.{plain_command}
 use Rattle.drc_session.specs.Sessions.{PlainSession}

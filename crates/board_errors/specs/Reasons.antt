@@ -2,10 +2,10 @@
 -- of the text is named behind that of the board and a point, and so is its code.
 use Rattle.std.specs.Prelude.{ℕ, List, ◌++◌, Option, Some, None, codes}
 use Rattle.sexpr_read.specs.Reasons.{name_of, code_of, place_of}
-use Rattle.board_items.specs.declared.errors.ItemError.{ItemError}
-use Rattle.board_items.specs.declared.errors.ItemError.TheVariants.{OutOfBoard as ItemOutOfBoard, UnknownNet as ItemUnknownNet, UnknownLayer as ItemUnknownLayer, TooMany as ItemTooMany, OutOfMemory as ItemOutOfMemory}
-use Rattle.board_items.specs.declared.errors.BoardError.{BoardError}
-use Rattle.board_items.specs.declared.errors.BoardError.TheVariants.{Text, NotABoard, Version, Missing, BadNumber, OutOfBoard, Arc, Turned, PadShape, Ring, UnknownNet, UnknownLayer, ThickFill, TooMany, OutOfMemory}
+use Rattle.board_errors.specs.declared.errors.ItemError.{ItemError}
+use Rattle.board_errors.specs.declared.errors.ItemError.TheVariants.{OutOfBoard as ItemOutOfBoard, UnknownNet as ItemUnknownNet, UnknownLayer as ItemUnknownLayer, TooMany as ItemTooMany, OutOfMemory as ItemOutOfMemory}
+use Rattle.board_errors.specs.declared.errors.BoardError.{BoardError}
+use Rattle.board_errors.specs.declared.errors.BoardError.TheVariants.{Text, NotABoard, Version, Missing, BadNumber, OutOfBoard, Arc, Turned, PadShape, Ring, UnknownNet, UnknownLayer, ThickFill, TooMany, OutOfMemory}
 
 abbrev pub item_name_of : ItemError → List ℕ
 item_name_of ItemOutOfBoard = codes "OutOfBoard"

@@ -25,7 +25,7 @@ pub enum ItemError {
 
 impl ItemError {
     ghost use Rattle.std.specs.Prelude.{◌≡◌};
-    ghost use Rattle.board_items.specs.Reasons.{item_name_of, item_code_of};
+    ghost use Rattle.board_errors.specs.Reasons.{item_name_of, item_code_of};
 
     pub fn name(&self) -> &'static str
         ensures { result.now ≡ item_name_of self.now }
@@ -55,7 +55,7 @@ impl ItemError {
 
 impl fmt::Display for ItemError {
     ghost use Rattle.std.specs.Prelude.{Some};
-    ghost use Rattle.board_items.specs.Reasons.{item_reason_of};
+    ghost use Rattle.board_errors.specs.Reasons.{item_reason_of};
 
     ghost output = { λ e. Some (item_reason_of e) };
 
@@ -70,7 +70,7 @@ impl Error for ItemError {}
 
 impl From<AllocError> for ItemError {
     ghost use Rattle.std.specs.Prelude.{◌≡◌};
-    ghost use Rattle.board_items.specs.declared.errors.ItemError.TheVariants.{OutOfMemory};
+    ghost use Rattle.board_errors.specs.declared.errors.ItemError.TheVariants.{OutOfMemory};
 
     ghost from_gives = { λ _ e. e ≡ OutOfMemory };
 
@@ -81,7 +81,7 @@ impl From<AllocError> for ItemError {
 
 impl<T: Drop> From<AllocFailed<T>> for ItemError {
     ghost use Rattle.std.specs.Prelude.{◌≡◌};
-    ghost use Rattle.board_items.specs.declared.errors.ItemError.TheVariants.{OutOfMemory};
+    ghost use Rattle.board_errors.specs.declared.errors.ItemError.TheVariants.{OutOfMemory};
 
     ghost from_gives = { λ _ e. e ≡ OutOfMemory };
 
@@ -157,7 +157,7 @@ fn text_code(e: &TextError) -> &'static str
 
 impl BoardError {
     ghost use Rattle.std.specs.Prelude.{◌≡◌};
-    ghost use Rattle.board_items.specs.Reasons.{board_name_of, board_code_of, board_place_of};
+    ghost use Rattle.board_errors.specs.Reasons.{board_name_of, board_code_of, board_place_of};
 
     /// Its name; a refusal of the text stands behind a point.
     pub fn name(&self) -> &'static str
@@ -231,7 +231,7 @@ impl BoardError {
 
 impl fmt::Display for BoardError {
     ghost use Rattle.std.specs.Prelude.{Some};
-    ghost use Rattle.board_items.specs.Reasons.{board_reason_of};
+    ghost use Rattle.board_errors.specs.Reasons.{board_reason_of};
 
     ghost output = { λ e. Some (board_reason_of e) };
 
@@ -246,24 +246,11 @@ impl Error for BoardError {}
 
 impl From<AllocError> for BoardError {
     ghost use Rattle.std.specs.Prelude.{◌≡◌};
-    ghost use Rattle.board_items.specs.declared.errors.BoardError.TheVariants.{OutOfMemory};
+    ghost use Rattle.board_errors.specs.declared.errors.BoardError.TheVariants.{OutOfMemory};
 
     ghost from_gives = { λ _ e. e ≡ OutOfMemory };
 
     fn from(_: AllocError) -> BoardError {
         BoardError::OutOfMemory
     }
-}
-
-/// What a name stands for on a board.
-#[derive(Clone, Copy, Debug, PartialEq, Eq, Drop)]
-pub enum Found {
-    /// No unit holds an item of that name, or the name is empty.
-    None,
-    /// Two units or more do.
-    Shared,
-    /// One footprint does, and it has another name itself.
-    Inside,
-    /// This unit.
-    Unit(u32),
 }
