@@ -1,6 +1,6 @@
 -- What a whole command line says.
 use Rattle.std.specs.Prelude.{ℕ, List, String, drop, map, string_bytes}
-use Rattle.drc_run.specs.Calls.{Call, call_of}
+use Rattle.run_words.specs.Calls.{Call, call_of}
 
 -- the words behind the program's name, which is the first word
 abbrev pub words_after_name : {A : Type 0} → List (String A) → List (List ℕ)

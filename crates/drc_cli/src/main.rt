@@ -5,7 +5,7 @@
 #![tactic(auto)]
 
 ghost use Rattle.std.specs.Prelude.{◌≡◌, IfOk};
-ghost use Rattle.drc_run.specs.Calls.{words_of};
+ghost use Rattle.run_words.specs.Calls.{words_of};
 ghost use Rattle.drc_run.specs.Endings.{Promises};
 ghost use Rattle.drc_cli.specs.CommandLine.{call_of_line, words_after_name};
 

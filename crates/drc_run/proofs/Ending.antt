@@ -2,17 +2,19 @@
 use Rattle.std.proofs.Common.{◌≡◌, ℕ, Bool, List, [], Option, refl, sym, subst}
 use Rattle.edit_script.specs.Commands.{PlainCommand}
 use Rattle.drc_state.specs.States.{State}
+use Rattle.run_words.specs.Calls.{Reading, Call, check}
+use Rattle.run_texts.specs.declared.texts.Stop.{Stop}
+use Rattle.run_texts.specs.declared.texts.Stop.TheVariants.{Unread}
+use Rattle.run_texts.specs.declared.texts.Which.TheVariants.{Script}
+use Rattle.run_texts.specs.Texts.{texts_of, Value, a_script, AreAccepted, ReadFails}
+use Rattle.run_texts.specs.Refusing.{StopsTexts, Gives, AreOpened}
+use Rattle.run_texts.proofs.Accepting.{values_of, all_accepted, unread_has_fault}
 use Rattle.drc_run.specs.declared.status.Status.{Status}
-use Rattle.drc_run.specs.declared.texts.Stop.{Stop}
-use Rattle.drc_run.specs.declared.texts.Stop.TheVariants.{Unread}
-use Rattle.drc_run.specs.declared.texts.Which.TheVariants.{Script}
-use Rattle.drc_run.specs.Calls.{Reading, Call, check}
-use Rattle.drc_run.specs.Texts.{texts_of, Value, a_script, AreAccepted}
-use Rattle.drc_run.specs.Output.{Output, commands_among, is_short, IsTold, IsToldSoFar, IsOutputFor, given, IsBegunFor, whole, begun_by, ReadFails}
-use Rattle.drc_run.specs.Refusing.{StopsTexts, Gives, AreOpened, IsLineOf}
+use Rattle.drc_run.specs.Output.{Output, commands_among, is_short, IsTold, IsToldSoFar, IsOutputFor, given, IsBegunFor, whole, begun_by}
+use Rattle.drc_run.specs.Refusing.{IsLineOf}
 use Rattle.drc_run.specs.Endings.{Ends, IsTextOfOne}
 use Rattle.drc_run.proofs.Written.{ends_as}
-use Rattle.drc_run.proofs.Accepting.{values_of, all_accepted, opened_by, commands_are, line_is_output, unread_has_fault}
+use Rattle.drc_run.proofs.Opening.{opened_by, commands_are, line_is_output}
 
 module _ (call : Call) (told : Option (List (List ℕ × List ℕ))) where
   -- an output begins with its text

@@ -1,8 +1,6 @@
-pub mod Read
 pub mod Written
-pub mod Accepting
+pub mod Opening
 pub mod OneProject
-pub mod FewCommands
 pub mod TurnLists
 pub mod OneTurn
 pub mod OneTold
@@ -14,9 +12,6 @@ pub mod Stepping
 pub mod Ending
 pub mod Scripted
 pub mod Trials
-pub mod TooMany
 pub mod Stolen
 pub mod Rewrites
 pub mod Promised
-pub mod MadeLines
-pub mod MadeLength

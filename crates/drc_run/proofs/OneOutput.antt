@@ -18,10 +18,10 @@ use Rattle.edit_script.specs.Commands.{PlainCommand, PlainStep, place_of}
 use Rattle.edit_script.specs.Reasons.{reason_of as script_reason_of, place_of as script_place_of}
 use Rattle.edit_script.specs.ScriptText.{Says as ScriptSays, SaysSteps}
 use Rattle.drc_state.specs.States.{State}
-use Rattle.drc_run.specs.declared.texts.Which.{Which}
-use Rattle.drc_run.specs.declared.texts.Which.TheVariants.{Board, Project, Rules, Script, Steps, Trials, Text}
-use Rattle.drc_run.specs.Calls.{Source, file, made, Call, nothing, check, undo, try, steal, write}
-use Rattle.drc_run.specs.Texts.{Named, texts_of, Value, a_board, a_project, a_rules, a_script, some_steps, Said, accepted, refused, at_place, IsWritten, most_trials, RefusesScript, RefusesTrials, ReaderSays, TextSays, longer, read, AreBytesOf, SourceSays, AreAccepted, IsReached, a_text}
+use Rattle.run_words.specs.Calls.{Source, file, made, Call, nothing, check, undo, try, steal, write}
+use Rattle.run_texts.specs.declared.texts.Which.{Which}
+use Rattle.run_texts.specs.declared.texts.Which.TheVariants.{Board, Project, Rules, Script, Steps, Trials, Text}
+use Rattle.run_texts.specs.Texts.{Named, texts_of, Value, a_board, a_project, a_rules, a_script, some_steps, Said, accepted, refused, at_place, IsWritten, most_trials, RefusesScript, RefusesTrials, ReaderSays, TextSays, longer, read, AreBytesOf, SourceSays, AreAccepted, IsReached, a_text}
 use Rattle.drc_run.specs.Output.{Output, commands_among, steps_among, IsOpenedBy, is_short, IsTold, IsToldSoFar, AreStepsTold, AreStepsToldSoFar, AreTrialsTold, AreFirstTrials, IsTextOf, IsBegunBy, IsOutputFor, unclear, stopped, given, IsBegunFor, whole, begun_by, usage, refusal, AreRowsTold, IsBoardWritten}
 use Rattle.drc_run.proofs.OneProject.{one_project}
 

@@ -5,12 +5,13 @@ use Rattle.std.specs.Io.KnownBytes.{Appends}
 use Rattle.drc_io.specs.Causes.{Rose}
 use Rattle.drc_io.specs.Sinks.{AppendsFront}
 use denote.Enum.Declared.{tag_of}
+use Rattle.run_words.specs.Calls.{Call}
+use Rattle.run_texts.specs.declared.texts.Which.{Which}
+use Rattle.run_texts.specs.Texts.{ReadFails}
 use Rattle.drc_run.specs.contracts.status.Status.{the_type}
-use Rattle.drc_run.specs.declared.texts.Which.{Which}
 use Rattle.drc_run.specs.declared.status.Status.{Status}
 use Rattle.drc_run.specs.declared.status.Status.TheVariants.{Clean, Rows, Usage, Refused, ReadFault, WriteFault, OutOfMemory}
-use Rattle.drc_run.specs.Calls.{Call}
-use Rattle.drc_run.specs.Output.{Output, IsOutputFor, IsBegunFor, ReadFails}
+use Rattle.drc_run.specs.Output.{Output, IsOutputFor, IsBegunFor}
 use Rattle.drc_run.specs.Endings.{Whole, Front, FrontOf, Unread, UnreadFront, Ends, Promises}
 
 module _ (IsIt : Output → Type 0) (IsBegun : List ℕ → Type 0) (Fault : Which → Type 0) (old new : Option (List ℕ)) where

@@ -6,18 +6,18 @@ use Rattle.edit_script.specs.Fits.{Fits}
 use Rattle.board_alike.specs.Written.{IsWritten}
 use Rattle.board_alike.specs.Same.{AreShallow, IsReadBack}
 use Rattle.board_write.specs.Answers.{Outcome, Wrote, WroteFront}
+use Rattle.run_words.specs.Calls.{write}
+use Rattle.run_texts.specs.declared.texts.Stop.{Stop}
+use Rattle.run_texts.specs.declared.texts.Which.{Which}
+use Rattle.run_texts.specs.declared.texts.Which.TheVariants.{Text, Script}
+use Rattle.run_texts.specs.Texts.{named, texts_of, Value, a_text, a_script, accepted, SourceSays, AreAccepted, ReadFails}
+use Rattle.run_texts.specs.Refusing.{StopsText, StopsTexts}
+use Rattle.run_texts.proofs.Accepting.{reached, stops_at, later}
 use Rattle.drc_run.specs.declared.status.Status.{Status}
 use Rattle.drc_run.specs.declared.status.Status.TheVariants.{Clean, Rows, Usage, Refused, ReadFault, WriteFault, OutOfMemory}
-use Rattle.drc_run.specs.declared.texts.Stop.{Stop}
-use Rattle.drc_run.specs.declared.texts.Which.{Which}
-use Rattle.drc_run.specs.declared.texts.Which.TheVariants.{Text, Script}
-use Rattle.drc_run.specs.Calls.{write}
-use Rattle.drc_run.specs.Texts.{named, texts_of, Value, a_text, a_script, accepted, SourceSays, AreAccepted}
-use Rattle.drc_run.specs.Output.{Output, status_after, IsBoardWritten, IsOutputFor, given, IsBegunFor, whole, ReadFails}
-use Rattle.drc_run.specs.Refusing.{StopsText, StopsTexts}
+use Rattle.drc_run.specs.Output.{Output, status_after, IsBoardWritten, IsOutputFor, given, IsBegunFor, whole}
 use Rattle.drc_run.specs.Endings.{Whole, Ends, IsTextOfOne, number_of}
 use Rattle.drc_run.proofs.Written.{ends_as, its_text}
-use Rattle.drc_run.proofs.Accepting.{reached, stops_at, later}
 
 -- ---- the status
 

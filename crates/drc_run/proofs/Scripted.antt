@@ -4,16 +4,16 @@ use Rattle.net_class.specs.Classes.{plain_classes}
 use Rattle.rule_text.specs.RulesOf.{no_rules}
 use Rattle.edit_script.specs.Commands.{PlainCommand, PlainStep}
 use Rattle.drc_state.specs.States.{State}
+use Rattle.run_words.specs.Calls.{undo, try}
+use Rattle.run_texts.specs.declared.texts.Which.TheVariants.{Steps, Trials}
+use Rattle.run_texts.specs.Texts.{named, texts_of, Value, a_board, a_script, some_steps, accepted, SourceSays, AreAccepted, ReadFails}
+use Rattle.run_texts.specs.Refusing.{AreOpened, only_board}
 use Rattle.drc_run.specs.declared.status.Status.{Status}
-use Rattle.drc_run.specs.declared.texts.Which.TheVariants.{Steps, Trials}
-use Rattle.drc_run.specs.Calls.{undo, try}
-use Rattle.drc_run.specs.Texts.{named, texts_of, Value, a_board, a_script, some_steps, accepted, SourceSays, AreAccepted}
-use Rattle.drc_run.specs.Output.{Output, IsOpenedBy, AreStepsTold, AreStepsToldSoFar, AreTrialsTold, IsOutputFor, given, IsBegunFor, whole, begun_by, ReadFails}
-use Rattle.drc_run.specs.Refusing.{AreOpened, only_board}
+use Rattle.drc_run.specs.Output.{Output, IsOpenedBy, AreStepsTold, AreStepsToldSoFar, AreTrialsTold, IsOutputFor, given, IsBegunFor, whole, begun_by}
 use Rattle.drc_run.specs.Running.{AreTrialsToldSoFar, first_of_them, all_of_them}
 use Rattle.drc_run.specs.Endings.{Ends}
 use Rattle.drc_run.proofs.Written.{ends_as}
-use Rattle.drc_run.proofs.Accepting.{same_classes, same_rules}
+use Rattle.drc_run.proofs.Opening.{same_classes, same_rules}
 
 module _ (told : Option (List (List ℕ × List ℕ))) (board script : List ℕ) (opening : State) (are : AreOpened told (only_board board) opening) where
   module _ (steps : List PlainStep) (says : SourceSays told (named Steps script) (accepted (some_steps steps))) where

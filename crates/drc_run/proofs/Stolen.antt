@@ -7,15 +7,15 @@ use Rattle.drc_io.specs.Causes.{Rose}
 use Rattle.drc_io.specs.Sinks.{Writes}
 use Rattle.drc_io.specs.declared.Failed.{Failed}
 use Rattle.pair_check.specs.PlainRow.{PlainRow}
+use Rattle.run_words.specs.Calls.{steal}
+use Rattle.run_texts.specs.Texts.{texts_of, Value, a_board, AreAccepted, ReadFails}
+use Rattle.run_texts.specs.Refusing.{AreOpened, only_board}
 use Rattle.drc_run.specs.declared.status.Status.{Status}
 use Rattle.drc_run.specs.declared.status.Status.TheVariants.{WriteFault}
-use Rattle.drc_run.specs.Calls.{steal}
-use Rattle.drc_run.specs.Texts.{texts_of, Value, a_board, AreAccepted}
-use Rattle.drc_run.specs.Output.{Output, IsOpenedBy, AreRowsTold, status_of, IsOutputFor, given, IsBegunFor, whole, ReadFails}
-use Rattle.drc_run.specs.Refusing.{AreOpened, only_board}
+use Rattle.drc_run.specs.Output.{Output, IsOpenedBy, AreRowsTold, status_of, IsOutputFor, given, IsBegunFor, whole}
 use Rattle.drc_run.specs.Endings.{Ends, IsTextOfOne, number_of}
 use Rattle.drc_run.proofs.Written.{ends_as}
-use Rattle.drc_run.proofs.Accepting.{same_classes, same_rules}
+use Rattle.drc_run.proofs.Opening.{same_classes, same_rules}
 
 module _ (told : Option (List (List ℕ × List ℕ))) (board : List ℕ) (workers : ℕ) (opening : State) (are : AreOpened told (only_board board) opening) where
   abbrev values : List Value

@@ -3,9 +3,9 @@ use Rattle.std.proofs.Common.{◌≡◌, ℕ, List, [], ◌∷◌, Option, Resul
 use Rattle.drc_io.specs.declared.Failed.{Failed}
 use Rattle.drc_io.specs.Sinks.{Writes}
 use Rattle.pair_check.specs.PlainRow.{PlainRow}
+use Rattle.run_texts.specs.declared.texts.Which.{Which}
 use Rattle.drc_run.specs.declared.status.Status.{Status}
 use Rattle.drc_run.specs.declared.status.Status.TheVariants.{Clean, Rows, Usage, Refused, ReadFault, WriteFault, OutOfMemory}
-use Rattle.drc_run.specs.declared.texts.Which.{Which}
 use Rattle.drc_run.specs.Output.{Output, cannot_read, status_of}
 use Rattle.drc_run.specs.Endings.{Whole, Front, Ends, IsTextOfOne, number_of}
 

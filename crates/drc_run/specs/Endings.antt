@@ -3,11 +3,12 @@ use Rattle.std.specs.Prelude.{◌≡◌, ◌⊎◌, ℕ, Bool, true, false, ◌<
 use Rattle.std.specs.Io.KnownBytes.{Appends, Keeps}
 use Rattle.drc_io.specs.Causes.{Rose}
 use Rattle.drc_io.specs.Sinks.{AppendsFront}
-use Rattle.drc_run.specs.declared.texts.Which.{Which}
+use Rattle.run_words.specs.Calls.{Call}
+use Rattle.run_texts.specs.declared.texts.Which.{Which}
+use Rattle.run_texts.specs.Texts.{ReadFails}
 use Rattle.drc_run.specs.declared.status.Status.{Status}
 use Rattle.drc_run.specs.declared.status.Status.TheVariants.{Clean, Rows, Usage, Refused, ReadFault, WriteFault, OutOfMemory}
-use Rattle.drc_run.specs.Calls.{Call}
-use Rattle.drc_run.specs.Output.{Output, IsOutputFor, IsBegunFor, ReadFails, cannot_read}
+use Rattle.drc_run.specs.Output.{Output, IsOutputFor, IsBegunFor, cannot_read}
 
 -- an output with this status was written whole
 abbrev pub Whole : (Output → Type 0) → Option (List ℕ) → Option (List ℕ) → ℕ → Type 0

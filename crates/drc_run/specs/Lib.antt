@@ -1,10 +1,6 @@
-pub mod Calls
-pub mod MadeBoard
-pub mod Texts
 pub mod Reports
 pub mod Turns
 pub mod Output
 pub mod Endings
-pub mod Views
 pub mod Refusing
 pub mod Running

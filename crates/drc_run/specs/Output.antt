@@ -1,6 +1,5 @@
 -- The whole output of the program, as a relation between what is called for, the files of its shelf and what it writes.
 use Rattle.std.specs.Prelude.{◌≡◌, ℕ, ◌+◌, Bool, true, false, List, [], ◌∷◌, ◌++◌, Option, None, Some, Ok, codes, decimal, slice_get, ◌==◌, if◌then◌else◌}
-use Rattle.drc_io.specs.Causes.{Rose}
 use Rattle.board_items.specs.Boards.{PlainBoard}
 use Rattle.net_class.specs.Classes.{PlainClasses, plain_classes}
 use Rattle.rule_text.specs.RulesOf.{PlainRules, no_rules}
@@ -15,9 +14,9 @@ use Rattle.board_write.specs.Answers.{Outcome}
 use Rattle.drc_state.specs.States.{State, checked_in}
 use Rattle.undo_log.specs.Past.{Past, begun}
 use Rattle.what_if.specs.Trials.{IsSurvey}
-use Rattle.drc_run.specs.declared.texts.Which.{Which}
-use Rattle.drc_run.specs.Calls.{Source, file, made, Call, nothing, check, undo, try, steal, write}
-use Rattle.drc_run.specs.Texts.{Named, named, texts_of, word_of, Value, a_board, a_project, a_rules, a_script, some_steps, refused, SourceSays, AreAccepted, IsReached, a_text}
+use Rattle.run_words.specs.Calls.{Source, file, made, Call, nothing, check, undo, try, steal, write}
+use Rattle.run_texts.specs.declared.texts.Which.{Which}
+use Rattle.run_texts.specs.Texts.{Named, texts_of, word_of, Value, a_board, a_project, a_rules, a_script, some_steps, refused, SourceSays, AreAccepted, IsReached, a_text}
 use Rattle.drc_run.specs.Reports.{IsOpening}
 use Rattle.drc_run.specs.Turns.{AreTurns, AreFirstTurns, IsTurn, IsStepTurn, IsTrial}
 
@@ -217,11 +216,3 @@ pub data IsOutputFor (call : Call) (told : Option (List (List ℕ × List ℕ)))
 pub data IsBegunFor (call : Call) (told : Option (List (List ℕ × List ℕ))) (text : List ℕ) : Type 0 where
   whole : (out : Output) → IsOutputFor call told out → text ≡ out.text → IsBegunFor call told text
   begun_by : (values : List Value) → AreAccepted told (texts_of call) values → IsBegunBy call values text → IsBegunFor call told text
-
--- ---- faults
-
--- a text was not read: its turn came, and the count of faults of its file rose
-pub record ReadFails (call : Call) (told : Option (List (List ℕ × List ℕ))) (before now : List ℕ → ℕ) (which : Which) : Type 0 where
-  pub name : List ℕ
-  pub reached : IsReached told (texts_of call) (named which name)
-  pub rose : Rose (before name) (now name)

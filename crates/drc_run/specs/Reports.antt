@@ -10,7 +10,7 @@ use Rattle.drc_state.specs.Recheck.{IsHeldCount}
 use Rattle.undo_log.specs.declared.error.HistoryError.{HistoryError}
 use Rattle.undo_log.specs.declared.error.HistoryError.TheVariants.{Edit, NothingToUndo, NothingToRedo, Stopped, OutOfMemory}
 use Rattle.undo_log.specs.Reasons.{step_reason_of}
-use Rattle.drc_run.specs.Texts.{at_place}
+use Rattle.run_texts.specs.Texts.{at_place}
 
 -- ---- reports
 

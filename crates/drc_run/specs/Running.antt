@@ -1,10 +1,9 @@
 -- What the parts of a run leave of a session and of a sink.
-use Rattle.std.specs.Prelude.{◌≡◌, ◌≤◌, ◌⊎◌, ℕ, Bool, false, List, [], ◌++◌, length, codes, Option, None, Some, Result, Ok, Err, MatchResult}
+use Rattle.std.specs.Prelude.{◌≡◌, ◌≤◌, ◌⊎◌, ℕ, Bool, false, List, [], length, codes, Option, None, Some, Result, Ok, Err, MatchResult}
 use Rattle.std.specs.Io.KnownBytes.{Appends, Keeps}
 use Rattle.drc_io.specs.Sinks.{AppendsFront, Writes}
 use Rattle.drc_io.specs.declared.Failed.{Failed}
 use Rattle.edit_script.specs.Commands.{PlainStep}
-use Rattle.drc_rows.specs.Report.{number_line}
 use Rattle.drc_rows.specs.ReportOf.{Found}
 use Rattle.drc_state.specs.declared.error.EditError.{EditError}
 use Rattle.drc_state.specs.declared.error.EditError.TheVariants.{OutOfMemory as NoMemory}
@@ -21,10 +20,6 @@ use Rattle.drc_run.specs.declared.turns.Break.TheVariants.{Unwritten, OutOfMemor
 use Rattle.drc_run.specs.Reports.{AreFindings, report_text, refused_line, why_edit, why_step}
 use Rattle.drc_run.specs.Turns.{AreTurns, AreFirstTurns, IsStepTurn, IsTrialText}
 use Rattle.drc_run.specs.Output.{Output, IsLeastLine, AreTrialsTold, AreFirstTrials}
-
--- how many rows, notes and open nets there are
-abbrev pub counts_text : ℕ → ℕ → ℕ → List ℕ
-counts_text rows notes nets = number_line (codes "rows ") rows [] ++ number_line (codes "not checked ") notes [] ++ number_line (codes "open nets ") nets []
 
 -- the piece before the place of a refusal
 abbrev pub at_text : Option ℕ → List ℕ

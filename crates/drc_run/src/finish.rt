@@ -2,17 +2,18 @@
 
 ghost use Rattle.std.specs.Prelude.{◌≡◌, ℕ, List, false, Option, MatchResult};
 ghost use Rattle.drc_io.specs.Causes.{Rose};
+ghost use Rattle.run_words.specs.Calls.{nothing};
+ghost use Rattle.run_texts.specs.Texts.{ReadFails};
 ghost use Rattle.drc_run.specs.declared.status.Status.{Status};
-ghost use Rattle.drc_run.specs.Calls.{nothing};
-ghost use Rattle.drc_run.specs.Output.{IsOutputFor, IsBegunFor, ReadFails, IsStatusOf};
+ghost use Rattle.drc_run.specs.Output.{IsOutputFor, IsBegunFor, IsStatusOf};
 ghost use Rattle.drc_run.specs.Refusing.{IsLineOf};
 ghost use Rattle.drc_run.specs.Endings.{Ends, IsTextOfOne, number_of};
 
 use crate::lines::{write_refusal, write_unread};
 use crate::status::Status;
-use crate::texts::Stop;
 use drc_io::{Failed, Sink, put_all};
 use drc_session::Session;
+use run_texts::Stop;
 
 /// The status after a text was written, or not.
 pub(crate) fn after(written: Result<(), Failed>, status: Status) -> Status

@@ -1,7 +1,7 @@
 //! Laws of the output. The functions do nothing: each clause holds for all words and files.
 
 ghost use Rattle.std.specs.Prelude.{◌≡◌, ◌++◌, ℕ, List, Some};
-ghost use Rattle.drc_run.specs.Calls.{Call};
+ghost use Rattle.run_words.specs.Calls.{Call};
 ghost use Rattle.drc_run.specs.Output.{Output, IsOutputFor, IsBegunFor};
 
 use board_write::laws::one_outcome;

@@ -3,31 +3,26 @@
 
 ghost use Rattle.std.specs.Prelude.{◌≡◌, ℕ, List, Option};
 ghost use Rattle.drc_io.specs.Causes.{Rose};
+ghost use Rattle.run_words.specs.Calls.{check_call, call_of, words_of};
+ghost use Rattle.run_words.specs.Views.{call_in, CallFits};
+ghost use Rattle.run_texts.specs.Texts.{ReadFails};
 ghost use Rattle.drc_run.specs.declared.status.Status.{Status};
-ghost use Rattle.drc_run.specs.Calls.{check_call, call_of, words_of};
-ghost use Rattle.drc_run.specs.Views.{call_in, CallFits};
-ghost use Rattle.drc_run.specs.Output.{IsOutputFor, IsBegunFor, ReadFails};
+ghost use Rattle.drc_run.specs.Output.{IsOutputFor, IsBegunFor};
 ghost use Rattle.drc_run.specs.Endings.{Ends, Promises};
 
-mod calls;
 mod check;
 mod finish;
 pub mod laws;
 mod lines;
-mod made;
 mod reporting;
 mod rewriting;
 mod status;
 mod stealing;
 mod steps;
-mod texts;
 mod trying;
 mod turns;
 mod undoing;
-mod words;
-mod writing;
 
-use crate::calls::{Call, call_of, check_call};
 use crate::check::check;
 use crate::finish::usage;
 use crate::laws::{begun_is_front, one_output};
@@ -37,8 +32,9 @@ use crate::stealing::steal;
 use crate::trying::try_each;
 use crate::undoing::undo;
 use drc_io::{Shelf, Sink};
+pub use run_texts::Which;
+use run_words::{Call, call_of, check_call};
 use std::thread::Threads;
-pub use texts::Which;
 use tile_pool::Gate;
 
 /// Does what is asked for, and says how the run ended.

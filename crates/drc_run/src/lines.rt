@@ -2,16 +2,16 @@
 
 ghost use Rattle.std.specs.Prelude.{◌≡◌, ◌++◌, ℕ, List};
 ghost use Rattle.drc_io.specs.Sinks.{Writes};
+ghost use Rattle.run_texts.specs.Refusing.{plus_text, digits_text, why_of};
 ghost use Rattle.drc_run.specs.Output.{refusal, cannot_read};
-ghost use Rattle.drc_run.specs.Refusing.{plus_text, digits_text, why_of};
 ghost use Rattle.drc_run.specs.Reports.{why_edit, why_step, refused_behind, refused_line, refused_trial};
 ghost use Rattle.drc_run.specs.Running.{at_text, inner_behind};
 
-use crate::texts::{Refusal, Which};
 use drc_io::{Failed, Sink};
 use drc_rows::write_pieces;
 use drc_state::EditError;
 use itoa::Buffer;
+use run_texts::{Refusal, Which};
 use undo_log::HistoryError;
 
 /// What stands between a place and the place in a condition.

@@ -6,12 +6,12 @@ ghost use Rattle.drc_state.specs.States.{checked_in};
 ghost use Rattle.drc_state.specs.Recheck.{IsHeldCount};
 ghost use Rattle.drc_run.specs.Running.{IsReported};
 
-use crate::writing::{Tiles, write_short, write_whole};
 use board_items::Board;
 use drc_io::{Failed, Sink};
 use drc_session::Session;
 use net_groups::parts_are_writable;
 use row_check::laws::{rows_have_items, rows_have_sources};
+use run_reports::{Tiles, write_short, write_whole};
 
 /// Each board is sound, as whoever goes through its items is told.
 fn is_sound(board: &Board)

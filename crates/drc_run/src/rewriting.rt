@@ -5,22 +5,22 @@ ghost use Rattle.drc_io.specs.Causes.{Rose};
 ghost use Rattle.edit_script.specs.Commands.{plain_command};
 ghost use Rattle.edit_script.specs.Fits.{Fits as CommandFits};
 ghost use Rattle.board_write.specs.Sources.{IsSource};
+ghost use Rattle.run_words.specs.Calls.{write};
+ghost use Rattle.run_texts.specs.declared.texts.Which.{Which};
+ghost use Rattle.run_texts.specs.Texts.{a_text, accepted, ReaderSays, ReadFails};
+ghost use Rattle.run_texts.specs.Refusing.{StopsReading};
 ghost use Rattle.drc_run.specs.declared.status.Status.{Status};
-ghost use Rattle.drc_run.specs.declared.texts.Which.{Which};
-ghost use Rattle.drc_run.specs.Calls.{write};
-ghost use Rattle.drc_run.specs.Texts.{a_text, accepted, ReaderSays};
-ghost use Rattle.drc_run.specs.Refusing.{StopsReading};
-ghost use Rattle.drc_run.specs.Output.{IsOutputFor, IsBegunFor, ReadFails, IsBoardWritten, status_after};
+ghost use Rattle.drc_run.specs.Output.{IsOutputFor, IsBegunFor, IsBoardWritten, status_after};
 ghost use Rattle.drc_run.specs.Endings.{Ends, IsTextOfOne, number_of};
 
-use crate::calls::Scripted;
 use crate::finish::write_stop;
 use crate::status::Status;
-use crate::texts::{Stop, Which, fetch_text, refused, script_in, script_text};
 use board_again::laws::read_back;
 use board_write::{Source, WriteError, read_source, write_source};
 use drc_io::{Shelf, Sink};
 use edit_script::Command;
+use run_texts::{Stop, Which, fetch_text, refused, script_in, script_text};
+use run_words::Scripted;
 use std::alloc::Global;
 
 /// The status after commands of which so many were refused.

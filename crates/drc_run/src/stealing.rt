@@ -2,20 +2,21 @@
 
 ghost use Rattle.std.specs.Prelude.{◌≡◌, ◌≤◌, []};
 ghost use Rattle.drc_io.specs.Causes.{Rose};
+ghost use Rattle.run_words.specs.Calls.{steal};
+ghost use Rattle.run_texts.specs.Views.{opened_in};
+ghost use Rattle.run_texts.specs.Texts.{ReadFails};
 ghost use Rattle.drc_run.specs.declared.status.Status.{Status};
-ghost use Rattle.drc_run.specs.Calls.{steal};
-ghost use Rattle.drc_run.specs.Views.{opened_in};
-ghost use Rattle.drc_run.specs.Output.{IsOutputFor, IsBegunFor, ReadFails, AreRowsTold, status_of};
+ghost use Rattle.drc_run.specs.Output.{IsOutputFor, IsBegunFor, AreRowsTold, status_of};
 ghost use Rattle.drc_run.specs.Endings.{Ends, IsTextOfOne, number_of};
 
-use crate::calls::Numbered;
 use crate::finish::{after, write_stop};
 use crate::status::Status;
-use crate::texts::{Texts, board_alone, texts_of};
-use crate::writing::write_rows_alone;
 use drc_io::{Shelf, Sink};
 use row_check::Row;
 use row_check::laws::{rows_have_items, rows_have_sources};
+use run_reports::write_rows_alone;
+use run_texts::{Texts, board_alone, texts_of};
+use run_words::Numbered;
 use std::alloc::AllocGlobal;
 use std::thread::Threads;
 use stolen_rows::rows_by_stealing;

@@ -11,11 +11,11 @@ ghost use Rattle.drc_run.specs.Running.{IsEditAnswered, IsTaken, IsBroken, AreTa
 
 use crate::lines::write_refused;
 use crate::reporting::write_report;
-use crate::writing::Tiles;
 use drc_io::{Failed, Sink};
 use drc_session::{Applied, Session};
 use drc_state::EditError;
 use edit_script::Command;
+use run_reports::Tiles;
 use std::alloc::AllocGlobal;
 use std::thread::Threads;
 use tile_pool::Gate;

@@ -1,7 +1,8 @@
 use Rattle.std.proofs.Common.{ap, sym, subst}
-use Rattle.drc_run.specs.Calls.{Call}
-use Rattle.drc_run.specs.Views.{call_in}
-use Rattle.drc_run.specs.Output.{IsOutputFor, IsBegunFor, ReadFails}
+use Rattle.run_words.specs.Calls.{Call}
+use Rattle.run_words.specs.Views.{call_in}
+use Rattle.run_texts.specs.Texts.{ReadFails}
+use Rattle.drc_run.specs.Output.{IsOutputFor, IsBegunFor}
 use Rattle.drc_run.specs.Endings.{Ends}
 use Rattle.drc_run.proofs.carry_out.Goals as goal
 

@@ -1,7 +1,8 @@
 use Rattle.std.proofs.Common.{refl}
+use Rattle.run_words.specs.Calls.{nothing}
+use Rattle.run_texts.specs.Texts.{ReadFails}
 use Rattle.drc_run.specs.declared.status.Status.TheVariants.{Usage}
-use Rattle.drc_run.specs.Calls.{nothing}
-use Rattle.drc_run.specs.Output.{usage, unclear, whole, IsOutputFor, IsBegunFor, ReadFails}
+use Rattle.drc_run.specs.Output.{usage, unclear, whole, IsOutputFor, IsBegunFor}
 use Rattle.drc_run.proofs.Written.{written}
 use Rattle.drc_run.proofs.finish.usage.Goals as goal
 

@@ -1,8 +1,9 @@
 use Rattle.std.proofs.Common.{refl, subst, sym}
+use Rattle.run_texts.specs.declared.texts.Stop.{Stop}
+use Rattle.run_texts.specs.Refusing.{why_of}
 use Rattle.drc_run.specs.declared.status.Status.TheVariants.{Refused}
-use Rattle.drc_run.specs.declared.texts.Stop.{Stop}
 use Rattle.drc_run.specs.Output.{refusal}
-use Rattle.drc_run.specs.Refusing.{IsLineOf, why_of}
+use Rattle.drc_run.specs.Refusing.{IsLineOf}
 use Rattle.drc_run.specs.Endings.{IsTextOfOne}
 use Rattle.drc_run.proofs.Written.{written, its_text}
 use Rattle.drc_run.proofs.finish.write_stop.Goals as goal

@@ -1,8 +1,8 @@
 use Rattle.std.proofs.Common.{◌≡◌, ◌++◌, codes, decimal, rules, append_assoc, ℕ, List, Option, None, Some, refl, ap, ◌∙◌}
 use Rattle.drc_io.proofs.Writing.{Writes-text}
-use Rattle.drc_run.specs.Texts.{inner_text, word_of}
+use Rattle.run_texts.specs.Texts.{inner_text, word_of}
+use Rattle.run_texts.specs.Refusing.{plus_text, digits_text, why_of}
 use Rattle.drc_run.specs.Output.{refusal}
-use Rattle.drc_run.specs.Refusing.{plus_text, digits_text, why_of}
 use Rattle.drc_run.proofs.lines.write_refusal.Goals as goal
 
 two_pieces : (inner : Option ℕ) → plus_text inner ++ digits_text inner ≡ inner_text inner

@@ -2,8 +2,8 @@ use Rattle.std.proofs.Common.{◌≡◌, ◌++◌, codes, decimal, rules, append
 use Rattle.drc_io.proofs.Writing.{Writes-text}
 use Rattle.drc_state.specs.declared.error.EditError.{EditError}
 use Rattle.drc_state.specs.Reasons.{edit_name_of, edit_code_of, edit_reason_of, edit_place_of, edit_inner_place_of}
-use Rattle.drc_run.specs.Texts.{inner_text}
-use Rattle.drc_run.specs.Refusing.{plus_text, digits_text}
+use Rattle.run_texts.specs.Texts.{inner_text}
+use Rattle.run_texts.specs.Refusing.{plus_text, digits_text}
 use Rattle.drc_run.specs.Reports.{why_at, why_edit, refused_behind}
 use Rattle.drc_run.specs.Running.{at_text, inner_behind}
 use Rattle.drc_run.proofs.lines.write_refused_behind.Goals as goal

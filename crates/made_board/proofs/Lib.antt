@@ -1,0 +1,2 @@
+pub mod MadeLines
+pub mod MadeLength

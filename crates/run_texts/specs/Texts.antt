@@ -1,0 +1,179 @@
+-- The texts that a call names, in the order in which they are read, and what each says. A further text is one entry more in each table
+-- here.
+use Rattle.std.specs.Prelude.{◌≡◌, ◌⊎◌, ℕ, ◌<◌, ◌≤◌, List, [], ◌∷◌, ◌++◌, length, codes, decimal, Option, None, Some, Ok, Err, slice_get}
+use Rattle.drc_io.specs.Causes.{Rose}
+use Rattle.drc_io.specs.Files.{IsWhole}
+use Rattle.board_errors.specs.declared.errors.BoardError.{BoardError}
+use Rattle.board_errors.specs.Reasons.{board_reason_of, board_place_of}
+use Rattle.board_items.specs.Boards.{PlainBoard}
+use Rattle.pcb_read.specs.BoardText.{Says as BoardSays}
+use Rattle.net_class.specs.declared.error.ProjectError.{ProjectError}
+use Rattle.net_class.specs.Reasons.{reason_of as project_reason_of, place_of as project_place_of}
+use Rattle.net_class.specs.Classes.{PlainClasses}
+use Rattle.net_class.specs.ProjectText.{Says as ProjectSays}
+use Rattle.rule_text.specs.declared.error.RuleError.{RuleError}
+use Rattle.rule_text.specs.Reasons.{reason_of as rules_reason_of, place_of as rules_place_of, inner_place_of as rules_inner_place_of}
+use Rattle.rule_text.specs.RulesOf.{PlainRules}
+use Rattle.rule_text.specs.RuleText.{Says as RulesSays}
+use Rattle.edit_script.specs.declared.error.ScriptError.{ScriptError}
+use Rattle.edit_script.specs.Reasons.{reason_of as script_reason_of, place_of as script_place_of}
+use Rattle.edit_script.specs.Commands.{PlainCommand, PlainStep, place_of}
+use Rattle.edit_script.specs.ScriptText.{Says as ScriptSays, SaysSteps}
+use Rattle.made_board.specs.MadeBoard.{made_text}
+use Rattle.run_words.specs.Calls.{Source, file, made, Call, nothing, check, undo, try, steal, write}
+use Rattle.run_texts.specs.declared.texts.Which.{Which}
+use Rattle.run_texts.specs.declared.texts.Which.TheVariants.{Board, Project, Rules, Script, Steps, Trials, Text}
+
+-- a text that the words name: which one it is, and where it comes from
+pub record Named : Type 0 where
+  pub which : Which
+  pub source : Source
+
+-- the text of a file
+abbrev pub named : Which → List ℕ → Named
+named which name = record { which = which; source = file name }
+
+-- the text of an option, where the option is given
+abbrev pub optional : Which → Option (List ℕ) → List Named
+optional which None = []
+optional which (Some name) = named which name ∷ []
+
+-- the texts of a call, in their order
+abbrev pub texts_of : Call → List Named
+texts_of (nothing usage) = []
+texts_of (check r) = record { which = Board; source = r.board } ∷ (optional Project r.project ++ (optional Rules r.rules ++ optional Script r.script))
+texts_of (undo board script) = named Board board ∷ named Steps script ∷ []
+texts_of (try board script workers) = named Board board ∷ named Trials script ∷ []
+texts_of (steal board workers) = named Board board ∷ []
+texts_of (write board script) = named Text board ∷ named Script script ∷ []
+
+-- what lines call a text
+abbrev pub word_of : Which → List ℕ
+word_of Board = codes "board"
+word_of Project = codes "project"
+word_of Rules = codes "rules"
+word_of Script = codes "script"
+word_of Steps = codes "script"
+word_of Trials = codes "script"
+word_of Text = codes "board"
+
+-- what a text stands for once it is accepted
+pub data Value : Type 0 where
+  a_board : PlainBoard → Value
+  a_project : PlainClasses → Value
+  a_rules : PlainRules → Value
+  a_script : List PlainCommand → Value
+  some_steps : List PlainStep → Value
+  a_text : List ℕ → Value
+
+-- what a text says: its value, or why it is refused, and where
+pub data Said : Type 0 where
+  accepted : Value → Said
+  refused : List ℕ → Said
+
+-- behind the place of a condition stands the place in what its text stands for. Other refusals have no such place
+abbrev pub inner_text : Option ℕ → List ℕ
+inner_text None = []
+inner_text (Some inner) = codes " + " ++ decimal inner
+
+-- the name and the number of a refusal, and its place, which is a byte of the text
+abbrev pub at_place : List ℕ → ℕ → Option ℕ → List ℕ
+at_place reason at inner = reason ++ codes " at " ++ decimal at ++ inner_text inner
+
+-- a refusal that has a place, as it is written. Want of memory has none: no text is refused for it
+pub record IsWritten (reason : List ℕ) (place inner : Option ℕ) (text : List ℕ) : Type 0 where
+  pub at : ℕ
+  pub has_place : place ≡ Some at
+  pub text_is : text ≡ at_place reason at inner
+
+-- the most commands that are tried
+abbrev pub most_trials : ℕ
+most_trials = 15625
+
+-- a script with more is refused at the first command that is too many
+pub record HasTooMany (commands : List PlainCommand) (why : List ℕ) : Type 0 where
+  pub command : PlainCommand
+  pub stands : slice_get commands most_trials ≡ Some command
+  pub why_is : why ≡ at_place (codes "TooMany (9)") (place_of command) None
+
+-- the reader of scripts refuses the bytes so
+abbrev pub RefusesScript : List ℕ → List ℕ → Type 0
+RefusesScript bytes why = (e : ScriptError) × ScriptSays bytes (Err e) × IsWritten (script_reason_of e) (script_place_of e) None why
+
+-- the script has too many commands to be tried
+abbrev pub RefusesTrials : List ℕ → List ℕ → Type 0
+RefusesTrials bytes why = (commands : List PlainCommand) × ScriptSays bytes (Ok commands) × HasTooMany commands why
+
+-- what the reader of a text finds in its bytes
+abbrev pub ReaderSays : Which → List ℕ → Said → Type 0
+ReaderSays Board bytes (accepted (a_board board)) = BoardSays bytes (Ok board)
+ReaderSays Board bytes (accepted _) = ⊥
+ReaderSays Board bytes (refused why) = (e : BoardError) × BoardSays bytes (Err e) × IsWritten (board_reason_of e) (board_place_of e) None why
+ReaderSays Project bytes (accepted (a_project classes)) = ProjectSays bytes (Ok classes)
+ReaderSays Project bytes (accepted _) = ⊥
+ReaderSays Project bytes (refused why) = (e : ProjectError) × ProjectSays bytes (Err e) × IsWritten (project_reason_of e) (project_place_of e) None why
+ReaderSays Rules bytes (accepted (a_rules rules)) = RulesSays bytes (Ok rules)
+ReaderSays Rules bytes (accepted _) = ⊥
+ReaderSays Rules bytes (refused why) =
+    (e : RuleError) × RulesSays bytes (Err e) × IsWritten (rules_reason_of e) (rules_place_of e) (rules_inner_place_of e) why
+ReaderSays Script bytes (accepted (a_script commands)) = ScriptSays bytes (Ok commands)
+ReaderSays Script bytes (accepted _) = ⊥
+ReaderSays Script bytes (refused why) = RefusesScript bytes why
+ReaderSays Steps bytes (accepted (some_steps steps)) = SaysSteps bytes (Ok steps)
+ReaderSays Steps bytes (accepted _) = ⊥
+ReaderSays Steps bytes (refused why) = (e : ScriptError) × SaysSteps bytes (Err e) × IsWritten (script_reason_of e) (script_place_of e) None why
+ReaderSays Trials bytes (accepted (a_script commands)) = ScriptSays bytes (Ok commands) × (length commands ≤ most_trials)
+ReaderSays Trials bytes (accepted _) = ⊥
+ReaderSays Trials bytes (refused why) = RefusesScript bytes why ⊎ RefusesTrials bytes why
+-- a text that stands for its bytes, where a board is read of them; it is refused as a board is
+ReaderSays Text bytes (accepted (a_text text)) = (text ≡ bytes) × ((board : PlainBoard) × BoardSays bytes (Ok board))
+ReaderSays Text bytes (accepted _) = ⊥
+ReaderSays Text bytes (refused why) = (e : BoardError) × BoardSays bytes (Err e) × IsWritten (board_reason_of e) (board_place_of e) None why
+
+-- the most bytes of a text
+abbrev pub limit : ℕ
+limit = 33554432
+
+abbrev pub too_long : List ℕ
+too_long = at_place (codes "TooLong (0)") 33554432 None
+
+-- a text says that it is too long, or else what its reader finds
+pub data TextSays (which : Which) (bytes : List ℕ) (said : Said) : Type 0 where
+  longer : limit < length bytes → said ≡ refused too_long → TextSays which bytes said
+  read : length bytes ≤ limit → ReaderSays which bytes said → TextSays which bytes said
+
+-- the bytes of a text: what the shelf tells of its file, or else any; or those of the generated board
+abbrev pub AreBytesOf : Option (List (List ℕ × List ℕ)) → Source → List ℕ → Type 0
+AreBytesOf told (file name) bytes = IsWhole told name bytes
+AreBytesOf told (made count) bytes = bytes ≡ made_text count
+
+-- a text, wherever it comes from, says this
+pub record SourceSays (told : Option (List (List ℕ × List ℕ))) (text : Named) (said : Said) : Type 0 where
+  pub bytes : List ℕ
+  pub whole : AreBytesOf told text.source bytes
+  pub says : TextSays text.which bytes said
+
+-- ---- several texts
+
+-- the texts are accepted, each with its value
+abbrev pub AreAccepted : Option (List (List ℕ × List ℕ)) → List Named → List Value → Type 0
+AreAccepted told [] [] = Unit {0}
+AreAccepted told [] (value ∷ values) = ⊥
+AreAccepted told (text ∷ texts) [] = ⊥
+AreAccepted told (text ∷ texts) (value ∷ values) = SourceSays told text (accepted value) × AreAccepted told texts values
+
+-- a text's turn comes: it is among the texts, and those before it are accepted
+pub record IsReached (told : Option (List (List ℕ × List ℕ))) (texts : List Named) (text : Named) : Type 0 where
+  pub before : List Named
+  pub after : List Named
+  pub among : texts ≡ before ++ text ∷ after
+  pub values : List Value
+  pub before_accepted : AreAccepted told before values
+
+-- ---- faults
+
+-- a text was not read: its turn came, and the count of faults of its file rose
+pub record ReadFails (call : Call) (told : Option (List (List ℕ × List ℕ))) (before now : List ℕ → ℕ) (which : Which) : Type 0 where
+  pub name : List ℕ
+  pub reached : IsReached told (texts_of call) (named which name)
+  pub rose : Rose (before name) (now name)
