@@ -1,31 +1,16 @@
--- Boxes that are kept by id, as a list of entries.
-use Rattle.std.proofs.Common.{◌≡◌, ◌≢◌, ◌∙◌, ap, sym, subst, refl, ℕ, ◌<◌, Bool, true, false, cond, not, ◌==◌, nat_lt, List, [], ◌∷◌, ◌++◌, arith}
+-- Boxes that are kept in slots, as a list of entries.
+use Rattle.std.proofs.Common.{◌≡◌, ◌≢◌, ◌∙◌, ap, sym, subst, refl, ℕ, zero, suc, ◌+◌, ◌<◌, ◌≤◌, Bool, true, false, cond, not, ◌==◌, nat_lt, List, [], ◌∷◌, ◌++◌, length, set, get_or, arith}
 use Rattle.std.specs.Prelude.{Option, None, Some, IfSome}
 use Rattle.std.specs.List.{filter, All}
-use Rattle.std.specs.Map.{lookup, remove_entry}
-use Rattle.std.specs.BTreeMap.{insert_entry, is_at}
-use Rattle.std.specs.Ordering.{nat_cmp, match_ordering, is_eq, MatchOrdering}
-use Rattle.std.specs.declared.cmp.Ordering.{Ordering}
-use Rattle.std.specs.declared.cmp.Ordering.TheVariants.{Less, Equal, Greater}
-use Rattle.std.proofs.lemmas.Cmp.{ranked}
-use Rattle.std.proofs.lemmas.List.Elements.{All-head, All-tail, All-cons, All-weaker}
-use Rattle.geo_seg.specs.declared.boxes.Bounds.{Bounds}
+use Rattle.std.proofs.lemmas.List.Elements.{All-nil, All-cons, All-weaker}
 use Rattle.box_index.specs.declared.entry.Entry.{Entry}
-use Rattle.box_index.specs.Tiles.{IsRising, IsAbsent, placed, without}
+use Rattle.box_index.specs.declared.kept.Sides.{Sides}
+use Rattle.box_index.specs.Tiles.{placed, without}
 use Rattle.box_index.specs.Cuts.{IsCut}
-use Rattle.box_index.specs.Kept.{entries_of}
-use Rattle.box_index.proofs.EntryLists.{filter_all, filter_none, pairs_first, pairs_rest, below_true, below_false, same_test, other_test}
+use Rattle.box_index.specs.Kept.{entry_of, entries_from, entries_of}
+use Rattle.box_index.proofs.EntryLists.{filter_all, filter_none, none_at, below_true, below_false, same_test, other_test}
 
-abbrev Kept : Type 0
-Kept = ℕ × Bounds
-
-abbrev entry_of : Kept → Entry
-entry_of kept = record { id = kept.0; bounds = kept.1 }
-
--- ---- an entry put in
-below_first : (e x : Entry) (xs : List Entry) → e.id < x.id → All (λ (y : Entry). x.id < y.id) xs → All (λ (y : Entry). e.id < y.id) (x ∷ xs)
-below_first e x xs l h = All-cons (λ (y : Entry). e.id < y.id) x xs l (All-weaker (λ (y : Entry). x.id < y.id) (λ (y : Entry). e.id < y.id) (λ y m. omega arith) xs h)
-
+-- ---- lists of entries
 before_all : (e : Entry) (xs : List Entry) → All (λ (y : Entry). e.id < y.id) xs → e ∷ xs ≡ placed e xs
 before_all e xs h =
     let low = filter_none (λ (y : Entry). nat_lt y.id e.id) xs (All-weaker (λ (y : Entry). e.id < y.id) (λ (y : Entry). nat_lt y.id e.id ≡ false) (λ y l. below_false _ _ (omega arith)) xs h) in
@@ -40,20 +25,14 @@ after_first e x xs l =
     let f : nat_lt e.id x.id ≡ false = below_false _ _ (omega arith) in
     sym (ap (λ b. cond b (x ∷ filter p xs) (filter p xs) ++ e ∷ filter q (x ∷ xs)) t ∙ ap (λ b. (x ∷ filter p xs) ++ e ∷ cond b (x ∷ filter q xs) (filter q xs)) f)
 
-put_step : (id : ℕ) (box : Bounds) (k : Kept) (ks others : List Kept) (o : Ordering) → MatchOrdering o (id < k.0) (id ≡ k.0) (k.0 < id) → IsRising (entries_of (k ∷ ks)) → IsAbsent id (entries_of (k ∷ ks))
-    → entries_of others ≡ placed (entry_of (id, box)) (entries_of ks) → entries_of (match_ordering o ((id, box) ∷ k ∷ ks) ((k.0, box) ∷ ks) (k ∷ others)) ≡ placed (entry_of (id, box)) (entries_of (k ∷ ks))
-put_step id box k ks others Less l r a h =
-    before_all (entry_of (id, box)) (entries_of (k ∷ ks)) (below_first (entry_of (id, box)) (entry_of k) (entries_of ks) l (pairs_first (λ (x y : Entry). x.id < y.id) (entry_of k) (entries_of ks) r))
-put_step id box k ks others Equal l r a h = absurd (All-head (λ (y : Entry). y.id ≢ id) (entry_of k) (entries_of ks) a (sym l))
-put_step id box k ks others Greater l r a h = ap (λ (ys : List Entry). entry_of k ∷ ys) h ∙ after_first (entry_of (id, box)) (entry_of k) (entries_of ks) l
+in_place : (e x : Entry) (xs : List Entry) → x.id ≡ e.id → placed e xs ≡ placed e (x ∷ xs)
+in_place e x xs h =
+    let p : Entry → Bool = λ y. nat_lt y.id e.id in
+    let q : Entry → Bool = λ y. nat_lt e.id y.id in
+    let t : nat_lt x.id e.id ≡ false = below_false _ _ (omega arith) in
+    let f : nat_lt e.id x.id ≡ false = below_false _ _ (omega arith) in
+    sym (ap (λ b. cond b (x ∷ filter p xs) (filter p xs) ++ e ∷ filter q (x ∷ xs)) t ∙ ap (λ b. filter p xs ++ e ∷ cond b (x ∷ filter q xs) (filter q xs)) f)
 
-pub kept_placed : (id : ℕ) (box : Bounds) (ks : List Kept) → IsRising (entries_of ks) → IsAbsent id (entries_of ks) → entries_of (insert_entry nat_cmp ks id box) ≡ placed (entry_of (id, box)) (entries_of ks)
-kept_placed id box [] r a = refl
-kept_placed id box (k ∷ ks) r a =
-    put_step id box k ks (insert_entry nat_cmp ks id box) (nat_cmp id k.0) (ranked id k.0 (nat_cmp id k.0) refl) r a
-    (kept_placed id box ks (pairs_rest (λ (x y : Entry). x.id < y.id) (entry_of k) (entries_of ks) r) (All-tail (λ (y : Entry). y.id ≢ id) (entry_of k) (entries_of ks) a))
-
--- ---- an entry taken out
 without_first : (id : ℕ) (x : Entry) (xs : List Entry) → id ≡ x.id → All (λ (y : Entry). x.id < y.id) xs → xs ≡ without id (x ∷ xs)
 without_first id x xs e h =
     let test : Entry → Bool = λ y. not (y.id == id) in
@@ -63,49 +42,99 @@ without_first id x xs e h =
 without_later : (id : ℕ) (x : Entry) (xs : List Entry) → x.id ≢ id → x ∷ without id xs ≡ without id (x ∷ xs)
 without_later id x xs n = let test : Entry → Bool = λ y. not (y.id == id) in sym (ap (λ b. cond b (x ∷ filter test xs) (filter test xs)) (same_test _ _ n))
 
-take_step : (id : ℕ) (k : Kept) (ks others : List Kept) (o : Ordering) → MatchOrdering o (id < k.0) (id ≡ k.0) (k.0 < id) → IsRising (entries_of (k ∷ ks)) → entries_of others ≡ without id (entries_of ks)
-    → entries_of (cond (is_eq o) ks (k ∷ others)) ≡ without id (entries_of (k ∷ ks))
-take_step id k ks others Less l r h = ap (λ (ys : List Entry). entry_of k ∷ ys) h ∙ without_later id (entry_of k) (entries_of ks) (omega arith)
-take_step id k ks others Equal l r h = without_first id (entry_of k) (entries_of ks) l (pairs_first (λ (x y : Entry). x.id < y.id) (entry_of k) (entries_of ks) r)
-take_step id k ks others Greater l r h = ap (λ (ys : List Entry). entry_of k ∷ ys) h ∙ without_later id (entry_of k) (entries_of ks) (omega arith)
-
-pub kept_without : (id : ℕ) (ks : List Kept) → IsRising (entries_of ks) → entries_of (remove_entry (is_at (nat_cmp id)) ks) ≡ without id (entries_of ks)
-kept_without id [] r = refl
-kept_without id (k ∷ ks) r =
-    take_step id k ks (remove_entry (is_at (nat_cmp id)) ks) (nat_cmp id k.0) (ranked id k.0 (nat_cmp id k.0) refl) r
-    (kept_without id ks (pairs_rest (λ (x y : Entry). x.id < y.id) (entry_of k) (entries_of ks) r))
-
--- ---- which entry was taken out
-some_same : (a b : Bounds) → Some a ≡ Some b → a ≡ b
-some_same a b h = cc
-
-here_same : (id n : ℕ) (a b : Bounds) (xs : List Entry) → id ≡ n → a ≡ b → entry_of (n, a) ∷ xs ≡ entry_of (id, b) ∷ xs
-here_same id n a b xs e h = cc
-
 later_cut : (x e : Entry) (xs ys : List Entry) → IsCut xs e ys → IsCut (x ∷ xs) e (x ∷ ys)
 later_cut x e xs ys c = record { front = x ∷ c.front; back = c.back; was = ap (λ (zs : List Entry). x ∷ zs) c.was; is = ap (λ (zs : List Entry). x ∷ zs) c.is }
 
-cut_step : (id : ℕ) (box : Bounds) (k : Kept) (ks others : List Kept) (o : Ordering) (found : Option Bounds) → MatchOrdering o (id < k.0) (id ≡ k.0) (k.0 < id) → cond (is_eq o) (Some k.1) found ≡ Some box
-    → (found ≡ Some box → IsCut (entries_of ks) (entry_of (id, box)) (entries_of others)) → IsCut (entries_of (k ∷ ks)) (entry_of (id, box)) (entries_of (cond (is_eq o) ks (k ∷ others)))
-cut_step id box k ks others Less found l h g = later_cut (entry_of k) (entry_of (id, box)) (entries_of ks) (entries_of others) (g h)
-cut_step id box k ks others Equal found l h g = record { front = []; back = entries_of ks; was = here_same id k.0 k.1 box (entries_of ks) l (some_same k.1 box h); is = refl }
-cut_step id box k ks others Greater found l h g = later_cut (entry_of k) (entry_of (id, box)) (entries_of ks) (entries_of others) (g h)
+-- ---- entries of slots
+above : (n : ℕ) (slots : List (Option Sides)) → All (λ (e : Entry). n ≤ e.id) (entries_from n slots)
+unfolding entries_from
+above n [] = All-nil (λ (e : Entry). n ≤ e.id)
+above n (None ∷ slots) = All-weaker (λ (e : Entry). n + 1 ≤ e.id) (λ (e : Entry). n ≤ e.id) (λ e l. omega arith) (entries_from (n + 1) slots) (above (n + 1) slots)
+above n (Some s ∷ slots) =
+    All-cons (λ (e : Entry). n ≤ e.id) (entry_of n s) (entries_from (n + 1) slots) (omega arith)
+    (All-weaker (λ (e : Entry). n + 1 ≤ e.id) (λ (e : Entry). n ≤ e.id) (λ e l. omega arith) (entries_from (n + 1) slots) (above (n + 1) slots))
 
-none_found : (box : Bounds) → None ≡ Some box → ⊥
-none_found box h = cc
+all_above : (n id : ℕ) (slots : List (Option Sides)) → id ≡ n → All (λ (e : Entry). id < e.id) (entries_from (n + 1) slots)
+all_above n id slots h = All-weaker (λ (e : Entry). n + 1 ≤ e.id) (λ (e : Entry). id < e.id) (λ e l. omega arith) (entries_from (n + 1) slots) (above (n + 1) slots)
 
-pub kept_cut : (id : ℕ) (box : Bounds) (ks : List Kept) → lookup (is_at (nat_cmp id)) ks ≡ Some box → IsCut (entries_of ks) (entry_of (id, box)) (entries_of (remove_entry (is_at (nat_cmp id)) ks))
-kept_cut id box [] h = absurd (none_found box h)
-kept_cut id box (k ∷ ks) h =
-    cut_step id box k ks (remove_entry (is_at (nat_cmp id)) ks) (nat_cmp id k.0) (lookup (is_at (nat_cmp id)) ks) (ranked id k.0 (nat_cmp id k.0) refl) h (kept_cut id box ks)
+-- an empty slot more changes nothing
+one_more : (n : ℕ) (slots : List (Option Sides)) → entries_from n (slots ++ None ∷ []) ≡ entries_from n slots
+unfolding entries_from
+one_more n [] = refl
+one_more n (None ∷ slots) = one_more (n + 1) slots
+one_more n (Some s ∷ slots) = ap (λ (es : List Entry). entry_of n s ∷ es) (one_more (n + 1) slots)
 
--- ---- for the code
-pub cut_found : (id : ℕ) (box : Bounds) (ks now : List Kept) (xs : List Entry) (r : Option Entry) → now ≡ remove_entry (is_at (nat_cmp id)) ks → entries_of ks ≡ xs → Some box ≡ lookup (is_at (nat_cmp id)) ks → r ≡ Some (entry_of (id, box))
-    → IfSome r (λ e. IsCut xs e (entries_of now))
-cut_found id box ks now xs r n v f e =
-    subst (λ (o : Option Entry). IfSome o (λ x. IsCut xs x (entries_of now))) (sym e)
-    (subst (λ (ys : List Entry). IsCut ys (entry_of (id, box)) (entries_of now)) v
-    (subst (λ (l : List Kept). IsCut (entries_of ks) (entry_of (id, box)) (entries_of l)) (sym n) (kept_cut id box ks (sym f))))
+pub still : (slots : List (Option Sides)) → entries_of (slots ++ None ∷ []) ≡ entries_of slots
+still slots = one_more 0 slots
 
-pub cut_none : (now xs : List Entry) (r : Option Entry) → r ≡ None → IfSome r (λ e. IsCut xs e now)
-cut_none now xs r e = subst (λ (o : Option Entry). IfSome o (λ x. IsCut xs x now)) (sym e) tt
+-- a box put into a slot
+put_here : (n id : ℕ) (s : Sides) (slots : List (Option Sides)) → id ≡ n → entry_of n s ∷ entries_from (n + 1) slots ≡ placed (entry_of id s) (entries_from (n + 1) slots)
+put_here n id s slots h = ap (λ i. entry_of i s ∷ entries_from (n + 1) slots) (sym h) ∙ before_all (entry_of id s) (entries_from (n + 1) slots) (all_above n id slots h)
+
+put_from : (n id k : ℕ) (s : Sides) (slots : List (Option Sides)) → id ≡ n + k → k < length slots → entries_from n (set slots k (Some s)) ≡ placed (entry_of id s) (entries_from n slots)
+unfolding entries_from
+put_from n id k s [] h l = absurd (omega arith)
+put_from n id zero s (None ∷ slots) h l = put_here n id s slots (omega arith)
+put_from n id zero s (Some t ∷ slots) h l = put_here n id s slots (omega arith) ∙ in_place (entry_of id s) (entry_of n t) (entries_from (n + 1) slots) (omega arith)
+put_from n id (suc k) s (None ∷ slots) h l = put_from (n + 1) id k s slots (omega arith) (omega arith)
+put_from n id (suc k) s (Some t ∷ slots) h l =
+    ap (λ (es : List Entry). entry_of n t ∷ es) (put_from (n + 1) id k s slots (omega arith) (omega arith)) ∙ after_first (entry_of id s) (entry_of n t) (entries_from (n + 1) slots) (omega arith)
+
+pub put_slot : (id : ℕ) (s : Sides) (slots : List (Option Sides)) → id < length slots → entries_of (set slots id (Some s)) ≡ placed (entry_of id s) (entries_of slots)
+put_slot id s slots l = put_from 0 id id s slots (omega arith) l
+
+-- a slot that is emptied
+take_from : (n id k : ℕ) (slots : List (Option Sides)) → id ≡ n + k → entries_from n (set slots k None) ≡ without id (entries_from n slots)
+unfolding entries_from
+take_from n id k [] h = refl
+take_from n id zero (None ∷ slots) h =
+    none_at id (entries_from (n + 1) slots) (All-weaker (λ (e : Entry). id < e.id) (λ (e : Entry). e.id ≢ id) (λ e l. omega arith) (entries_from (n + 1) slots) (all_above n id slots (omega arith)))
+take_from n id zero (Some t ∷ slots) h = without_first id (entry_of n t) (entries_from (n + 1) slots) (omega arith) (all_above n n slots refl)
+take_from n id (suc k) (None ∷ slots) h = take_from (n + 1) id k slots (omega arith)
+take_from n id (suc k) (Some t ∷ slots) h =
+    ap (λ (es : List Entry). entry_of n t ∷ es) (take_from (n + 1) id k slots (omega arith)) ∙ without_later id (entry_of n t) (entries_from (n + 1) slots) (omega arith)
+
+set_past : (slots : List (Option Sides)) (k : ℕ) → length slots ≤ k → set slots k None ≡ slots
+set_past [] k l = refl
+set_past (s ∷ slots) zero l = absurd (omega arith)
+set_past (s ∷ slots) (suc k) l = ap (λ (rest : List (Option Sides)). s ∷ rest) (set_past slots k (omega arith))
+
+pub take_slot : (id : ℕ) (slots : List (Option Sides)) → entries_of (set slots id None) ≡ without id (entries_of slots)
+take_slot id slots = take_from 0 id id slots (omega arith)
+
+pub take_past : (id : ℕ) (slots : List (Option Sides)) → length slots ≤ id → entries_of slots ≡ without id (entries_of slots)
+take_past id slots l = ap entries_of (sym (set_past slots id l)) ∙ take_slot id slots
+
+-- what was in it
+some_same : (a b : Sides) → Some a ≡ Some b → a ≡ b
+some_same a b h = cc
+
+cut_here : (n id : ℕ) (s t : Sides) (es : List Entry) → id ≡ n → t ≡ s → IsCut (entry_of n t ∷ es) (entry_of id s) es
+cut_here n id s t es h e = record { front = []; back = es; was = ap (λ i. entry_of i t ∷ es) (sym h) ∙ ap (λ u. entry_of id u ∷ es) e; is = refl }
+
+cut_from : (n id k : ℕ) (s : Sides) (slots : List (Option Sides)) (d : Option Sides) → id ≡ n + k → k < length slots → get_or slots k d ≡ Some s → IsCut (entries_from n slots) (entry_of id s) (entries_from n (set slots k None))
+unfolding entries_from
+cut_from n id k s [] d h l g = absurd (omega arith)
+cut_from n id zero s (None ∷ slots) d h l g = cc
+cut_from n id zero s (Some t ∷ slots) d h l g = cut_here n id s t (entries_from (n + 1) slots) (omega arith) (some_same t s g)
+cut_from n id (suc k) s (None ∷ slots) d h l g = cut_from (n + 1) id k s slots d (omega arith) (omega arith) g
+cut_from n id (suc k) s (Some t ∷ slots) d h l g =
+    later_cut (entry_of n t) (entry_of id s) (entries_from (n + 1) slots) (entries_from (n + 1) (set slots k None)) (cut_from (n + 1) id k s slots d (omega arith) (omega arith) g)
+
+pub cut_slot : (id : ℕ) (s : Sides) (slots : List (Option Sides)) (d : Option Sides) → id < length slots → get_or slots id d ≡ Some s → IsCut (entries_of slots) (entry_of id s) (entries_of (set slots id None))
+cut_slot id s slots d l g = cut_from 0 id id s slots d (omega arith) l g
+
+none_from : (n k : ℕ) (slots : List (Option Sides)) (d : Option Sides) → get_or slots k d ≡ None → entries_from n (set slots k None) ≡ entries_from n slots
+unfolding entries_from
+none_from n k [] d g = refl
+none_from n zero (None ∷ slots) d g = refl
+none_from n zero (Some t ∷ slots) d g = cc
+none_from n (suc k) (None ∷ slots) d g = none_from (n + 1) k slots d g
+none_from n (suc k) (Some t ∷ slots) d g = ap (λ (es : List Entry). entry_of n t ∷ es) (none_from (n + 1) k slots d g)
+
+pub none_slot : (id : ℕ) (slots : List (Option Sides)) (d : Option Sides) → get_or slots id d ≡ None → entries_of (set slots id None) ≡ entries_of slots
+none_slot id slots d g = none_from 0 id slots d g
+
+pub no_slots : (slots : List (Option Sides)) → slots ≡ [] → entries_of slots ≡ []
+unfolding entries_from
+no_slots slots h = ap entries_of h

@@ -28,10 +28,10 @@ fn have_same_meetings(a: &Facts, b: &Facts) -> bool
 fn have_same_lengths(a: &Facts, b: &Facts) -> bool
     ensures { IsTrue result ↔ HaveSameLengths a.now b.now }
 {
-    a.width == b.width
-        && a.diameter == b.diameter
-        && a.hole == b.hole
-        && a.local == b.local
+    a.width.get() == b.width.get()
+        && a.diameter.get() == b.diameter.get()
+        && a.hole.get() == b.hole.get()
+        && a.local.get() == b.local.get()
         && a.class_clearance == b.class_clearance
 }
 

@@ -3,9 +3,8 @@
 ghost use Rattle.std.specs.Prelude.{◌≡◌, Some};
 ghost use Rattle.rule_pick.specs.FactsOf.{kind_of, width_of, diameter_of, hole_of, is_micro, is_blind, is_edge, is_plated};
 
-use crate::lengths::LengthIf;
 use board_items::{Hole, Item, What};
-use rule_pick::ItemKind;
+use rule_pick::{ItemKind, LengthIf};
 
 pub(crate) fn kind_of(what: &What) -> ItemKind
     ensures { result ≡ kind_of what.now }
@@ -24,44 +23,42 @@ pub(crate) fn kind_of(what: &What) -> ItemKind
 }
 
 pub(crate) fn width_of(item: &Item) -> LengthIf
-    ensures { result.nm ≡ width_of item.now.what }
+    ensures { result ≡ width_of item.now.what }
 {
     match &item.what {
-        What::Track { width } => LengthIf { nm: Some(*width) },
-        _ => LengthIf { nm: None },
+        What::Track { width } => LengthIf::of(Some(*width)),
+        _ => LengthIf::of(None),
     }
 }
 
 pub(crate) fn diameter_of(item: &Item) -> LengthIf
-    ensures { result.nm ≡ diameter_of item.now.what }
+    ensures { result ≡ diameter_of item.now.what }
 {
     match &item.what {
-        What::Via { size, .. } => LengthIf { nm: Some(*size) },
-        _ => LengthIf { nm: None },
+        What::Via { size, .. } => LengthIf::of(Some(*size)),
+        _ => LengthIf::of(None),
     }
 }
 
 fn least_of(hole: &Hole) -> LengthIf
-    ensures { result.nm ≡ Some hole.now.least }
+    ensures { result ≡ Some hole.now.least }
 {
-    LengthIf {
-        nm: Some(hole.least),
-    }
+    LengthIf::of(Some(hole.least))
 }
 
 pub(crate) fn hole_of(item: &Item) -> LengthIf
-    ensures { result.nm ≡ hole_of item.now.what item.now.hole }
+    ensures { result ≡ hole_of item.now.what item.now.hole }
 {
     match (&item.what, &item.hole) {
         (What::Via { .. }, Some(hole)) => least_of(hole),
-        _ => LengthIf { nm: None },
+        _ => LengthIf::of(None),
     }
 }
 
 pub(crate) fn local_of(item: &Item) -> LengthIf
-    ensures { result.nm ≡ item.now.local }
+    ensures { result ≡ item.now.local }
 {
-    LengthIf { nm: item.local }
+    LengthIf::of(item.local)
 }
 
 pub(crate) fn is_micro(what: &What) -> bool

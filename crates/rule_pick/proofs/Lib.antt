@@ -3,3 +3,4 @@ pub mod Later
 pub mod OneFacts
 pub mod OnePick
 pub mod Slots
+pub mod KeptLengths

@@ -4,7 +4,7 @@ use Rattle.std.proofs.Props.{props}
 use Rattle.std.proofs.lemmas.Bool.{cases_eq}
 use Rattle.std.proofs.lemmas.Nat.Bits.{bit_at-lt, same_from_bits}
 use Rattle.std.specs.Int.{bit_at}
-use Rattle.drc_io.specs.Lengths.{IsLength, IsLengthIfSome}
+use Rattle.drc_io.specs.Lengths.{IsLength}
 use Rattle.copper_layers.specs.declared.set.LayerSet.{LayerSet}
 use Rattle.board_items.specs.declared.item.Item.{Item}
 use Rattle.board_items.specs.declared.item.What.{What}
@@ -87,10 +87,6 @@ record Plain : Type 0 where
   courtyards : List (List ℕ)
 
 record InRange (p : Plain) : Type 0 where
-  width : IsLengthIfSome p.width
-  diameter : IsLengthIfSome p.diameter
-  hole : IsLengthIfSome p.hole
-  local : IsLengthIfSome p.local
   class_clearance : IsLength p.class_clearance
 
 in_range-prop : (p : Plain) → IsProp (InRange p)
@@ -116,7 +112,7 @@ plain f = record {
 }
 
 abbrev range : (f : Facts) → InRange (plain f)
-range f = record { width = f.width_in_range; diameter = f.diameter_in_range; hole = f.hole_in_range; local = f.local_in_range; class_clearance = f.class_clearance_in_range }
+range f = record { class_clearance = f.class_clearance_in_range }
 
 abbrev made : (p : Plain) → InRange p → Facts
 made p k = record {
@@ -135,10 +131,6 @@ made p k = record {
   class_clearance = p.class_clearance;
   areas = p.areas;
   courtyards = p.courtyards;
-  width_in_range = k.width;
-  diameter_in_range = k.diameter;
-  hole_in_range = k.hole;
-  local_in_range = k.local;
   class_clearance_in_range = k.class_clearance;
 }
 

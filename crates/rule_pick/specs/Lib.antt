@@ -6,3 +6,4 @@ pub mod FactsOf
 pub mod Reach
 pub mod ById
 pub mod AllFacts
+pub mod KeptLengths

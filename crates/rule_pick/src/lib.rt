@@ -23,6 +23,7 @@ mod values;
 pub use facts::Facts;
 pub use facts_by_id::FactsById;
 pub use kinds::{ItemKind, Source};
+pub use lengths::LengthIf;
 pub use meaning::holds;
 pub use names::Names;
 pub use picked::Picked;

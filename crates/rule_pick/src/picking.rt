@@ -33,7 +33,7 @@ const NO_BANS: Disallow = Disallow {
 fn own_clearance(facts: &Facts) -> Option<Length>
     ensures { option_map (λ l. l.nm) result ≡ facts.now.local }
 {
-    match facts.local {
+    match facts.local.get() {
         None => None,
         Some(nm) => Some(Length { nm }),
     }

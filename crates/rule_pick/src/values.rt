@@ -68,9 +68,9 @@ fn property(prop: Prop, facts: &Facts) -> Value<'_>
         Prop::ItemType => type_of(facts.kind),
         Prop::NetClass => text_if(has_net(facts.kind), facts.class.bytes()),
         Prop::NetName => text_if(has_net(facts.kind), facts.net_name.bytes()),
-        Prop::Width => length_if(facts.width),
-        Prop::Diameter => length_if(facts.diameter),
-        Prop::Hole => length_if(facts.hole),
+        Prop::Width => length_if(facts.width.get()),
+        Prop::Diameter => length_if(facts.diameter.get()),
+        Prop::Hole => length_if(facts.hole.get()),
     }
 }
 
