@@ -106,7 +106,7 @@ fn index_anew(
 // the ids had.
 fn nets_anew<R: Threads + Sync>(
     rt: &R,
-    alloc: Global,
+    workers: u32,
     board: &Board,
     index: &TileIndex,
     nets: &mut [NetPart],
@@ -116,9 +116,10 @@ fn nets_anew<R: Threads + Sync>(
     requires { HoldsItems board.now index.now }
     ensures { (old : PlainBoard) → IsEdit old board.now ids.now → HasNetsOf old ids.now touched.items → AreParts old nets.old → OnOk result (AreParts board.now nets.new) }
 {
+    let alloc = *touched.allocator();
     push_nets(board, ids, &mut touched)?;
     put_in_order(&mut touched);
-    renew_parts(rt, alloc, board, index, nets, &touched)
+    renew_parts(rt, alloc, workers, board, index, nets, &touched)
 }
 
 /// What an edit stirred: the ids of all that changed, rising, the boxes that those of the edit had, and whether the reach is as
@@ -236,7 +237,7 @@ pub(crate) fn edit_board<R: Threads + Sync, G: Gate>(
     )?;
     nets_anew(
         rt,
-        alloc,
+        workers,
         &parts.board,
         &parts.index,
         &mut parts.nets,

@@ -46,7 +46,7 @@ fn open<R: Threads + Sync, G: Gate>(
         classes: &classes,
     };
     let (rows, applied) = check_all(rt, alloc, workers, view, &index, gate)?;
-    let nets = all_parts(rt, alloc, &board, &index)?;
+    let nets = all_parts(rt, alloc, workers, &board, &index)?;
     let parts = Parts {
         board,
         classes,

@@ -5,3 +5,4 @@ mod Plans
 mod Touched
 mod Written
 mod OneParts
+mod OneByOne

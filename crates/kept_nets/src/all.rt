@@ -64,10 +64,12 @@ fn parts_of(alloc: Global, works: Vec<Work>) -> Result<Vec<NetPart>, AllocError>
 }
 
 /// What is found of each declared net but net 0, in the order of the board. The index holds all items of the board that have
-/// bounds. The nets are shared among as many threads as there are processors. Only want of memory refuses it.
+/// bounds. With one worker they are found on the thread of the caller, with more by as many threads as there are processors. Only want
+/// of memory refuses it.
 pub fn all_parts(
     rt: &(impl Threads + Sync),
     alloc: Global,
+    workers: u32,
     board: &Board,
     index: &TileIndex,
 ) -> Result<Vec<NetPart>, AllocError>
@@ -75,6 +77,6 @@ pub fn all_parts(
     ensures { IfOk result (λ parts. AreParts board.now parts.items) }
 {
     let mut works = all_works(alloc, board)?;
-    find_parts(rt, alloc, board, index, &mut works);
+    find_parts(rt, alloc, workers, board, index, &mut works);
     parts_of(alloc, works)
 }

@@ -74,11 +74,13 @@ fn put_parts(parts: &mut [NetPart], mut works: Vec<Work>) -> Result<(), AllocErr
 /// Makes the parts of the nets of a board before an edit those of the board as it is now.
 ///
 /// `nets` are the numbers, rising, of the nets of all items of the edit, as they were and as they are; they may have others, and
-/// net 0. Only parts of these nets are found anew, by as many threads as there are processors; of a single net without one. The
-/// index holds all items of the board that have bounds. Only want of memory fails it, and the parts are then of no use.
+/// net 0. Only parts of these nets are found anew: with one worker on the thread of the caller, with more by as many threads as there
+/// are processors. The index holds all items of the board that have bounds. Only want of memory fails it, and the parts are then of
+/// no use.
 pub fn renew_parts(
     rt: &(impl Threads + Sync),
     alloc: Global,
+    workers: u32,
     board: &Board,
     index: &TileIndex,
     parts: &mut [NetPart],
@@ -89,6 +91,6 @@ pub fn renew_parts(
     ensures { (old : PlainBoard) (ids : List ℕ) → IsEdit old board.now ids → AreTouched old board.now ids nets.now → AreParts old parts.old → OnOk result (AreParts board.now parts.new) }
 {
     let mut works = works_of(alloc, parts, nets)?;
-    find_parts(rt, alloc, board, index, &mut works);
+    find_parts(rt, alloc, workers, board, index, &mut works);
     put_parts(parts, works)
 }

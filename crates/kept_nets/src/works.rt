@@ -1,4 +1,4 @@
-//! Nets whose parts are found side by side.
+//! Nets whose parts are found one after the other or side by side.
 
 ghost use Rattle.std.specs.Prelude.{◌≡◌, IfSome};
 ghost use Rattle.board_index.specs.Holding.{HoldsItems};
@@ -30,11 +30,22 @@ fn find_part(alloc: Global, board: &Board, index: &TileIndex, work: &mut Work)
     work.part = part_of(alloc, board, work.net, index).ok();
 }
 
-/// Finds the parts of these nets, by as many threads as there are processors; of a single net without one. Where there is no net, the
-/// system is not asked for its processors.
+// Finds the parts of these nets, one after the other.
+fn find_each(alloc: Global, board: &Board, index: &TileIndex, works: &mut [Work])
+    requires { HoldsItems board.now index.now }
+    ensures { AreFound board.now works.old works.new }
+{
+    for place in 0..works.len() {
+        find_part(alloc, board, index, &mut works[place]);
+    }
+}
+
+/// Finds the parts of these nets: with one worker, or for a single net, on the thread of the caller, and else by as many threads as
+/// there are processors.
 pub(crate) fn find_parts(
     rt: &(impl Threads + Sync),
     alloc: Global,
+    workers: u32,
     board: &Board,
     index: &TileIndex,
     works: &mut [Work],
@@ -42,11 +53,8 @@ pub(crate) fn find_parts(
     requires { HoldsItems board.now index.now }
     ensures { AreFound board.now works.old works.new }
 {
-    if works.is_empty() {
-        return;
-    }
-    if works.len() == 1 {
-        find_part(alloc, board, index, &mut works[0]);
+    if workers == 1 || works.len() <= 1 {
+        find_each(alloc, board, index, works);
         return;
     }
     par_for_each_mut(
