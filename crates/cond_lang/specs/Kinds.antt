@@ -1,7 +1,27 @@
--- The kinds of what is checked: their numbers and their names.
+-- The kinds of what is checked: how they are broken, their numbers and their names.
 use Rattle.std.specs.Prelude.{ℕ, Bool, true, false, List, codes}
 use Rattle.cond_lang.specs.declared.kind.Kind.{Kind}
 use Rattle.cond_lang.specs.declared.kind.Kind.TheVariants.{Short, Clearance, HoleClearance, HoleToHole, EdgeClearance, CourtyardClearance, Keepout, TrackWidth, ViaDiameter, HoleSize, AnnularWidth, Disallow, PhysicalClearance, PhysicalHoleClearance, Assertion}
+use Rattle.cond_lang.specs.declared.kind.Family.{Family}
+use Rattle.cond_lang.specs.declared.kind.Family.TheVariants.{Meets, Keeps, Limits, Forbids}
+
+-- how a kind is broken: two items meet, or do not keep a distance; a length of a single item breaks a limit, or the item is forbidden
+abbrev pub family : Kind → Family
+family Short = Meets
+family Clearance = Keeps
+family HoleClearance = Keeps
+family HoleToHole = Keeps
+family EdgeClearance = Keeps
+family CourtyardClearance = Keeps
+family Keepout = Meets
+family TrackWidth = Limits
+family ViaDiameter = Limits
+family HoleSize = Limits
+family AnnularWidth = Limits
+family Disallow = Forbids
+family PhysicalClearance = Keeps
+family PhysicalHoleClearance = Keeps
+family Assertion = Forbids
 
 abbrev pub kind_number : Kind → ℕ
 kind_number Short = 1
@@ -38,18 +58,5 @@ kind_name PhysicalHoleClearance = codes "physical_hole_clearance"
 kind_name Assertion = codes "assertion"
 
 abbrev pub is_assertion : Kind → Bool
-is_assertion Short = false
-is_assertion Clearance = false
-is_assertion HoleClearance = false
-is_assertion HoleToHole = false
-is_assertion EdgeClearance = false
-is_assertion CourtyardClearance = false
-is_assertion Keepout = false
-is_assertion TrackWidth = false
-is_assertion ViaDiameter = false
-is_assertion HoleSize = false
-is_assertion AnnularWidth = false
-is_assertion Disallow = false
-is_assertion PhysicalClearance = false
-is_assertion PhysicalHoleClearance = false
 is_assertion Assertion = true
+is_assertion _ = false

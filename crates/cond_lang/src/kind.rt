@@ -1,7 +1,20 @@
 //! The kinds of what is checked.
 
 ghost use Rattle.std.specs.Prelude.{◌≡◌};
-ghost use Rattle.cond_lang.specs.Kinds.{kind_name, kind_number};
+ghost use Rattle.cond_lang.specs.Kinds.{family, is_assertion, kind_name, kind_number};
+
+/// How a kind is broken.
+#[derive(Clone, Copy, Debug, Drop, PartialEq, Eq)]
+pub enum Family {
+    /// Two items meet.
+    Meets,
+    /// Two items do not keep a distance.
+    Keeps,
+    /// A length of a single item is below the least value, or above the greatest.
+    Limits,
+    /// A single item is forbidden: it is banned, or a claim does not hold of it.
+    Forbids,
+}
 
 /// What a rule limits, and what a row says is broken, by the numbers of kinds.
 #[derive(Clone, Copy, Debug, Drop, PartialEq, Eq)]
@@ -34,6 +47,34 @@ pub enum Kind {
 }
 
 impl Kind {
+    /// How it is broken.
+    #[inline(always)]
+    pub fn family(self) -> Family
+        ensures { result ≡ family self }
+    {
+        match self {
+            Kind::Short | Kind::Keepout => Family::Meets,
+            Kind::Clearance
+            | Kind::HoleClearance
+            | Kind::HoleToHole
+            | Kind::EdgeClearance
+            | Kind::CourtyardClearance
+            | Kind::PhysicalClearance
+            | Kind::PhysicalHoleClearance => Family::Keeps,
+            Kind::TrackWidth | Kind::ViaDiameter | Kind::HoleSize | Kind::AnnularWidth => {
+                Family::Limits
+            }
+            Kind::Disallow | Kind::Assertion => Family::Forbids,
+        }
+    }
+
+    /// Whether a condition is claimed of the item.
+    pub fn is_assertion(self) -> bool
+        ensures { result ≡ is_assertion self }
+    {
+        matches!(self, Kind::Assertion)
+    }
+
     /// Its number, from 1 to 15.
     pub fn number(self) -> u32
         ensures { result ≡ kind_number self }

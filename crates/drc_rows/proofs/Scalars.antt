@@ -8,9 +8,15 @@ use Rattle.drc_io.specs.Lengths.{IsLength}
 use Rattle.board_items.specs.declared.item.Item.{Item}
 use Rattle.board_items.specs.Boards.{PlainBoard, is_near, is_on_board, is_admitted, name_of, has_layers_of}
 use Rattle.cond_lang.specs.declared.kind.Kind.{Kind}
-use Rattle.cond_lang.specs.declared.kind.Kind.TheVariants.{Short, Clearance, HoleClearance, HoleToHole, EdgeClearance, CourtyardClearance, Keepout, TrackWidth, ViaDiameter, HoleSize, AnnularWidth, Disallow, PhysicalClearance, PhysicalHoleClearance, Assertion}
+use Rattle.pair_check.specs.declared.subject.Faces.{Faces}
+use Rattle.pair_check.specs.declared.subject.Faces.TheVariants.{Coppers, HolesAndCopper, Holes, EdgesAndCopper, Yards, Areas}
+use Rattle.pair_check.specs.declared.subject.Measure.{Measure}
+use Rattle.pair_check.specs.declared.subject.Measure.TheVariants.{Width, Diameter, Bore, Ring}
+use Rattle.pair_check.specs.declared.subject.Subject.{Subject}
+use Rattle.pair_check.specs.declared.subject.Subject.TheVariants.{Sides, Length, Whole}
 use Rattle.pair_check.specs.declared.layer.RowLayer.TheVariants.{Copper}
-use Rattle.pair_check.specs.PlainRow.{IsLayerOf, IsWithin}
+use Rattle.pair_check.specs.Subjects.{subject_of}
+use Rattle.pair_check.specs.PlainRow.{IsFacedOn, IsMeasuredOn, IsSeenOn, IsLayerOf, IsWithin}
 
 -- a length, as it is passed to a call
 pub length_far : {v : ℤ} → IsLength v → unsigned_abs (passed v) ≤ 1000000000000
@@ -61,21 +67,25 @@ on_board board item h =
 
 -- a copper layer of a row has a name
 pub layer_below : (kind : Kind) (n : ℕ) → IsLayerOf kind (Copper n) → n < 32
-layer_below Short n h = h
-layer_below Clearance n h = h
-layer_below HoleClearance n h = h
-layer_below HoleToHole n h = absurd h
-layer_below EdgeClearance n (inl h) = h
-layer_below EdgeClearance n (inr h) = absurd h
-layer_below CourtyardClearance n h = absurd h
-layer_below Keepout n h = h
-layer_below TrackWidth n h = h
-layer_below ViaDiameter n h = absurd h
-layer_below HoleSize n h = absurd h
-layer_below AnnularWidth n h = absurd h
-layer_below Disallow n (inl h) = h
-layer_below Disallow n (inr h) = absurd h
-layer_below PhysicalClearance n h = h
-layer_below PhysicalHoleClearance n h = h
-layer_below Assertion n (inl h) = h
-layer_below Assertion n (inr h) = absurd h
+layer_below kind n h = by (subject_of kind) h
+  where
+    faced : (faces : Faces) → IsFacedOn faces (Copper n) → n < 32
+    faced Coppers h = h
+    faced HolesAndCopper h = h
+    faced Holes h = absurd h
+    faced EdgesAndCopper (inl h) = h
+    faced EdgesAndCopper (inr h) = absurd h
+    faced Yards h = absurd h
+    faced Areas h = h
+
+    measured : (measure : Measure) → IsMeasuredOn measure (Copper n) → n < 32
+    measured Width h = h
+    measured Diameter h = absurd h
+    measured Bore h = absurd h
+    measured Ring h = absurd h
+
+    by : (subject : Subject) → IsSeenOn subject (Copper n) → n < 32
+    by (Sides faces) h = faced faces h
+    by (Length measure) h = measured measure h
+    by Whole (inl h) = h
+    by Whole (inr h) = absurd h

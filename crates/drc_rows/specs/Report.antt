@@ -8,10 +8,11 @@ use Rattle.board_items.specs.declared.item.Item.{Item}
 use Rattle.copper_layers.specs.Layers.{layer_names}
 use Rattle.board_items.specs.Boards.{PlainBoard, item_at}
 use Rattle.cond_lang.specs.declared.kind.Kind.{Kind}
-use Rattle.cond_lang.specs.declared.kind.Kind.TheVariants.{Short, Keepout, TrackWidth, ViaDiameter, HoleSize, AnnularWidth, Disallow, Assertion}
+use Rattle.cond_lang.specs.declared.kind.Family.{Family}
+use Rattle.cond_lang.specs.declared.kind.Family.TheVariants.{Meets, Keeps, Limits, Forbids}
 use Rattle.cond_lang.specs.declared.rule.Severity.{Severity}
 use Rattle.cond_lang.specs.declared.rule.Severity.TheVariants.{Error, Warning, Ignore, Exclusion}
-use Rattle.cond_lang.specs.Kinds.{kind_name}
+use Rattle.cond_lang.specs.Kinds.{family, kind_name}
 use Rattle.cond_lang.specs.Rules.{PlainRule}
 use Rattle.rule_pick.specs.declared.kinds.Source.{Source}
 use Rattle.rule_pick.specs.declared.kinds.Source.TheVariants.{Default, Local, Rule}
@@ -77,14 +78,14 @@ abbrev pub pair_text : PlainBoard → PlainRow → List ℕ
 pair_text board row = single_text board row ++ codes " | " ++ text_of (item_at board.items row.second)
 
 -- what breaks it: limits, bans and claims are broken by one item, the others by two
+abbrev pub items_by : Family → PlainBoard → PlainRow → List ℕ
+items_by Meets board row = pair_text board row
+items_by Keeps board row = pair_text board row
+items_by Limits board row = single_text board row
+items_by Forbids board row = single_text board row
+
 abbrev pub items_text : Kind → PlainBoard → PlainRow → List ℕ
-items_text TrackWidth board row = single_text board row
-items_text ViaDiameter board row = single_text board row
-items_text HoleSize board row = single_text board row
-items_text AnnularWidth board row = single_text board row
-items_text Disallow board row = single_text board row
-items_text Assertion board row = single_text board row
-items_text _ board row = pair_text board row
+items_text kind board row = items_by (family kind) board row
 
 -- the name of a rule. Where a rule asks, it is always there
 abbrev pub rule_name : Option PlainRule → List ℕ
@@ -115,16 +116,14 @@ limit_word false = codes "least"
 limit_word true = codes "most"
 
 -- what is asked for and what there is: nothing where two items may not meet, and no lengths where there is a ban or a claim
+abbrev pub measures_by : Family → List PlainRule → PlainRow → List ℕ
+measures_by Meets rules row = []
+measures_by Keeps rules row = measured_text (codes "needs") rules row
+measures_by Limits rules row = measured_text (limit_word row.over) rules row
+measures_by Forbids rules row = asked_text rules row
+
 abbrev pub measures : Kind → List PlainRule → PlainRow → List ℕ
-measures Short rules row = []
-measures Keepout rules row = []
-measures TrackWidth rules row = measured_text (limit_word row.over) rules row
-measures ViaDiameter rules row = measured_text (limit_word row.over) rules row
-measures HoleSize rules row = measured_text (limit_word row.over) rules row
-measures AnnularWidth rules row = measured_text (limit_word row.over) rules row
-measures Disallow rules row = asked_text rules row
-measures Assertion rules row = asked_text rules row
-measures _ rules row = measured_text (codes "needs") rules row
+measures kind rules row = measures_by (family kind) rules row
 
 -- the line of a row of the board, which was checked by these rules
 unfoldable pub row_line : PlainBoard → List PlainRule → PlainRow → List ℕ

@@ -14,7 +14,7 @@ use crate::line::Line;
 use crate::millimetres::Millimetres;
 use crate::pieces::{push_all, push_quoted};
 use board_items::Board;
-use cond_lang::{Kind, Rule, Severity};
+use cond_lang::{Family, Rule, Severity};
 use copper_layers::layer_name;
 use drc_io::{Failed, Sink};
 use itoa::Buffer;
@@ -76,14 +76,9 @@ fn push_items<W: Sink>(line: &mut Line, out: &mut W, board: &Board, row: &Row) -
     requires { HasItems board.now row.now }
     ensures { Puts (W.written out.old) (W.written out.new) (W.faults out.old) (W.faults out.new) line.old (items_text row.now.kind board.now row.now) line.new result }
 {
-    match row.kind() {
-        Kind::TrackWidth
-        | Kind::ViaDiameter
-        | Kind::HoleSize
-        | Kind::AnnularWidth
-        | Kind::Disallow
-        | Kind::Assertion => push_first(line, out, board, row),
-        _ => push_pair(line, out, board, row),
+    match row.kind().family() {
+        Family::Meets | Family::Keeps => push_pair(line, out, board, row),
+        Family::Limits | Family::Forbids => push_first(line, out, board, row),
     }
 }
 
@@ -169,13 +164,11 @@ fn push_measures<W: Sink>(
     requires { HasSource (map plain_rule rules.now) row.now }
     ensures { Puts (W.written out.old) (W.written out.new) (W.faults out.old) (W.faults out.new) line.old (measures row.now.kind (map plain_rule rules.now) row.now) line.new result }
 {
-    match row.kind() {
-        Kind::Short | Kind::Keepout => Ok(()),
-        Kind::Disallow | Kind::Assertion => push_asked(line, out, rules, row),
-        Kind::TrackWidth | Kind::ViaDiameter | Kind::HoleSize | Kind::AnnularWidth => {
-            push_measured(line, out, limit_word(row.over()), rules, row)
-        }
-        _ => push_measured(line, out, b"needs", rules, row),
+    match row.kind().family() {
+        Family::Meets => Ok(()),
+        Family::Keeps => push_measured(line, out, b"needs", rules, row),
+        Family::Limits => push_measured(line, out, limit_word(row.over()), rules, row),
+        Family::Forbids => push_asked(line, out, rules, row),
     }
 }
 

@@ -12,7 +12,7 @@ ghost use Rattle.item_facts.specs.Raised.{IsRaised};
 
 use crate::lengths::Length;
 use board_items::{Board, Item, Nm};
-use cond_lang::{Constraint, Kind, Rule};
+use cond_lang::{Constraint, Family, Kind, Rule};
 use net_class::{Classes, Mins};
 
 // The greater of the two.
@@ -25,15 +25,9 @@ fn raised(n: Length, nm: Length) -> Length
 fn is_between_two(kind: Kind) -> bool
     ensures { result ≡ is_between_two kind }
 {
-    match kind {
-        Kind::Clearance
-        | Kind::HoleClearance
-        | Kind::HoleToHole
-        | Kind::EdgeClearance
-        | Kind::CourtyardClearance
-        | Kind::PhysicalClearance
-        | Kind::PhysicalHoleClearance => true,
-        _ => false,
+    match kind.family() {
+        Family::Keeps => true,
+        Family::Meets | Family::Limits | Family::Forbids => false,
     }
 }
 

@@ -12,11 +12,12 @@ use Rattle.board_items.specs.declared.item.What.TheVariants as what
 use Rattle.board_items.specs.declared.item.Item.{Item}
 use Rattle.net_class.specs.Classes.{PlainMins}
 use Rattle.cond_lang.specs.declared.kind.Kind.{Kind}
-use Rattle.cond_lang.specs.declared.kind.Kind.TheVariants.{HoleClearance, HoleToHole, EdgeClearance, Disallow, PhysicalClearance, PhysicalHoleClearance, Assertion}
+use Rattle.cond_lang.specs.declared.kind.Kind.TheVariants.{Clearance, HoleClearance, HoleToHole, EdgeClearance, CourtyardClearance, PhysicalClearance, PhysicalHoleClearance}
+use Rattle.cond_lang.specs.declared.kind.Family.TheVariants.{Forbids as Forbidding}
 use Rattle.cond_lang.specs.declared.rule.Disallow.{Disallow as Bans}
 use Rattle.cond_lang.specs.declared.constraint.Constraint.{Constraint}
 use Rattle.cond_lang.specs.declared.constraints.Rule.{Rule}
-use Rattle.cond_lang.specs.Kinds.{kind_number}
+use Rattle.cond_lang.specs.Kinds.{family, kind_number, is_assertion}
 use Rattle.cond_lang.specs.Rules.{PlainConstraint, PlainRule, plain_constraint, plain_rule}
 use Rattle.rule_pick.specs.declared.facts.Facts.{Facts}
 use Rattle.rule_pick.specs.Deciding.{minimum, is_clearance, greater_if, local_if, class_clearance_if, local_of, asked_by, no_bans, IsPick}
@@ -25,8 +26,8 @@ use Rattle.pair_check.specs.declared.layer.RowLayer.{RowLayer}
 use Rattle.pair_check.specs.Layers.{asked_layer}
 use Rattle.pair_check.specs.Asked.{asks, some_asks, has_default, AsksNothing}
 use Rattle.pair_check.specs.Pairs.{Deciders, Pair, IsNearAt}
-use Rattle.pair_check.specs.Singles.{bans_what, bans_item, Forbids, IsForbiddenAt}
-use Rattle.pair_check.specs.Stages.{is_courtyard, is_ban}
+use Rattle.pair_check.specs.Singles.{bans_what, bans_item, ForbidsBy, Forbids, IsForbiddenAt}
+use Rattle.pair_check.specs.Stages.{is_courtyard}
 use Rattle.pair_check.proofs.NearLayers.{not_near, kept_none}
 use Rattle.pair_check.proofs.NearPicks.{at_has}
 
@@ -70,19 +71,11 @@ zero_of : (z : ℤ) → not (int_eq z (pos 0)) ≡ false → z ≡ pos 0
 zero_of z e = grind (arith, ints, e)
 
 clear_of : (mins : PlainMins) (kind : Kind) → has_default mins kind ≡ false → is_clearance kind ≡ false
-clear_of mins HoleClearance e = refl
-clear_of mins HoleToHole e = refl
-clear_of mins EdgeClearance e = refl
-clear_of mins PhysicalClearance e = refl
-clear_of mins PhysicalHoleClearance e = refl
-clear_of mins _ e = absurd (cc)
+clear_of mins Clearance e = absurd (cc)
+clear_of mins _ e = refl
 
 yard_of : (mins : PlainMins) (kind : Kind) → has_default mins kind ≡ false → is_courtyard kind ≡ true → ⊥
-yard_of mins HoleClearance e f = absurd (cc)
-yard_of mins HoleToHole e f = absurd (cc)
-yard_of mins EdgeClearance e f = absurd (cc)
-yard_of mins PhysicalClearance e f = absurd (cc)
-yard_of mins PhysicalHoleClearance e f = absurd (cc)
+yard_of mins CourtyardClearance e f = absurd (cc)
 yard_of mins _ e f = absurd (cc)
 
 least_of : (mins : PlainMins) (kind : Kind) → has_default mins kind ≡ false → (micro : Bool) → minimum mins micro kind ≡ pos 0
@@ -127,17 +120,18 @@ no_ban_item : (item : Item) → bans_item no_bans item ≡ false
 no_ban_item item = or_false (bans_what no_bans item.what) (is_some item.hole && false) (no_ban_of item.what) (and_false (is_some item.hole))
 
 allows : (kind : Kind) (pick : Pick) (item : Item) → pick.bans ≡ no_bans → pick.holds ≡ true → ¬ (Forbids kind pick item)
-allows Disallow pick item e f h = let none = ap (λ (b : Bans). bans_item b item) e ∙ no_ban_item item in cc
-allows Assertion pick item e f h = cc
-allows _ pick item e f h = h
+allows kind pick item e f h = by (is_assertion kind) h
+  where
+    by : (claims : Bool) → ForbidsBy claims pick item → ⊥
+    by true h = cc
+    by false h = let none = ap (λ (b : Bans). bans_item b item) e ∙ no_ban_item item in cc
 
-ban_unclear : (kind : Kind) → IsTrue (is_ban kind) → is_clearance kind ≡ false
-ban_unclear Disallow m = refl
-ban_unclear Assertion m = refl
-ban_unclear _ m = absurd (cc)
+ban_unclear : (kind : Kind) → family kind ≡ Forbidding → is_clearance kind ≡ false
+ban_unclear Clearance e = absurd (cc)
+ban_unclear _ e = refl
 
 -- without a rule that asks for it a kind forbids nothing
-pub forbids_nothing : (rules : List Rule) (mins : PlainMins) (kind : Kind) → IsTrue (is_ban kind) → some_asks kind rules ≡ false → (item : Item) (facts : Facts) (layer : RowLayer) (copper : LayerSet)
+pub forbids_nothing : (rules : List Rule) (mins : PlainMins) (kind : Kind) → family kind ≡ Forbidding → some_asks kind rules ≡ false → (item : Item) (facts : Facts) (layer : RowLayer) (copper : LayerSet)
     → ¬ (IsForbiddenAt (record { copper = copper; mins = mins; rules = map plain_rule rules }) kind item facts layer)
 forbids_nothing rules mins kind m asked item facts layer copper is = by is.picked
   where

@@ -10,34 +10,41 @@ use Rattle.copper_layers.specs.declared.set.LayerSet.{LayerSet}
 use Rattle.board_items.specs.declared.item.Item.{Item}
 use Rattle.board_items.specs.Copper.{SomeMeet, Keeps}
 use Rattle.cond_lang.specs.declared.kind.Kind.{Kind}
-use Rattle.cond_lang.specs.declared.kind.Kind.TheVariants.{Short, Clearance, HoleClearance, HoleToHole, EdgeClearance, CourtyardClearance, Keepout, PhysicalClearance, PhysicalHoleClearance}
+use Rattle.cond_lang.specs.declared.kind.Kind.TheVariants.{CourtyardClearance}
+use Rattle.pair_check.specs.declared.subject.Faces.{Faces}
+use Rattle.pair_check.specs.declared.subject.Faces.TheVariants.{Coppers, HolesAndCopper, Holes, EdgesAndCopper, Yards, Areas}
+use Rattle.pair_check.specs.declared.subject.Subject.{Subject}
+use Rattle.pair_check.specs.declared.subject.Subject.TheVariants.{Sides, Length, Whole}
 use Rattle.pair_check.specs.declared.layer.RowLayer.{RowLayer}
 use Rattle.pair_check.specs.declared.layer.RowLayer.TheVariants.{Copper, FrontYard, BackYard, Nowhere}
-use Rattle.pair_check.specs.PlainRow.{IsLayerOf}
+use Rattle.pair_check.specs.Subjects.{subject_of}
+use Rattle.pair_check.specs.PlainRow.{IsFacedOn, IsSeenOn, IsLayerOf}
 use Rattle.pair_check.specs.Layers.{IsTried}
-use Rattle.pair_check.specs.Facing.{Facing, facings, MeetAt, KeepAt, TooNear}
+use Rattle.pair_check.specs.Facing.{Facing, faced, facings_in, facings, MeetAt, KeepAt, TooNear}
 use Rattle.pair_check.specs.Stages.{is_courtyard}
 
 -- ---- layers
 
 -- something faces something only on the layers that the kind can have
-pub faces_on : (copper : LayerSet) (kind : Kind) (layer : RowLayer) (a b : Item) → IsTried copper layer → IsLayerOf kind layer ⊎ (facings kind layer a b ≡ [])
-unfolding facings
-faces_on copper Short (Copper n) a b is = inl is.below
-faces_on copper Clearance (Copper n) a b is = inl is.below
-faces_on copper HoleClearance (Copper n) a b is = inl is.below
-faces_on copper PhysicalClearance (Copper n) a b is = inl is.below
-faces_on copper PhysicalHoleClearance (Copper n) a b is = inl is.below
-faces_on copper Keepout (Copper n) a b is = inl is.below
-faces_on copper EdgeClearance (Copper n) a b is = inl (inl is.below)
-faces_on copper EdgeClearance Nowhere a b is = inl (inr tt)
-faces_on copper HoleToHole Nowhere a b is = inl tt
-faces_on copper CourtyardClearance FrontYard a b is = inl tt
-faces_on copper CourtyardClearance BackYard a b is = inl tt
-faces_on copper Short FrontYard a b is = inr refl
-faces_on copper Short BackYard a b is = inr refl
-faces_on copper Short Nowhere a b is = inr refl
+pub faces_on : (copper : LayerSet) (faces : Faces) (layer : RowLayer) (a b : Item) → IsTried copper layer → IsFacedOn faces layer ⊎ (faced faces layer a b ≡ [])
+faces_on copper Coppers (Copper n) a b is = inl is.below
+faces_on copper HolesAndCopper (Copper n) a b is = inl is.below
+faces_on copper EdgesAndCopper (Copper n) a b is = inl (inl is.below)
+faces_on copper EdgesAndCopper Nowhere a b is = inl (inr tt)
+faces_on copper Areas (Copper n) a b is = inl is.below
+faces_on copper Holes Nowhere a b is = inl tt
+faces_on copper Yards FrontYard a b is = inl tt
+faces_on copper Yards BackYard a b is = inl tt
 faces_on copper _ _ a b is = inr refl
+
+sees_on : (copper : LayerSet) (kind : Kind) (layer : RowLayer) (a b : Item) → IsTried copper layer → IsLayerOf kind layer ⊎ (facings kind layer a b ≡ [])
+unfolding facings
+sees_on copper kind layer a b is = by (subject_of kind)
+  where
+    by : (subject : Subject) → IsSeenOn subject layer ⊎ (facings_in subject layer a b ≡ [])
+    by (Sides faces) = faces_on copper faces layer a b is
+    by (Length measure) = inr refl
+    by Whole = inr refl
 
 nothing_meets : (fs : List Facing) → fs ≡ [] → Any (λ (f : Facing). SomeMeet f.own f.others) fs → ⊥
 nothing_meets fs e m = none (subst (λ (l : List Facing). Any (λ (f : Facing). SomeMeet f.own f.others) l) e m)
@@ -49,7 +56,7 @@ all_keeps : (fs : List Facing) (v : ℤ) → fs ≡ [] → All (λ (f : Facing).
 all_keeps fs v e = subst (λ (l : List Facing). All (λ (f : Facing). Keeps f.own f.others v) l) (sym e) (λ k d h. absurd (omega arith))
 
 pub meeting_layer : (copper : LayerSet) (kind : Kind) (layer : RowLayer) (a b : Item) → IsTried copper layer → MeetAt kind layer a b → IsLayerOf kind layer
-meeting_layer copper kind layer a b is m = by (faces_on copper kind layer a b is)
+meeting_layer copper kind layer a b is m = by (sees_on copper kind layer a b is)
   where
     by : IsLayerOf kind layer ⊎ (facings kind layer a b ≡ []) → IsLayerOf kind layer
     by (inl l) = l
@@ -72,7 +79,7 @@ not_near CourtyardClearance layer a b v k m (inr n) = n k
 not_near _ layer a b v k m n = n k
 
 pub near_layer : (copper : LayerSet) (kind : Kind) (layer : RowLayer) (a b : Item) (v : ℤ) → IsTried copper layer → TooNear kind layer a b v → IsLayerOf kind layer
-near_layer copper kind layer a b v is n = by (faces_on copper kind layer a b is)
+near_layer copper kind layer a b v is n = by (sees_on copper kind layer a b is)
   where
     by : IsLayerOf kind layer ⊎ (facings kind layer a b ≡ []) → IsLayerOf kind layer
     by (inl l) = l

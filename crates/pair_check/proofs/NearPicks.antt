@@ -11,7 +11,7 @@ use Rattle.board_items.specs.declared.item.Item.{Item}
 use Rattle.board_items.specs.Boards.{PlainBoard, item_at, name_of}
 use Rattle.net_class.specs.Classes.{PlainClass, PlainClasses, PlainMins, PlainPattern, class_named, pattern_of, class_by, class_of}
 use Rattle.cond_lang.specs.declared.kind.Kind.{Kind}
-use Rattle.cond_lang.specs.declared.kind.Kind.TheVariants.{Short, Clearance, HoleClearance, HoleToHole, EdgeClearance, CourtyardClearance, Keepout, TrackWidth, ViaDiameter, HoleSize, AnnularWidth, Disallow, PhysicalClearance, PhysicalHoleClearance, Assertion}
+use Rattle.cond_lang.specs.declared.kind.Kind.TheVariants.{Clearance, HoleClearance, HoleToHole, EdgeClearance, CourtyardClearance, PhysicalClearance, PhysicalHoleClearance}
 use Rattle.cond_lang.specs.Kinds.{kind_number}
 use Rattle.cond_lang.specs.Rules.{PlainConstraint, PlainRule}
 use Rattle.rule_pick.specs.declared.facts.Facts.{Facts}
@@ -19,6 +19,7 @@ use Rattle.rule_pick.specs.FactsOf.{class_of_name, class_of_net, AreFactsOf}
 use Rattle.rule_pick.specs.Deciding.{minimum, greater_if, local_of, asked_by, IsDeciding, default_least, class_clearance_if, is_clearance, asked_least, IsPick}
 use Rattle.rule_pick.specs.Picks.{Pick}
 use Rattle.rule_pick.specs.Reach.{is_between_two, distance_asked, distances_of, clearances_of, least_distances, one_if, local_clearances, IsReach}
+use Rattle.pair_check.proofs.KindRows.{same_number}
 
 -- ---- lists
 front_of_all : {X : Type 0} (P : X → Type 0) (xs ys : List X) → All P (xs ++ ys) → All P xs
@@ -85,28 +86,8 @@ greater_at_most n (Some x) (Some y) h k nm e = let is : int_max x y ≡ nm = som
     some_same x y e = cc
 
 -- ---- kinds
-abbrev is_between : ℕ → Bool
-is_between number = (number == 2) || (number == 3) || (number == 4) || (number == 5) || (number == 6) || (number == 13) || (number == 14)
-
-between_is : (kind : Kind) → is_between_two kind ≡ is_between (kind_number kind)
-between_is Short = refl
-between_is Clearance = refl
-between_is HoleClearance = refl
-between_is HoleToHole = refl
-between_is EdgeClearance = refl
-between_is CourtyardClearance = refl
-between_is Keepout = refl
-between_is TrackWidth = refl
-between_is ViaDiameter = refl
-between_is HoleSize = refl
-between_is AnnularWidth = refl
-between_is Disallow = refl
-between_is PhysicalClearance = refl
-between_is PhysicalHoleClearance = refl
-between_is Assertion = refl
-
 between_same : (k l : Kind) → IsTrue (kind_number k == kind_number l) → is_between_two l ≡ true → is_between_two k ≡ true
-between_same k l e between = between_is k ∙ ap is_between (exact_unsigned_eq (kind_number k) (kind_number l) e) ∙ sym (between_is l) ∙ between
+between_same k l e between = subst (λ (kind : Kind). is_between_two kind ≡ true) (sym (same_number k l (exact_unsigned_eq (kind_number k) (kind_number l) e))) between
 
 -- ---- what the reach bounds
 module _ (board : PlainBoard) (classes : PlainClasses) (rules : List PlainRule) (n : ℤ) (reach : IsReach board classes rules n) where
@@ -193,14 +174,7 @@ module _ (board : PlainBoard) (classes : PlainClasses) (rules : List PlainRule) 
   minimum_at_most some micro CourtyardClearance e = some
   minimum_at_most some micro PhysicalClearance e = some
   minimum_at_most some micro PhysicalHoleClearance e = some
-  minimum_at_most some micro Short e = absurd (cc)
-  minimum_at_most some micro Keepout e = absurd (cc)
-  minimum_at_most some micro TrackWidth e = absurd (cc)
-  minimum_at_most some micro ViaDiameter e = absurd (cc)
-  minimum_at_most some micro HoleSize e = absurd (cc)
-  minimum_at_most some micro AnnularWidth e = absurd (cc)
-  minimum_at_most some micro Disallow e = absurd (cc)
-  minimum_at_most some micro Assertion e = absurd (cc)
+  minimum_at_most some micro _ e = absurd (cc)
 
   -- ---- what is picked
   module _ (a b : Facts) (local_a : AtMostIf n a.local) (local_b : AtMostIf n b.local) (class_a : a.class_clearance ≤ℤ n) (class_b : b.class_clearance ≤ℤ n) (some : pos 0 ≤ℤ n) where

@@ -4,16 +4,22 @@ use Rattle.std.proofs.lemmas.Int.{ints}
 use Rattle.board_items.specs.declared.item.Item.{Item}
 use Rattle.geo_seg.specs.Distances.{IsGap}
 use Rattle.cond_lang.specs.declared.kind.Kind.{Kind}
-use Rattle.cond_lang.specs.declared.kind.Kind.TheVariants.{Short, Clearance, HoleClearance, HoleToHole, EdgeClearance, CourtyardClearance, Keepout, TrackWidth, ViaDiameter, HoleSize, AnnularWidth, Disallow, PhysicalClearance, PhysicalHoleClearance, Assertion}
+use Rattle.cond_lang.specs.declared.kind.Family.{Family}
+use Rattle.cond_lang.specs.declared.kind.Family.TheVariants.{Meets, Keeps, Limits, Forbids}
+use Rattle.cond_lang.specs.Kinds.{family}
 use Rattle.rule_pick.specs.declared.facts.Facts.{Facts}
 use Rattle.rule_pick.specs.Picks.{Pick}
 use Rattle.rule_pick.proofs.OnePick.{one_pick}
+use Rattle.pair_check.specs.declared.subject.Measure.TheVariants.{Width, Diameter, Bore, Ring}
+use Rattle.pair_check.specs.declared.subject.Subject.{Subject}
+use Rattle.pair_check.specs.declared.subject.Subject.TheVariants.{Sides, Length, Whole}
 use Rattle.pair_check.specs.declared.layer.RowLayer.{RowLayer}
+use Rattle.pair_check.specs.Subjects.{subject_of}
 use Rattle.pair_check.specs.PlainRow.{PlainRow}
 use Rattle.pair_check.specs.Layers.{IsFirst, asked_layer}
 use Rattle.pair_check.specs.Facing.{MeetAt, KeepAt}
-use Rattle.pair_check.specs.Pairs.{Deciders, Pair, IsPickOf, IsNearAt, SaysMeeting, SaysNear, Breaks}
-use Rattle.pair_check.specs.Singles.{IsPickAlone, IsOffAt, IsForbiddenAt, length_of, times, BreaksLimit, IsQuotient, SaysLimit, SaysForbidden, BreaksAlone}
+use Rattle.pair_check.specs.Pairs.{Deciders, Pair, IsPickOf, IsNearAt, SaysMeeting, SaysNear, BreaksBy, Breaks}
+use Rattle.pair_check.specs.Singles.{IsPickAlone, IsOffAt, IsForbiddenAt, length_of, times_in, times, BreaksLimit, IsQuotient, SaysLimit, SaysForbidden, BreaksAloneBy, BreaksAlone}
 use Rattle.pair_check.proofs.TriedLayers.{first_once}
 
 -- ---- numbers
@@ -54,8 +60,15 @@ quotient_by_two n g h p q =
     let d = q.to in omega (arith, ints)
 
 one_quotient : (kind : Kind) (n g h : ℤ) → IsQuotient n (times kind) g → IsQuotient n (times kind) h → g ≡ h
-one_quotient AnnularWidth n g h p q = quotient_by_two n g h p q
-one_quotient _ n g h p q = quotient_by_one n g h p q
+one_quotient kind n g h p q = by (subject_of kind) p q
+  where
+    by : (subject : Subject) → IsQuotient n (times_in subject) g → IsQuotient n (times_in subject) h → g ≡ h
+    by (Length Ring) p q = quotient_by_two n g h p q
+    by (Length Width) p q = quotient_by_one n g h p q
+    by (Length Diameter) p q = quotient_by_one n g h p q
+    by (Length Bore) p q = quotient_by_one n g h p q
+    by (Sides faces) p q = quotient_by_one n g h p q
+    by Whole p q = quotient_by_one n g h p q
 
 -- ---- rows
 
@@ -101,16 +114,13 @@ module _ (d : Deciders) (pair : Pair) (kind : Kind) (r s : PlainRow) (alike : Ar
       (p.severity ∙ ap (λ (k : Pick). k.severity) pick ∙ sym q.severity)
 
 pub broken_once : (d : Deciders) (pair : Pair) (kind : Kind) (r s : PlainRow) → AreAlike r s → Breaks d kind pair r → Breaks d kind pair s → r ≡ s
-broken_once d pair Short r s alike p q = meeting_once d pair Short r s alike p q
-broken_once d pair Keepout r s alike p q = meeting_once d pair Keepout r s alike p q
-broken_once d pair Clearance r s alike p q = near_once d pair Clearance r s alike p q
-broken_once d pair HoleClearance r s alike p q = near_once d pair HoleClearance r s alike p q
-broken_once d pair HoleToHole r s alike p q = near_once d pair HoleToHole r s alike p q
-broken_once d pair EdgeClearance r s alike p q = near_once d pair EdgeClearance r s alike p q
-broken_once d pair CourtyardClearance r s alike p q = near_once d pair CourtyardClearance r s alike p q
-broken_once d pair PhysicalClearance r s alike p q = near_once d pair PhysicalClearance r s alike p q
-broken_once d pair PhysicalHoleClearance r s alike p q = near_once d pair PhysicalHoleClearance r s alike p q
-broken_once d pair _ r s alike p q = absurd p
+broken_once d pair kind r s alike p q = by (family kind) p q
+  where
+    by : (f : Family) → BreaksBy f d kind pair r → BreaksBy f d kind pair s → r ≡ s
+    by Meets p q = meeting_once d pair kind r s alike p q
+    by Keeps p q = near_once d pair kind r s alike p q
+    by Limits p q = absurd p
+    by Forbids p q = absurd p
 
 -- ---- a single item
 
@@ -157,10 +167,10 @@ module _ (d : Deciders) (item : Item) (facts : Facts) (kind : Kind) (r s : Plain
       (p.severity ∙ ap (λ (k : Pick). k.severity) pick ∙ sym q.severity)
 
 pub broken_alone_once : (d : Deciders) (item : Item) (facts : Facts) (kind : Kind) (r s : PlainRow) → AreAlike r s → BreaksAlone d kind item facts r → BreaksAlone d kind item facts s → r ≡ s
-broken_alone_once d item facts TrackWidth r s alike p q = limit_once d item facts TrackWidth r s alike p q
-broken_alone_once d item facts ViaDiameter r s alike p q = limit_once d item facts ViaDiameter r s alike p q
-broken_alone_once d item facts HoleSize r s alike p q = limit_once d item facts HoleSize r s alike p q
-broken_alone_once d item facts AnnularWidth r s alike p q = limit_once d item facts AnnularWidth r s alike p q
-broken_alone_once d item facts Disallow r s alike p q = forbidden_once d item facts Disallow r s alike p q
-broken_alone_once d item facts Assertion r s alike p q = forbidden_once d item facts Assertion r s alike p q
-broken_alone_once d item facts _ r s alike p q = absurd p
+broken_alone_once d item facts kind r s alike p q = by (family kind) p q
+  where
+    by : (f : Family) → BreaksAloneBy f d kind item facts r → BreaksAloneBy f d kind item facts s → r ≡ s
+    by Meets p q = absurd p
+    by Keeps p q = absurd p
+    by Limits p q = limit_once d item facts kind r s alike p q
+    by Forbids p q = forbidden_once d item facts kind r s alike p q

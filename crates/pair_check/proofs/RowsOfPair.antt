@@ -1,22 +1,23 @@
 -- The rows of a pair, kind by kind.
-use Rattle.std.proofs.Common.{◌≡◌, Bool, ◌⊎◌, inl, inr, refl, sym, subst, ◌∙◌, ℕ, ◌+◌, ◌<◌, pos, false, IsTrue, Option, Some, List, [], ◌∷◌, ◌++◌, arith}
+use Rattle.std.proofs.Common.{◌≡◌, Bool, ◌⊎◌, inl, inr, refl, sym, subst, ◌∙◌, ℕ, ◌+◌, ◌<◌, ◌≤◌, pos, false, IsTrue, Option, Some, List, [], ◌∷◌, ◌++◌, arith}
 use Rattle.board_items.specs.declared.item.Item.{Item}
 use Rattle.board_items.specs.Boards.{item_at}
 use Rattle.cond_lang.specs.declared.kind.Kind.{Kind}
-use Rattle.cond_lang.specs.declared.kind.Kind.TheVariants.{Short, Clearance, HoleClearance, HoleToHole, EdgeClearance, CourtyardClearance, Keepout, TrackWidth, ViaDiameter, HoleSize, AnnularWidth, Disallow, PhysicalClearance, PhysicalHoleClearance, Assertion}
+use Rattle.cond_lang.specs.declared.kind.Kind.TheVariants.{Short, Clearance, HoleClearance, HoleToHole, EdgeClearance, CourtyardClearance, Keepout, PhysicalClearance, PhysicalHoleClearance}
 use Rattle.cond_lang.specs.declared.rule.Severity.TheVariants.{Error}
-use Rattle.cond_lang.specs.Kinds.{kind_number}
+use Rattle.cond_lang.specs.declared.kind.Family.{Family}
+use Rattle.cond_lang.specs.declared.kind.Family.TheVariants.{Meets, Keeps}
+use Rattle.cond_lang.specs.Kinds.{family, kind_number}
 use Rattle.rule_pick.specs.declared.facts.Facts.{Facts}
 use Rattle.rule_pick.specs.declared.kinds.Source.TheVariants.{Default}
 use Rattle.rule_pick.specs.FactsOf.{AreFactsOf}
-use Rattle.rule_pick.specs.Reach.{is_between_two}
 use Rattle.rule_pick.proofs.OneFacts.{one_facts}
 use Rattle.pair_check.specs.declared.layer.RowLayer.{RowLayer}
-use Rattle.pair_check.specs.PlainRow.{PlainRow, IsOfTwo, AreInOrder}
+use Rattle.pair_check.specs.PlainRow.{PlainRow, AreOrdered, AreInOrder}
 use Rattle.pair_check.specs.Layers.{IsFirst}
 use Rattle.pair_check.specs.Compared.{is_compared}
 use Rattle.pair_check.specs.Facing.{MeetAt}
-use Rattle.pair_check.specs.Pairs.{Deciders, Pair, DoMeet, SaysMeeting, SaysNear, Breaks}
+use Rattle.pair_check.specs.Pairs.{Deciders, Pair, DoMeet, SaysMeeting, SaysNear, BreaksBy, Breaks}
 use Rattle.pair_check.specs.Asked.{AsksNothing}
 use Rattle.pair_check.specs.Rows.{Checked, deciders, Stands, IsRowOfTwo, AreRowsWhere, AreRowsOfPair}
 use Rattle.pair_check.specs.Stages.{IsOfPair, IsOfKind, IsBelow, AreRowsBelow}
@@ -26,54 +27,24 @@ use Rattle.pair_check.proofs.OneRow.{AreAlike, broken_once}
 
 -- ---- kinds of two
 
-pub two_of_meeting : (kind : Kind) → (kind ≡ Short) ⊎ (kind ≡ Keepout) → IsOfTwo kind
-two_of_meeting kind (inl e) = subst IsOfTwo (sym e) tt
-two_of_meeting kind (inr e) = subst IsOfTwo (sym e) tt
+pub meeting_in_order : (kind : Kind) (first second : ℕ) → family kind ≡ Meets → first < second → AreInOrder kind first second
+meeting_in_order kind first second e lt = subst (λ (f : Family). AreOrdered f first second) (sym e) lt
 
-pub two_of_measured : (kind : Kind) → IsTrue (is_between_two kind) → IsOfTwo kind
-two_of_measured TrackWidth m = absurd (cc)
-two_of_measured ViaDiameter m = absurd (cc)
-two_of_measured HoleSize m = absurd (cc)
-two_of_measured AnnularWidth m = absurd (cc)
-two_of_measured Disallow m = absurd (cc)
-two_of_measured Assertion m = absurd (cc)
-two_of_measured _ m = tt
-
-pub in_order : (kind : Kind) (first second : ℕ) → IsOfTwo kind → first < second → AreInOrder kind first second
-in_order TrackWidth first second two lt = absurd two
-in_order ViaDiameter first second two lt = absurd two
-in_order HoleSize first second two lt = absurd two
-in_order AnnularWidth first second two lt = absurd two
-in_order Disallow first second two lt = absurd two
-in_order Assertion first second two lt = absurd two
-in_order _ first second two lt = lt
+pub near_in_order : (kind : Kind) (first second : ℕ) → family kind ≡ Keeps → first < second → AreInOrder kind first second
+near_in_order kind first second e lt = subst (λ (f : Family). AreOrdered f first second) (sym e) lt
 
 module _ (d : Deciders) (pair : Pair) where
-  pub breaks_meeting : (kind : Kind) (row : PlainRow) → (kind ≡ Short) ⊎ (kind ≡ Keepout) → SaysMeeting d kind pair row → Breaks d kind pair row
-  breaks_meeting Short row m says = says
-  breaks_meeting Keepout row m says = says
-  breaks_meeting _ row (inl e) says = absurd (cc)
-  breaks_meeting _ row (inr e) says = absurd (cc)
+  pub breaks_meeting : (kind : Kind) (row : PlainRow) → family kind ≡ Meets → SaysMeeting d kind pair row → Breaks d kind pair row
+  breaks_meeting kind row e says = subst (λ (f : Family). BreaksBy f d kind pair row) (sym e) says
 
-  pub breaks_near : (kind : Kind) (row : PlainRow) → IsTrue (is_between_two kind) → SaysNear d kind pair row → Breaks d kind pair row
-  breaks_near Clearance row m says = says
-  breaks_near HoleClearance row m says = says
-  breaks_near HoleToHole row m says = says
-  breaks_near EdgeClearance row m says = says
-  breaks_near CourtyardClearance row m says = says
-  breaks_near PhysicalClearance row m says = says
-  breaks_near PhysicalHoleClearance row m says = says
-  breaks_near _ row m says = absurd (cc)
+  pub says_meeting : (kind : Kind) (row : PlainRow) → family kind ≡ Meets → Breaks d kind pair row → SaysMeeting d kind pair row
+  says_meeting kind row e broken = subst (λ (f : Family). BreaksBy f d kind pair row) e broken
 
-  pub says_near : (kind : Kind) (row : PlainRow) → IsTrue (is_between_two kind) → Breaks d kind pair row → SaysNear d kind pair row
-  says_near Clearance row m broken = broken
-  says_near HoleClearance row m broken = broken
-  says_near HoleToHole row m broken = broken
-  says_near EdgeClearance row m broken = broken
-  says_near CourtyardClearance row m broken = broken
-  says_near PhysicalClearance row m broken = broken
-  says_near PhysicalHoleClearance row m broken = broken
-  says_near _ row m broken = absurd (cc)
+  pub breaks_near : (kind : Kind) (row : PlainRow) → family kind ≡ Keeps → SaysNear d kind pair row → Breaks d kind pair row
+  breaks_near kind row e says = subst (λ (f : Family). BreaksBy f d kind pair row) (sym e) says
+
+  pub says_near : (kind : Kind) (row : PlainRow) → family kind ≡ Keeps → Breaks d kind pair row → SaysNear d kind pair row
+  says_near kind row e broken = subst (λ (f : Family). BreaksBy f d kind pair row) e broken
 
 -- ---- rows of one pair
 
@@ -100,7 +71,7 @@ module _ (d : Deciders) (pair : Pair) (first second : ℕ) where
   pair_without kind rows none r = without_row (IsOfPair d pair first second) first second (λ s h. (h.first_is, h.second_is)) kind rows none r
 
   -- nothing is asked of the kind
-  pub pair_unasked : (kind : Kind) (rows : List PlainRow) → IsTrue (is_between_two kind) → AsksNothing d kind → AreRowsBelow (IsOfPair d pair first second) (kind_number kind) rows
+  pub pair_unasked : (kind : Kind) (rows : List PlainRow) → family kind ≡ Keeps → AsksNothing d kind → AreRowsBelow (IsOfPair d pair first second) (kind_number kind) rows
       → AreRowsBelow (IsOfPair d pair first second) (kind_number kind + 1) rows
   pair_unasked kind rows m nothing r =
       pair_without kind rows
@@ -109,7 +80,7 @@ module _ (d : Deciders) (pair : Pair) (first second : ℕ) where
       nothing.none pair row.layer says.where_first.holds) r
 
   -- the pair is not compared for the kind
-  pub pair_uncompared : (kind : Kind) (rows : List PlainRow) → IsTrue (is_between_two kind) → is_compared kind pair.a pair.b ≡ false → AreRowsBelow (IsOfPair d pair first second) (kind_number kind) rows
+  pub pair_uncompared : (kind : Kind) (rows : List PlainRow) → family kind ≡ Keeps → is_compared kind pair.a pair.b ≡ false → AreRowsBelow (IsOfPair d pair first second) (kind_number kind) rows
       → AreRowsBelow (IsOfPair d pair first second) (kind_number kind + 1) rows
   pair_uncompared kind rows m other r =
       pair_without kind rows
@@ -156,47 +127,42 @@ module _ (d : Deciders) (pair : Pair) (first second : ℕ) where
 
   -- ---- the whole
 
-  -- no pair breaks the kinds of single items
-  below_of : (kind : Kind) (row : PlainRow) → Breaks d kind pair row → kind_number kind < 13 → kind_number kind < 8
-  below_of Short row h lt = omega arith
-  below_of Clearance row h lt = omega arith
-  below_of HoleClearance row h lt = omega arith
-  below_of HoleToHole row h lt = omega arith
-  below_of EdgeClearance row h lt = omega arith
-  below_of CourtyardClearance row h lt = omega arith
-  below_of Keepout row h lt = omega arith
-  below_of PhysicalClearance row h lt = absurd (omega arith)
-  below_of PhysicalHoleClearance row h lt = absurd (omega arith)
-  below_of _ row h lt = absurd h
+  -- the numbers of the kinds that two items break
+  number_of : (kind : Kind) (row : PlainRow) → Breaks d kind pair row → ((1 ≤ kind_number kind) × (kind_number kind < 8)) ⊎ ((13 ≤ kind_number kind) × (kind_number kind < 15))
+  number_of Short row h = inl (omega arith, omega arith)
+  number_of Clearance row h = inl (omega arith, omega arith)
+  number_of HoleClearance row h = inl (omega arith, omega arith)
+  number_of HoleToHole row h = inl (omega arith, omega arith)
+  number_of EdgeClearance row h = inl (omega arith, omega arith)
+  number_of CourtyardClearance row h = inl (omega arith, omega arith)
+  number_of Keepout row h = inl (omega arith, omega arith)
+  number_of PhysicalClearance row h = inr (omega arith, omega arith)
+  number_of PhysicalHoleClearance row h = inr (omega arith, omega arith)
+  number_of _ row h = absurd h
+
+  not_first : (n : ℕ) → ((1 ≤ n) × (n < 8)) ⊎ ((13 ≤ n) × (n < 15)) → n < 1 → ⊥
+  not_first n (inl h) lt = let from = h.0 in omega arith
+  not_first n (inr h) lt = let from = h.0 in omega arith
+
+  before_singles : (n : ℕ) → ((1 ≤ n) × (n < 8)) ⊎ ((13 ≤ n) × (n < 15)) → n < 13 → n < 8
+  before_singles n (inl h) lt = h.1
+  before_singles n (inr h) lt = let from = h.0 in absurd (omega arith)
+
+  before_last : (n : ℕ) → ((1 ≤ n) × (n < 8)) ⊎ ((13 ≤ n) × (n < 15)) → n < 15
+  before_last n (inl h) = let to = h.1 in omega arith
+  before_last n (inr h) = h.1
 
   pub past_singles : (rows : List PlainRow) → AreRowsBelow (IsOfPair d pair first second) 8 rows → AreRowsBelow (IsOfPair d pair first second) 13 rows
   past_singles rows r =
       passes (IsBelow (IsOfPair d pair first second) 8) (IsBelow (IsOfPair d pair first second) 13) rows (λ row h. let lt = h.below in record { is = h.is; below = omega arith })
-      (λ row h. record { is = h.is; below = below_of row.kind row h.is.broken h.below }) r
-
-  number_of : (kind : Kind) (row : PlainRow) → Breaks d kind pair row → kind_number kind < 15
-  number_of Short row h = omega arith
-  number_of Clearance row h = omega arith
-  number_of HoleClearance row h = omega arith
-  number_of HoleToHole row h = omega arith
-  number_of EdgeClearance row h = omega arith
-  number_of CourtyardClearance row h = omega arith
-  number_of Keepout row h = omega arith
-  number_of PhysicalClearance row h = omega arith
-  number_of PhysicalHoleClearance row h = omega arith
-  number_of _ row h = absurd h
+      (λ row h. record { is = h.is; below = before_singles (kind_number row.kind) (number_of row.kind row h.is.broken) h.below }) r
 
   pub all_of_pair : (rows : List PlainRow) → AreRowsBelow (IsOfPair d pair first second) 15 rows → AreRowsWhere (IsOfPair d pair first second) rows
   all_of_pair rows r =
-      passes (IsBelow (IsOfPair d pair first second) 15) (IsOfPair d pair first second) rows (λ row h. h.is) (λ row h. record { is = h; below = number_of row.kind row h.broken }) r
-
-  least_number : (kind : Kind) → kind_number kind < 1 → ⊥
-  least_number Short lt = omega arith
-  least_number Clearance lt = omega arith
-  least_number _ lt = omega arith
+      passes (IsBelow (IsOfPair d pair first second) 15) (IsOfPair d pair first second) rows (λ row h. h.is) (λ row h. record { is = h; below = before_last (kind_number row.kind) (number_of row.kind row h.broken) }) r
 
   pub none_below : (row : PlainRow) → ¬ (IsBelow (IsOfPair d pair first second) 1 row)
-  none_below row h = least_number row.kind h.below
+  none_below row h = not_first (kind_number row.kind) (number_of row.kind row h.is.broken) h.below
 
 -- ---- rows of the board
 

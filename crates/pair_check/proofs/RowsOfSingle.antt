@@ -7,64 +7,67 @@ use Rattle.board_items.specs.declared.item.What.TheVariants as what
 use Rattle.board_items.specs.declared.item.Item.{Item}
 use Rattle.cond_lang.specs.declared.kind.Kind.{Kind}
 use Rattle.cond_lang.specs.declared.kind.Kind.TheVariants.{TrackWidth, ViaDiameter, HoleSize, AnnularWidth, Disallow, Assertion}
-use Rattle.cond_lang.specs.Kinds.{kind_number}
+use Rattle.cond_lang.specs.declared.kind.Family.{Family}
+use Rattle.cond_lang.specs.declared.kind.Family.TheVariants.{Limits, Forbids}
+use Rattle.cond_lang.specs.Kinds.{family, kind_number}
 use Rattle.copper_layers.specs.Layers.{has_layer}
 use Rattle.rule_pick.specs.FactsOf.{SomeOn}
 use Rattle.rule_pick.specs.declared.facts.Facts.{Facts}
+use Rattle.pair_check.specs.declared.subject.Measure.{Measure}
+use Rattle.pair_check.specs.declared.subject.Measure.TheVariants.{Width, Diameter, Bore, Ring}
+use Rattle.pair_check.specs.declared.subject.Subject.{Subject}
+use Rattle.pair_check.specs.declared.subject.Subject.TheVariants.{Sides, Length, Whole}
 use Rattle.pair_check.specs.declared.layer.RowLayer.{RowLayer}
 use Rattle.pair_check.specs.declared.layer.RowLayer.TheVariants.{Copper, FrontYard, BackYard, Nowhere}
-use Rattle.pair_check.specs.PlainRow.{PlainRow, AreInOrder, IsLayerOf, IsCopper, IsNowhere}
+use Rattle.pair_check.specs.Subjects.{subject_of}
+use Rattle.pair_check.specs.PlainRow.{PlainRow, AreOrdered, AreInOrder, IsMeasuredOn, IsSeenOn, IsLayerOf, IsCopper, IsNowhere}
 use Rattle.pair_check.specs.Layers.{rank, IsTried}
-use Rattle.pair_check.specs.Singles.{LiesAt, IsAskedAt, IsMeasuredAt, SaysLimit, SaysForbidden, BreaksAlone}
+use Rattle.pair_check.specs.Singles.{LiesAt, IsAskedAt, IsOnCopper, IsMeasuredBy, IsMeasuredIn, IsMeasuredAt, SaysLimit, SaysForbidden, BreaksAloneBy, BreaksAlone}
 use Rattle.pair_check.specs.Pairs.{Deciders}
 use Rattle.pair_check.specs.Rows.{Checked, deciders, Stands, IsRowOfOne, AreRowsWhere, AreRowsOfItem}
-use Rattle.pair_check.specs.Stages.{is_limit, is_ban, IsOfSingle, IsOfKind, IsBelow, AreRowsBelow}
+use Rattle.pair_check.specs.Stages.{IsOfSingle, IsOfKind, IsBelow, AreRowsBelow}
 use Rattle.pair_check.proofs.KindRows.{with_row, without_row, no_rows, passes}
 use Rattle.pair_check.proofs.OneRow.{AreAlike, broken_alone_once}
 use Rattle.pair_check.proofs.RowsOfPair.{item_once, facts_once}
 
 -- ---- kinds of one
 
-pub limit_in_order : (kind : Kind) (id : ℕ) → IsTrue (is_limit kind) → AreInOrder kind id id
-limit_in_order TrackWidth id m = refl
-limit_in_order ViaDiameter id m = refl
-limit_in_order HoleSize id m = refl
-limit_in_order AnnularWidth id m = refl
-limit_in_order _ id m = absurd (cc)
+pub limit_in_order : (kind : Kind) (id : ℕ) → family kind ≡ Limits → AreInOrder kind id id
+limit_in_order kind id e = subst (λ (f : Family). AreOrdered f id id) (sym e) refl
 
-pub ban_in_order : (kind : Kind) (id : ℕ) → IsTrue (is_ban kind) → AreInOrder kind id id
-ban_in_order Disallow id m = refl
-ban_in_order Assertion id m = refl
-ban_in_order _ id m = absurd (cc)
+pub ban_in_order : (kind : Kind) (id : ℕ) → family kind ≡ Forbids → AreInOrder kind id id
+ban_in_order kind id e = subst (λ (f : Family). AreOrdered f id id) (sym e) refl
 
 nowhere : (layer : RowLayer) → layer ≡ Nowhere → IsNowhere layer
 nowhere layer e = subst IsNowhere (sym e) tt
 
-pub limit_layer : (copper : LayerSet) (kind : Kind) (item : Item) (layer : RowLayer) → IsTrue (is_limit kind) → IsTried copper layer → IsMeasuredAt kind item layer → IsLayerOf kind layer
-limit_layer copper TrackWidth item (Copper n) m is at = is.below
-limit_layer copper TrackWidth item FrontYard m is at = absurd at
-limit_layer copper TrackWidth item BackYard m is at = absurd at
-limit_layer copper TrackWidth item Nowhere m is at = absurd at
-limit_layer copper ViaDiameter item layer m is at = nowhere layer at
-limit_layer copper HoleSize item layer m is at = nowhere layer at
-limit_layer copper AnnularWidth item layer m is at = nowhere layer at
-limit_layer copper _ item layer m is at = absurd (cc)
+on_copper : (copper : LayerSet) (parts : List Part) (layer : RowLayer) → IsTried copper layer → IsOnCopper parts layer → IsCopper layer
+on_copper copper parts (Copper n) is at = is.below
+on_copper copper parts _ is at = absurd at
+
+measured_on : (copper : LayerSet) (measure : Measure) (item : Item) (layer : RowLayer) → IsTried copper layer → IsMeasuredBy measure item layer → IsMeasuredOn measure layer
+measured_on copper Width item layer is at = on_copper copper item.copper layer is at
+measured_on copper Diameter item layer is at = nowhere layer at
+measured_on copper Bore item layer is at = nowhere layer at
+measured_on copper Ring item layer is at = nowhere layer at
+
+measured_in : (copper : LayerSet) (subject : Subject) (item : Item) (layer : RowLayer) → IsTried copper layer → IsMeasuredIn subject item layer → IsSeenOn subject layer
+measured_in copper (Sides faces) item layer is at = absurd at
+measured_in copper (Length measure) item layer is at = measured_on copper measure item layer is at
+measured_in copper Whole item layer is at = absurd at
+
+pub limit_layer : (copper : LayerSet) (kind : Kind) (item : Item) (layer : RowLayer) → IsTried copper layer → IsMeasuredAt kind item layer → IsLayerOf kind layer
+limit_layer copper kind item layer is at = measured_in copper (subject_of kind) item layer is at
 
 -- where the layers of the copper have places from the one to before the other, the width of a track is measured on such places
 pub width_within : (item : Item) (parts : List Part) (set : LayerSet) (from to : ℕ) → item.copper ≡ parts → ((layer : ℕ) → SomeOn layer parts → IsTrue (has_layer set layer))
-    → ((layer : ℕ) → IsTrue (has_layer set layer) → (from ≤ layer) × (layer < to)) → (layer : RowLayer) → IsMeasuredAt TrackWidth item layer → (from ≤ rank layer) × (rank layer < to)
+    → ((layer : ℕ) → IsTrue (has_layer set layer) → (from ≤ layer) × (layer < to)) → (layer : RowLayer) → IsOnCopper item.copper layer → (from ≤ rank layer) × (rank layer < to)
 width_within item parts set from to same each places (Copper n) at = places n (each n (subst (λ (ps : List Part). SomeOn n ps) same at))
-width_within item parts set from to same each places FrontYard at = absurd at
-width_within item parts set from to same each places BackYard at = absurd at
-width_within item parts set from to same each places Nowhere at = absurd at
+width_within item parts set from to same each places _ at = absurd at
 
 -- the other lengths are measured on none
-pub none_within : (kind : Kind) (item : Item) → IsTrue (is_limit kind) → ¬ (kind ≡ TrackWidth) → (layer : RowLayer) → IsMeasuredAt kind item layer → (34 ≤ rank layer) × (rank layer < 35)
-none_within TrackWidth item m other layer at = absurd (other refl)
-none_within ViaDiameter item m other layer at = let e = ap rank at in (omega arith, omega arith)
-none_within HoleSize item m other layer at = let e = ap rank at in (omega arith, omega arith)
-none_within AnnularWidth item m other layer at = let e = ap rank at in (omega arith, omega arith)
-none_within _ item m other layer at = absurd (cc)
+pub none_within : (layer : RowLayer) → layer ≡ Nowhere → (34 ≤ rank layer) × (rank layer < 35)
+none_within layer at = let e = ap rank at in (omega arith, omega arith)
 
 lies_layer : (copper : LayerSet) (parts : List Part) (layer : RowLayer) → IsTried copper layer → LiesAt parts layer → IsCopper layer ⊎ IsNowhere layer
 lies_layer copper parts (Copper n) is at = inl is.below
@@ -84,42 +87,33 @@ side_layer copper on_back Nowhere is e = inr tt
 side_layer copper on_back FrontYard is e = absurd (no_yard on_back FrontYard (inl refl) e)
 side_layer copper on_back BackYard is e = absurd (no_yard on_back BackYard (inr refl) e)
 
-asked_at : (copper : LayerSet) (item : Item) (w : What) (layer : RowLayer) → IsTried copper layer → IsAskedAt item w layer → IsCopper layer ⊎ IsNowhere layer
+pub asked_at : (copper : LayerSet) (item : Item) (w : What) (layer : RowLayer) → IsTried copper layer → IsAskedAt item w layer → IsCopper layer ⊎ IsNowhere layer
 asked_at copper item (what.Body reference front back on_back) layer is at = side_layer copper on_back layer is at
 asked_at copper item (what.Edge lines) layer is at = absurd at
 asked_at copper item (what.Area title bans shape) layer is at = absurd at
 asked_at copper item (what.Note about at_layer) layer is at = absurd at
 asked_at copper item _ layer is at = lies_layer copper item.copper layer is at
 
-pub ban_layer : (copper : LayerSet) (kind : Kind) (item : Item) (layer : RowLayer) → IsTrue (is_ban kind) → IsTried copper layer → IsAskedAt item item.what layer → IsLayerOf kind layer
-ban_layer copper Disallow item layer m is at = asked_at copper item item.what layer is at
-ban_layer copper Assertion item layer m is at = asked_at copper item item.what layer is at
-ban_layer copper _ item layer m is at = absurd (cc)
+whole_of : (kind : Kind) → family kind ≡ Forbids → subject_of kind ≡ Whole
+whole_of Disallow e = refl
+whole_of Assertion e = refl
+whole_of _ e = absurd (cc)
+
+pub ban_layer : (copper : LayerSet) (kind : Kind) (item : Item) (layer : RowLayer) → family kind ≡ Forbids → IsTried copper layer → IsAskedAt item item.what layer → IsLayerOf kind layer
+ban_layer copper kind item layer e is at = subst (λ (s : Subject). IsSeenOn s layer) (sym (whole_of kind e)) (asked_at copper item item.what layer is at)
 
 module _ (d : Deciders) (item : Item) (facts : Facts) where
-  pub breaks_limit : (kind : Kind) (row : PlainRow) → IsTrue (is_limit kind) → SaysLimit d kind item facts row → BreaksAlone d kind item facts row
-  breaks_limit TrackWidth row m says = says
-  breaks_limit ViaDiameter row m says = says
-  breaks_limit HoleSize row m says = says
-  breaks_limit AnnularWidth row m says = says
-  breaks_limit _ row m says = absurd (cc)
+  pub breaks_limit : (kind : Kind) (row : PlainRow) → family kind ≡ Limits → SaysLimit d kind item facts row → BreaksAlone d kind item facts row
+  breaks_limit kind row e says = subst (λ (f : Family). BreaksAloneBy f d kind item facts row) (sym e) says
 
-  pub says_limit : (kind : Kind) (row : PlainRow) → IsTrue (is_limit kind) → BreaksAlone d kind item facts row → SaysLimit d kind item facts row
-  says_limit TrackWidth row m broken = broken
-  says_limit ViaDiameter row m broken = broken
-  says_limit HoleSize row m broken = broken
-  says_limit AnnularWidth row m broken = broken
-  says_limit _ row m broken = absurd (cc)
+  pub says_limit : (kind : Kind) (row : PlainRow) → family kind ≡ Limits → BreaksAlone d kind item facts row → SaysLimit d kind item facts row
+  says_limit kind row e broken = subst (λ (f : Family). BreaksAloneBy f d kind item facts row) e broken
 
-  pub breaks_ban : (kind : Kind) (row : PlainRow) → IsTrue (is_ban kind) → SaysForbidden d kind item facts row → BreaksAlone d kind item facts row
-  breaks_ban Disallow row m says = says
-  breaks_ban Assertion row m says = says
-  breaks_ban _ row m says = absurd (cc)
+  pub breaks_ban : (kind : Kind) (row : PlainRow) → family kind ≡ Forbids → SaysForbidden d kind item facts row → BreaksAlone d kind item facts row
+  breaks_ban kind row e says = subst (λ (f : Family). BreaksAloneBy f d kind item facts row) (sym e) says
 
-  pub says_ban : (kind : Kind) (row : PlainRow) → IsTrue (is_ban kind) → BreaksAlone d kind item facts row → SaysForbidden d kind item facts row
-  says_ban Disallow row m broken = broken
-  says_ban Assertion row m broken = broken
-  says_ban _ row m broken = absurd (cc)
+  pub says_ban : (kind : Kind) (row : PlainRow) → family kind ≡ Forbids → BreaksAlone d kind item facts row → SaysForbidden d kind item facts row
+  says_ban kind row e broken = subst (λ (f : Family). BreaksAloneBy f d kind item facts row) e broken
 
 -- ---- rows of one item
 
@@ -142,44 +136,39 @@ module _ (d : Deciders) (item : Item) (facts : Facts) (id : ℕ) where
 
   -- ---- the whole
 
-  first_number : (kind : Kind) (row : PlainRow) → BreaksAlone d kind item facts row → kind_number kind < 8 → ⊥
-  first_number TrackWidth row h lt = omega arith
-  first_number ViaDiameter row h lt = omega arith
-  first_number HoleSize row h lt = omega arith
-  first_number AnnularWidth row h lt = omega arith
-  first_number Disallow row h lt = omega arith
-  first_number Assertion row h lt = omega arith
-  first_number _ row h lt = h
+  -- the numbers of the kinds that a single item breaks
+  number_of : (kind : Kind) (row : PlainRow) → BreaksAlone d kind item facts row → ((8 ≤ kind_number kind) × (kind_number kind < 13)) ⊎ (kind_number kind ≡ 15)
+  number_of TrackWidth row h = inl (omega arith, omega arith)
+  number_of ViaDiameter row h = inl (omega arith, omega arith)
+  number_of HoleSize row h = inl (omega arith, omega arith)
+  number_of AnnularWidth row h = inl (omega arith, omega arith)
+  number_of Disallow row h = inl (omega arith, omega arith)
+  number_of Assertion row h = inr refl
+  number_of _ row h = absurd h
+
+  not_first : (n : ℕ) → ((8 ≤ n) × (n < 13)) ⊎ (n ≡ 15) → n < 8 → ⊥
+  not_first n (inl h) lt = let from = h.0 in omega arith
+  not_first n (inr e) lt = omega arith
+
+  before_pairs : (n : ℕ) → ((8 ≤ n) × (n < 13)) ⊎ (n ≡ 15) → n < 15 → n < 13
+  before_pairs n (inl h) lt = h.1
+  before_pairs n (inr e) lt = absurd (omega arith)
+
+  before_last : (n : ℕ) → ((8 ≤ n) × (n < 13)) ⊎ (n ≡ 15) → n < 16
+  before_last n (inl h) = let to = h.1 in omega arith
+  before_last n (inr e) = omega arith
 
   pub no_single : AreRowsBelow (IsOfSingle d item facts id) 8 []
-  no_single = no_rows (IsOfSingle d item facts id) 8 (λ row h. first_number row.kind row h.is.broken h.below)
-
-  before_pairs : (kind : Kind) (row : PlainRow) → BreaksAlone d kind item facts row → kind_number kind < 15 → kind_number kind < 13
-  before_pairs TrackWidth row h lt = omega arith
-  before_pairs ViaDiameter row h lt = omega arith
-  before_pairs HoleSize row h lt = omega arith
-  before_pairs AnnularWidth row h lt = omega arith
-  before_pairs Disallow row h lt = omega arith
-  before_pairs Assertion row h lt = absurd (omega arith)
-  before_pairs _ row h lt = absurd h
+  no_single = no_rows (IsOfSingle d item facts id) 8 (λ row h. not_first (kind_number row.kind) (number_of row.kind row h.is.broken) h.below)
 
   pub past_pairs : (rows : List PlainRow) → AreRowsBelow (IsOfSingle d item facts id) 13 rows → AreRowsBelow (IsOfSingle d item facts id) 15 rows
   past_pairs rows r =
       passes (IsBelow (IsOfSingle d item facts id) 13) (IsBelow (IsOfSingle d item facts id) 15) rows (λ row h. let lt = h.below in record { is = h.is; below = omega arith })
-      (λ row h. record { is = h.is; below = before_pairs row.kind row h.is.broken h.below }) r
-
-  number_of : (kind : Kind) (row : PlainRow) → BreaksAlone d kind item facts row → kind_number kind < 16
-  number_of TrackWidth row h = omega arith
-  number_of ViaDiameter row h = omega arith
-  number_of HoleSize row h = omega arith
-  number_of AnnularWidth row h = omega arith
-  number_of Disallow row h = omega arith
-  number_of Assertion row h = omega arith
-  number_of _ row h = absurd h
+      (λ row h. record { is = h.is; below = before_pairs (kind_number row.kind) (number_of row.kind row h.is.broken) h.below }) r
 
   pub all_of_single : (rows : List PlainRow) → AreRowsBelow (IsOfSingle d item facts id) 16 rows → AreRowsWhere (IsOfSingle d item facts id) rows
   all_of_single rows r =
-      passes (IsBelow (IsOfSingle d item facts id) 16) (IsOfSingle d item facts id) rows (λ row h. h.is) (λ row h. record { is = h; below = number_of row.kind row h.broken }) r
+      passes (IsBelow (IsOfSingle d item facts id) 16) (IsOfSingle d item facts id) rows (λ row h. h.is) (λ row h. record { is = h; below = before_last (kind_number row.kind) (number_of row.kind row h.broken) }) r
 
 -- ---- rows of the board
 

@@ -18,15 +18,18 @@ use Rattle.copper_layers.specs.Layers.{has_layer}
 use Rattle.board_items.specs.Parts.{hole_parts}
 use Rattle.board_items.specs.Copper.{on_layer, SomeMeet, Keeps}
 use Rattle.cond_lang.specs.declared.kind.Kind.{Kind}
-use Rattle.cond_lang.specs.declared.kind.Kind.TheVariants.{Short, Clearance, HoleClearance, EdgeClearance, PhysicalClearance, PhysicalHoleClearance}
 use Rattle.rule_pick.specs.FactsOf.{SomeOn}
 use Rattle.item_copper.proofs.Meeting.{any_here, any_later, any_none, any_cases}
+use Rattle.pair_check.specs.declared.subject.Faces.{Faces}
+use Rattle.pair_check.specs.declared.subject.Faces.TheVariants.{Coppers, HolesAndCopper, EdgesAndCopper}
+use Rattle.pair_check.specs.declared.subject.Subject.{Subject}
 use Rattle.pair_check.specs.declared.layer.RowLayer.{RowLayer}
 use Rattle.pair_check.specs.declared.layer.RowLayer.TheVariants.{Copper, Nowhere}
-use Rattle.pair_check.specs.PlainRow.{IsLayerOf}
+use Rattle.pair_check.specs.Subjects.{subject_of}
+use Rattle.pair_check.specs.PlainRow.{IsFacedOn}
 use Rattle.pair_check.specs.Layers.{rank, IsTried}
-use Rattle.pair_check.specs.Facing.{Facing, facing, facings, copper_on, hole_on, lines_of, MeetAt, TooNear}
-use Rattle.pair_check.specs.Sides.{IsUnfaced, FaceWithin}
+use Rattle.pair_check.specs.Facing.{Facing, facing, faced, facings_in, facings, copper_on, hole_on, lines_of, MeetAt, TooNear}
+use Rattle.pair_check.specs.Sides.{IsUnfaced, AreFacedWithin, FaceWithin}
 use Rattle.pair_check.proofs.NearLayers.{faces_on, not_near}
 
 pub unlike : (b : Bool) → b ≡ false → b ≡ true → ⊥
@@ -152,45 +155,32 @@ module _ (set : LayerSet) (a b : Item) (from to : ℕ) (places : PlacesFrom set 
   two_within f g layer (inr h) w = inr (places layer h)
   two_within f g layer u (inr h) = inr (places layer h)
 
-  pub short_within : CopperIn set a b → (layer : RowLayer) → FaceWithin Short a b from to layer
-  unfolding facings
-  short_within each (Copper layer) = one_within _ layer (each layer)
-  short_within each _ = inl (All-nil IsUnfaced)
+  pub copper_within : CopperIn set a b → (layer : RowLayer) → AreFacedWithin (faced Coppers layer a b) from to layer
+  copper_within each (Copper layer) = one_within _ layer (each layer)
+  copper_within each _ = inl (All-nil IsUnfaced)
 
-  pub clearance_within : CopperIn set a b → (layer : RowLayer) → FaceWithin Clearance a b from to layer
-  unfolding facings
-  clearance_within each (Copper layer) = one_within _ layer (each layer)
-  clearance_within each _ = inl (All-nil IsUnfaced)
-
-  pub physical_within : CopperIn set a b → (layer : RowLayer) → FaceWithin PhysicalClearance a b from to layer
-  unfolding facings
-  physical_within each (Copper layer) = one_within _ layer (each layer)
-  physical_within each _ = inl (All-nil IsUnfaced)
-
-  pub hole_within : HoleIn set a b → HoleIn set b a → (layer : RowLayer) → FaceWithin HoleClearance a b from to layer
-  unfolding facings
+  pub hole_within : HoleIn set a b → HoleIn set b a → (layer : RowLayer) → AreFacedWithin (faced HolesAndCopper layer a b) from to layer
   hole_within there back (Copper layer) = two_within _ _ layer (there layer) (back layer)
   hole_within there back _ = inl (All-nil IsUnfaced)
 
-  pub physical_hole_within : HoleIn set a b → HoleIn set b a → (layer : RowLayer) → FaceWithin PhysicalHoleClearance a b from to layer
-  unfolding facings
-  physical_hole_within there back (Copper layer) = two_within _ _ layer (there layer) (back layer)
-  physical_hole_within there back _ = inl (All-nil IsUnfaced)
-
-pub edge_within : (a b : Item) (from to : ℕ) → lines_of a.what ≡ [] → lines_of b.what ≡ [] → (layer : RowLayer) → FaceWithin EdgeClearance a b from to layer
-unfolding facings
+pub edge_within : (a b : Item) (from to : ℕ) → lines_of a.what ≡ [] → lines_of b.what ≡ [] → (layer : RowLayer) → AreFacedWithin (faced EdgesAndCopper layer a b) from to layer
 edge_within a b from to e f (Copper layer) = inl (two _ _ (inl e) (inl f))
 edge_within a b from to e f Nowhere = inl (two _ _ (inl e) (inl f))
 edge_within a b from to e f _ = inl (All-nil IsUnfaced)
 
--- a kind has its places
-pub kind_within : (kind : Kind) (a b : Item) (from to : ℕ) → ((layer : RowLayer) → IsLayerOf kind layer → (from ≤ rank layer) × (rank layer < to)) → (copper : LayerSet) (layer : RowLayer) → IsTried copper layer
-    → FaceWithin kind a b from to layer
-kind_within kind a b from to places copper layer is = by (faces_on copper kind layer a b is)
+-- parts that face each other have their places
+pub faces_within : (faces : Faces) (a b : Item) (from to : ℕ) → ((layer : RowLayer) → IsFacedOn faces layer → (from ≤ rank layer) × (rank layer < to)) → (copper : LayerSet) (layer : RowLayer) → IsTried copper layer
+    → AreFacedWithin (faced faces layer a b) from to layer
+faces_within faces a b from to places copper layer is = by (faces_on copper faces layer a b is)
   where
-    by : IsLayerOf kind layer ⊎ (facings kind layer a b ≡ []) → FaceWithin kind a b from to layer
+    by : IsFacedOn faces layer ⊎ (faced faces layer a b ≡ []) → AreFacedWithin (faced faces layer a b) from to layer
     by (inl l) = inr (places layer l)
     by (inr e) = inl (subst (λ (fs : List Facing). All IsUnfaced fs) (sym e) (All-nil IsUnfaced))
+
+-- what a kind faces
+pub kind_within : (kind : Kind) (subject : Subject) (a b : Item) (from to : ℕ) (layer : RowLayer) → subject_of kind ≡ subject → AreFacedWithin (facings_in subject layer a b) from to layer → FaceWithin kind a b from to layer
+unfolding facings
+kind_within kind subject a b from to layer e h = subst (λ (s : Subject). AreFacedWithin (facings_in s layer a b) from to layer) (sym e) h
 
 -- ---- sets of layers
 

@@ -12,7 +12,7 @@ use Rattle.board_items.specs.declared.item.What.{What}
 use Rattle.board_items.specs.declared.item.What.TheVariants.{Track, Via, Pad, Graphic, Edge, Area, Body}
 use Rattle.board_items.specs.declared.item.Item.{Item}
 use Rattle.cond_lang.specs.declared.kind.Kind.{Kind}
-use Rattle.cond_lang.specs.declared.kind.Kind.TheVariants.{Short, Clearance, HoleClearance, HoleToHole, EdgeClearance, CourtyardClearance, Keepout, PhysicalClearance, PhysicalHoleClearance}
+use Rattle.cond_lang.specs.declared.kind.Kind.TheVariants.{Short, Clearance, HoleClearance, HoleToHole, EdgeClearance, CourtyardClearance, Keepout, TrackWidth, ViaDiameter, HoleSize, AnnularWidth, Disallow, PhysicalClearance, PhysicalHoleClearance, Assertion}
 
 -- ---- nets
 
@@ -128,4 +128,9 @@ is_compared CourtyardClearance a b = is_body a.what && is_body b.what
 is_compared Keepout a b = not (are_of_one_unit a b) && (keeps_out a.what b.what || keeps_out b.what a.what)
 is_compared PhysicalClearance a b = not (are_of_one_unit a b)
 is_compared PhysicalHoleClearance a b = not (are_of_one_unit a b)
-is_compared _ a b = false
+is_compared TrackWidth a b = false
+is_compared ViaDiameter a b = false
+is_compared HoleSize a b = false
+is_compared AnnularWidth a b = false
+is_compared Disallow a b = false
+is_compared Assertion a b = false

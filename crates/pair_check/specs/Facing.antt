@@ -9,10 +9,15 @@ use Rattle.board_items.specs.declared.item.Item.{Item}
 use Rattle.board_items.specs.Copper.{on_layer, SomeMeet, Keeps}
 use Rattle.board_items.specs.Parts.{hole_parts}
 use Rattle.cond_lang.specs.declared.kind.Kind.{Kind}
-use Rattle.cond_lang.specs.declared.kind.Kind.TheVariants.{Short, Clearance, HoleClearance, HoleToHole, EdgeClearance, CourtyardClearance, Keepout, PhysicalClearance, PhysicalHoleClearance}
+use Rattle.cond_lang.specs.declared.kind.Kind.TheVariants.{CourtyardClearance}
 use Rattle.rule_pick.specs.FactsOf.{parts_asked}
+use Rattle.pair_check.specs.declared.subject.Faces.{Faces}
+use Rattle.pair_check.specs.declared.subject.Faces.TheVariants.{Coppers, HolesAndCopper, Holes, EdgesAndCopper, Yards, Areas}
+use Rattle.pair_check.specs.declared.subject.Subject.{Subject}
+use Rattle.pair_check.specs.declared.subject.Subject.TheVariants.{Sides, Length, Whole}
 use Rattle.pair_check.specs.declared.layer.RowLayer.{RowLayer}
 use Rattle.pair_check.specs.declared.layer.RowLayer.TheVariants.{Copper, FrontYard, BackYard, Nowhere}
+use Rattle.pair_check.specs.Subjects.{subject_of}
 
 -- parts of the one item, and those of the other that they are measured against
 pub record Facing : Type 0 where
@@ -79,19 +84,30 @@ copper_facing layer a b = facing (copper_on layer a) (copper_on layer b) ∷ []
 abbrev pub holes_facing : ℕ → Item → Item → List Facing
 holes_facing layer a b = both_ways (hole_on layer a) (copper_on layer b) (hole_on layer b) (copper_on layer a)
 
+abbrev pub faced : Faces → RowLayer → Item → Item → List Facing
+faced Coppers (Copper layer) a b = copper_facing layer a b
+faced Coppers _ a b = []
+faced HolesAndCopper (Copper layer) a b = holes_facing layer a b
+faced HolesAndCopper _ a b = []
+faced Holes Nowhere a b = facing (hole_parts a.hole) (hole_parts b.hole) ∷ []
+faced Holes _ a b = []
+faced EdgesAndCopper (Copper layer) a b = both_ways (lines_of a.what) (copper_on layer b) (lines_of b.what) (copper_on layer a)
+faced EdgesAndCopper Nowhere a b = both_ways (lines_of a.what) (hole_alone b) (lines_of b.what) (hole_alone a)
+faced EdgesAndCopper _ a b = []
+faced Yards FrontYard a b = facing (front_of a.what) (front_of b.what) ∷ []
+faced Yards BackYard a b = facing (back_of a.what) (back_of b.what) ∷ []
+faced Yards _ a b = []
+faced Areas (Copper layer) a b = both_ways (area_on layer a.what) (placed_on layer b b.what) (area_on layer b.what) (placed_on layer a a.what)
+faced Areas _ a b = []
+
+-- of a single item nothing faces anything
+abbrev pub facings_in : Subject → RowLayer → Item → Item → List Facing
+facings_in (Sides faces) layer a b = faced faces layer a b
+facings_in (Length measure) layer a b = []
+facings_in Whole layer a b = []
+
 unfoldable pub facings : Kind → RowLayer → Item → Item → List Facing
-facings Short (Copper layer) a b = copper_facing layer a b
-facings Clearance (Copper layer) a b = copper_facing layer a b
-facings PhysicalClearance (Copper layer) a b = copper_facing layer a b
-facings HoleClearance (Copper layer) a b = holes_facing layer a b
-facings PhysicalHoleClearance (Copper layer) a b = holes_facing layer a b
-facings HoleToHole Nowhere a b = facing (hole_parts a.hole) (hole_parts b.hole) ∷ []
-facings EdgeClearance (Copper layer) a b = both_ways (lines_of a.what) (copper_on layer b) (lines_of b.what) (copper_on layer a)
-facings EdgeClearance Nowhere a b = both_ways (lines_of a.what) (hole_alone b) (lines_of b.what) (hole_alone a)
-facings CourtyardClearance FrontYard a b = facing (front_of a.what) (front_of b.what) ∷ []
-facings CourtyardClearance BackYard a b = facing (back_of a.what) (back_of b.what) ∷ []
-facings Keepout (Copper layer) a b = both_ways (area_on layer a.what) (placed_on layer b b.what) (area_on layer b.what) (placed_on layer a a.what)
-facings _ _ a b = []
+facings kind layer a b = facings_in (subject_of kind) layer a b
 
 -- ---- what is asked of it
 

@@ -1,3 +1,4 @@
+pub mod Subjects
 pub mod PlainRow
 pub mod Layers
 pub mod Compared

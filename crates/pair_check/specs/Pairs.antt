@@ -5,8 +5,11 @@ use Rattle.copper_layers.specs.declared.set.LayerSet.{LayerSet}
 use Rattle.board_items.specs.declared.item.Item.{Item}
 use Rattle.net_class.specs.Classes.{PlainMins}
 use Rattle.cond_lang.specs.declared.kind.Kind.{Kind}
-use Rattle.cond_lang.specs.declared.kind.Kind.TheVariants.{Short, Clearance, HoleClearance, HoleToHole, EdgeClearance, CourtyardClearance, Keepout, PhysicalClearance, PhysicalHoleClearance}
+use Rattle.cond_lang.specs.declared.kind.Kind.TheVariants.{Short, Clearance, HoleClearance}
+use Rattle.cond_lang.specs.declared.kind.Family.{Family}
+use Rattle.cond_lang.specs.declared.kind.Family.TheVariants.{Meets, Keeps, Limits, Forbids}
 use Rattle.cond_lang.specs.declared.rule.Severity.TheVariants.{Error}
+use Rattle.cond_lang.specs.Kinds.{family}
 use Rattle.cond_lang.specs.Rules.{PlainRule}
 use Rattle.rule_pick.specs.declared.facts.Facts.{Facts}
 use Rattle.rule_pick.specs.declared.kinds.Source.TheVariants.{Default}
@@ -77,15 +80,12 @@ pub record SaysNear (d : Deciders) (kind : Kind) (pair : Pair) (row : PlainRow) 
   pub source : row.source ≡ pick.source
   pub severity : row.severity ≡ pick.severity
 
+abbrev pub BreaksBy : Family → Deciders → Kind → Pair → PlainRow → Type 0
+BreaksBy Meets d kind pair row = SaysMeeting d kind pair row
+BreaksBy Keeps d kind pair row = SaysNear d kind pair row
+BreaksBy Limits d kind pair row = ⊥
+BreaksBy Forbids d kind pair row = ⊥
+
 -- the row says how the pair breaks the kind
 abbrev pub Breaks : Deciders → Kind → Pair → PlainRow → Type 0
-Breaks d Short pair row = SaysMeeting d Short pair row
-Breaks d Keepout pair row = SaysMeeting d Keepout pair row
-Breaks d Clearance pair row = SaysNear d Clearance pair row
-Breaks d HoleClearance pair row = SaysNear d HoleClearance pair row
-Breaks d HoleToHole pair row = SaysNear d HoleToHole pair row
-Breaks d EdgeClearance pair row = SaysNear d EdgeClearance pair row
-Breaks d CourtyardClearance pair row = SaysNear d CourtyardClearance pair row
-Breaks d PhysicalClearance pair row = SaysNear d PhysicalClearance pair row
-Breaks d PhysicalHoleClearance pair row = SaysNear d PhysicalHoleClearance pair row
-Breaks d _ pair row = ⊥
+Breaks d kind pair row = BreaksBy (family kind) d kind pair row

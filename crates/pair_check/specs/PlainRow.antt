@@ -2,12 +2,21 @@
 use Rattle.std.specs.Prelude.{◌≡◌, ◌⊎◌, ℕ, ℤ, pos, neg_ℤ, ◌<◌, ◌≤ℤ◌, Bool}
 use Rattle.drc_io.specs.Lengths.{IsLength}
 use Rattle.cond_lang.specs.declared.kind.Kind.{Kind}
-use Rattle.cond_lang.specs.declared.kind.Kind.TheVariants.{HoleToHole, EdgeClearance, CourtyardClearance, TrackWidth, ViaDiameter, HoleSize, AnnularWidth, Disallow, Assertion}
+use Rattle.cond_lang.specs.declared.kind.Family.{Family}
+use Rattle.cond_lang.specs.declared.kind.Family.TheVariants.{Meets, Keeps, Limits, Forbids}
+use Rattle.cond_lang.specs.Kinds.{family}
 use Rattle.cond_lang.specs.declared.rule.Severity.{Severity}
 use Rattle.cond_lang.specs.declared.rule.Severity.TheVariants.{Error, Warning, Ignore, Exclusion}
 use Rattle.rule_pick.specs.declared.kinds.Source.{Source}
+use Rattle.pair_check.specs.declared.subject.Faces.{Faces}
+use Rattle.pair_check.specs.declared.subject.Faces.TheVariants.{Coppers, HolesAndCopper, Holes, EdgesAndCopper, Yards, Areas}
+use Rattle.pair_check.specs.declared.subject.Measure.{Measure}
+use Rattle.pair_check.specs.declared.subject.Measure.TheVariants.{Width, Diameter, Bore, Ring}
+use Rattle.pair_check.specs.declared.subject.Subject.{Subject}
+use Rattle.pair_check.specs.declared.subject.Subject.TheVariants.{Sides, Length, Whole}
 use Rattle.pair_check.specs.declared.layer.RowLayer.{RowLayer}
 use Rattle.pair_check.specs.declared.layer.RowLayer.TheVariants.{Copper, FrontYard, BackYard, Nowhere}
+use Rattle.pair_check.specs.Subjects.{subject_of}
 
 -- the ids of the two items, or twice that of the one; what is broken, on which layer, the value that is asked for, the length that
 -- there is, whether it is over the greatest value rather than below the least, what asks for it, and how much it weighs. Lengths are
@@ -23,25 +32,15 @@ pub record PlainRow : Type 0 where
   pub source : Source
   pub severity : Severity
 
--- the kinds that two items break
-abbrev pub IsOfTwo : Kind → Type 0
-IsOfTwo TrackWidth = ⊥
-IsOfTwo ViaDiameter = ⊥
-IsOfTwo HoleSize = ⊥
-IsOfTwo AnnularWidth = ⊥
-IsOfTwo Disallow = ⊥
-IsOfTwo Assertion = ⊥
-IsOfTwo _ = Unit {0}
-
 -- two items stand with the lesser id first, a single one stands twice
+abbrev pub AreOrdered : Family → ℕ → ℕ → Type 0
+AreOrdered Meets first second = first < second
+AreOrdered Keeps first second = first < second
+AreOrdered Limits first second = second ≡ first
+AreOrdered Forbids first second = second ≡ first
+
 abbrev pub AreInOrder : Kind → ℕ → ℕ → Type 0
-AreInOrder TrackWidth first second = second ≡ first
-AreInOrder ViaDiameter first second = second ≡ first
-AreInOrder HoleSize first second = second ≡ first
-AreInOrder AnnularWidth first second = second ≡ first
-AreInOrder Disallow first second = second ≡ first
-AreInOrder Assertion first second = second ≡ first
-AreInOrder _ first second = first < second
+AreInOrder kind first second = AreOrdered (family kind) first second
 
 -- one of the copper layers
 abbrev pub IsCopper : RowLayer → Type 0
@@ -57,18 +56,32 @@ IsYard FrontYard = Unit {0}
 IsYard BackYard = Unit {0}
 IsYard _ = ⊥
 
--- on which layers a kind is asked: courtyards on their own, what has no layer on none, the others on copper layers, and what an item
--- without copper breaks on none
+-- on which layers parts face each other: courtyards on their own, holes on none, the others on copper layers, and edges also face what
+-- has no copper
+abbrev pub IsFacedOn : Faces → RowLayer → Type 0
+IsFacedOn Coppers layer = IsCopper layer
+IsFacedOn HolesAndCopper layer = IsCopper layer
+IsFacedOn Holes layer = IsNowhere layer
+IsFacedOn EdgesAndCopper layer = IsCopper layer ⊎ IsNowhere layer
+IsFacedOn Yards layer = IsYard layer
+IsFacedOn Areas layer = IsCopper layer
+
+-- tracks are measured on copper layers, sizes and holes on none
+abbrev pub IsMeasuredOn : Measure → RowLayer → Type 0
+IsMeasuredOn Width layer = IsCopper layer
+IsMeasuredOn Diameter layer = IsNowhere layer
+IsMeasuredOn Bore layer = IsNowhere layer
+IsMeasuredOn Ring layer = IsNowhere layer
+
+-- a single item is asked on copper layers, and without copper on none
+abbrev pub IsSeenOn : Subject → RowLayer → Type 0
+IsSeenOn (Sides faces) layer = IsFacedOn faces layer
+IsSeenOn (Length measure) layer = IsMeasuredOn measure layer
+IsSeenOn Whole layer = IsCopper layer ⊎ IsNowhere layer
+
+-- on which layers a kind is asked
 abbrev pub IsLayerOf : Kind → RowLayer → Type 0
-IsLayerOf CourtyardClearance layer = IsYard layer
-IsLayerOf HoleToHole layer = IsNowhere layer
-IsLayerOf ViaDiameter layer = IsNowhere layer
-IsLayerOf HoleSize layer = IsNowhere layer
-IsLayerOf AnnularWidth layer = IsNowhere layer
-IsLayerOf EdgeClearance layer = IsCopper layer ⊎ IsNowhere layer
-IsLayerOf Disallow layer = IsCopper layer ⊎ IsNowhere layer
-IsLayerOf Assertion layer = IsCopper layer ⊎ IsNowhere layer
-IsLayerOf _ layer = IsCopper layer
+IsLayerOf kind layer = IsSeenOn (subject_of kind) layer
 
 -- only errors and warnings make rows
 abbrev pub Counts : Severity → Type 0

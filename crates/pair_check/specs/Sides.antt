@@ -39,5 +39,8 @@ abbrev pub IsUnfaced : Facing → Type 0
 IsUnfaced f = (f.own ≡ []) ⊎ (f.others ≡ [])
 
 -- on this layer nothing faces anything, or its place is one from `from` to before `to`
+abbrev pub AreFacedWithin : List Facing → ℕ → ℕ → RowLayer → Type 0
+AreFacedWithin sides from to layer = All IsUnfaced sides ⊎ ((from ≤ rank layer) × (rank layer < to))
+
 abbrev pub FaceWithin : Kind → Item → Item → ℕ → ℕ → RowLayer → Type 0
-FaceWithin kind a b from to layer = All IsUnfaced (facings kind layer a b) ⊎ ((from ≤ rank layer) × (rank layer < to))
+FaceWithin kind a b from to layer = AreFacedWithin (facings kind layer a b) from to layer

@@ -7,14 +7,21 @@ use Rattle.board_items.specs.declared.item.What.{What}
 use Rattle.board_items.specs.declared.item.What.TheVariants.{Track, Via, Pad, Graphic, Fill, Edge, Area, Body, Note}
 use Rattle.board_items.specs.declared.item.Item.{Item}
 use Rattle.cond_lang.specs.declared.kind.Kind.{Kind}
-use Rattle.cond_lang.specs.declared.kind.Kind.TheVariants.{TrackWidth, ViaDiameter, HoleSize, AnnularWidth, Disallow as DisallowKind, Assertion}
+use Rattle.cond_lang.specs.declared.kind.Family.{Family}
+use Rattle.cond_lang.specs.declared.kind.Family.TheVariants.{Meets, Keeps, Limits, Forbids as Forbidding}
 use Rattle.cond_lang.specs.declared.rule.Disallow.{Disallow}
+use Rattle.cond_lang.specs.Kinds.{family, is_assertion}
 use Rattle.rule_pick.specs.declared.facts.Facts.{Facts}
 use Rattle.rule_pick.specs.FactsOf.{SomeOn}
 use Rattle.rule_pick.specs.Deciding.{IsPick}
 use Rattle.rule_pick.specs.Picks.{Pick}
+use Rattle.pair_check.specs.declared.subject.Measure.{Measure}
+use Rattle.pair_check.specs.declared.subject.Measure.TheVariants.{Width, Diameter, Bore, Ring}
+use Rattle.pair_check.specs.declared.subject.Subject.{Subject}
+use Rattle.pair_check.specs.declared.subject.Subject.TheVariants.{Sides, Length, Whole}
 use Rattle.pair_check.specs.declared.layer.RowLayer.{RowLayer}
 use Rattle.pair_check.specs.declared.layer.RowLayer.TheVariants.{Copper, Nowhere}
+use Rattle.pair_check.specs.Subjects.{subject_of}
 use Rattle.pair_check.specs.PlainRow.{PlainRow, Counts}
 use Rattle.pair_check.specs.Layers.{IsFirst, asked_layer}
 use Rattle.pair_check.specs.Pairs.{Deciders}
@@ -40,9 +47,19 @@ IsOnCopper copper (Copper layer) = SomeOn layer copper
 IsOnCopper copper _ = ⊥
 
 -- tracks are measured where their copper lies, sizes and holes without a layer
+abbrev pub IsMeasuredBy : Measure → Item → RowLayer → Type 0
+IsMeasuredBy Width item layer = IsOnCopper item.copper layer
+IsMeasuredBy Diameter item layer = layer ≡ Nowhere
+IsMeasuredBy Bore item layer = layer ≡ Nowhere
+IsMeasuredBy Ring item layer = layer ≡ Nowhere
+
+abbrev pub IsMeasuredIn : Subject → Item → RowLayer → Type 0
+IsMeasuredIn (Sides faces) item layer = ⊥
+IsMeasuredIn (Length measure) item layer = IsMeasuredBy measure item layer
+IsMeasuredIn Whole item layer = ⊥
+
 abbrev pub IsMeasuredAt : Kind → Item → RowLayer → Type 0
-IsMeasuredAt TrackWidth item layer = IsOnCopper item.copper layer
-IsMeasuredAt _ item layer = layer ≡ Nowhere
+IsMeasuredAt kind item layer = IsMeasuredIn (subject_of kind) item layer
 
 -- ---- lengths
 
@@ -61,17 +78,34 @@ via_size _ = None
 
 -- what is measured: the width of a track, the size of a via, the smaller size of a hole, and twice the width of the copper round the
 -- hole of a via
+abbrev pub length_by : Measure → Item → Option ℤ
+length_by Width item = track_width item.what
+length_by Diameter item = via_size item.what
+length_by Bore item = option_map (λ hole. hole.least) item.hole
+length_by Ring item = ring_of item.what item.hole
+
+abbrev pub length_in : Subject → Item → Option ℤ
+length_in (Sides faces) item = None
+length_in (Length measure) item = length_by measure item
+length_in Whole item = None
+
 abbrev pub length_of : Kind → Item → Option ℤ
-length_of TrackWidth item = track_width item.what
-length_of ViaDiameter item = via_size item.what
-length_of HoleSize item = option_map (λ hole. hole.least) item.hole
-length_of AnnularWidth item = ring_of item.what item.hole
-length_of _ item = None
+length_of kind item = length_in (subject_of kind) item
 
 -- how many times the length that is limited is measured
+abbrev pub times_by : Measure → ℤ
+times_by Width = pos 1
+times_by Diameter = pos 1
+times_by Bore = pos 1
+times_by Ring = pos 2
+
+abbrev pub times_in : Subject → ℤ
+times_in (Sides faces) = pos 1
+times_in (Length measure) = times_by measure
+times_in Whole = pos 1
+
 abbrev pub times : Kind → ℤ
-times AnnularWidth = pos 2
-times _ = pos 1
+times kind = times_in (subject_of kind)
 
 -- the limit that is broken: below the least value, or else above the greatest
 abbrev pub BreaksLimit : Kind → ℤ → Pick → Bool → ℤ → Type 0
@@ -125,11 +159,14 @@ pub record SaysLimit (d : Deciders) (kind : Kind) (item : Item) (facts : Facts) 
   pub source : row.source ≡ pick.source
   pub severity : row.severity ≡ pick.severity
 
--- what is picked forbids the item: it bans it, or its claim does not hold
+-- what is picked forbids the item: its claim does not hold, or it bans it
+abbrev pub ForbidsBy : Bool → Pick → Item → Type 0
+ForbidsBy true pick item = pick.holds ≡ false
+ForbidsBy false pick item = bans_item pick.bans item ≡ true
+
+-- an assertion claims, another kind that forbids bans
 abbrev pub Forbids : Kind → Pick → Item → Type 0
-Forbids DisallowKind pick item = bans_item pick.bans item ≡ true
-Forbids Assertion pick item = pick.holds ≡ false
-Forbids _ pick item = ⊥
+Forbids kind pick item = ForbidsBy (is_assertion kind) pick item
 
 pub record IsForbiddenAt (d : Deciders) (kind : Kind) (item : Item) (facts : Facts) (layer : RowLayer) : Type 0 where
   pub asked : IsAskedAt item item.what layer
@@ -149,12 +186,12 @@ pub record SaysForbidden (d : Deciders) (kind : Kind) (item : Item) (facts : Fac
   pub source : row.source ≡ pick.source
   pub severity : row.severity ≡ pick.severity
 
+abbrev pub BreaksAloneBy : Family → Deciders → Kind → Item → Facts → PlainRow → Type 0
+BreaksAloneBy Meets d kind item facts row = ⊥
+BreaksAloneBy Keeps d kind item facts row = ⊥
+BreaksAloneBy Limits d kind item facts row = SaysLimit d kind item facts row
+BreaksAloneBy Forbidding d kind item facts row = SaysForbidden d kind item facts row
+
 -- the row says how the item breaks the kind
 abbrev pub BreaksAlone : Deciders → Kind → Item → Facts → PlainRow → Type 0
-BreaksAlone d TrackWidth item facts row = SaysLimit d TrackWidth item facts row
-BreaksAlone d ViaDiameter item facts row = SaysLimit d ViaDiameter item facts row
-BreaksAlone d HoleSize item facts row = SaysLimit d HoleSize item facts row
-BreaksAlone d AnnularWidth item facts row = SaysLimit d AnnularWidth item facts row
-BreaksAlone d DisallowKind item facts row = SaysForbidden d DisallowKind item facts row
-BreaksAlone d Assertion item facts row = SaysForbidden d Assertion item facts row
-BreaksAlone d _ item facts row = ⊥
+BreaksAlone d kind item facts row = BreaksAloneBy (family kind) d kind item facts row

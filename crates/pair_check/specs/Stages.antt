@@ -4,7 +4,7 @@ use Rattle.copper_layers.specs.declared.set.LayerSet.{LayerSet}
 use Rattle.board_items.specs.declared.item.Item.{Item}
 use Rattle.geo_seg.specs.Distances.{IsGap}
 use Rattle.cond_lang.specs.declared.kind.Kind.{Kind}
-use Rattle.cond_lang.specs.declared.kind.Kind.TheVariants.{CourtyardClearance, TrackWidth, ViaDiameter, HoleSize, AnnularWidth, Disallow, Assertion}
+use Rattle.cond_lang.specs.declared.kind.Kind.TheVariants.{CourtyardClearance}
 use Rattle.cond_lang.specs.Kinds.{kind_number}
 use Rattle.rule_pick.specs.declared.facts.Facts.{Facts}
 use Rattle.rule_pick.specs.Picks.{pick_of}
@@ -28,20 +28,6 @@ pair_of p = record { a = p.a.now; b = p.b.now; facts_a = p.facts_a.now; facts_b 
 abbrev pub is_courtyard : Kind → Bool
 is_courtyard CourtyardClearance = true
 is_courtyard _ = false
-
--- the kinds that limit a length of a single item
-abbrev pub is_limit : Kind → Bool
-is_limit TrackWidth = true
-is_limit ViaDiameter = true
-is_limit HoleSize = true
-is_limit AnnularWidth = true
-is_limit _ = false
-
--- the kinds that forbid a single item
-abbrev pub is_ban : Kind → Bool
-is_ban Disallow = true
-is_ban Assertion = true
-is_ban _ = false
 
 -- ---- layers
 

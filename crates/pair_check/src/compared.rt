@@ -154,6 +154,11 @@ pub(crate) fn is_compared(kind: Kind, a: &Item, b: &Item) -> bool
         Kind::CourtyardClearance => is_body(a) && is_body(b),
         Kind::Keepout => a.unit != b.unit && (keeps_out(a, b) || keeps_out(b, a)),
         Kind::PhysicalClearance | Kind::PhysicalHoleClearance => a.unit != b.unit,
-        _ => false,
+        Kind::TrackWidth
+        | Kind::ViaDiameter
+        | Kind::HoleSize
+        | Kind::AnnularWidth
+        | Kind::Disallow
+        | Kind::Assertion => false,
     }
 }

@@ -5,12 +5,14 @@ ghost use Rattle.copper_layers.specs.declared.set.LayerSet.{LayerSet};
 ghost use Rattle.copper_layers.specs.Layers.{has_layer};
 ghost use Rattle.board_items.specs.Parts.{hole_parts};
 ghost use Rattle.rule_pick.specs.FactsOf.{SomeOn};
+ghost use Rattle.pair_check.specs.declared.subject.Faces.TheVariants.{EdgesAndCopper};
 ghost use Rattle.pair_check.specs.declared.layer.RowLayer.{RowLayer};
 ghost use Rattle.pair_check.specs.Layers.{IsTried};
-ghost use Rattle.pair_check.specs.Facing.{facing, copper_on, hole_on, lines_of};
-ghost use Rattle.pair_check.specs.Sides.{IsUnfaced, FaceWithin};
+ghost use Rattle.pair_check.specs.Facing.{facing, copper_on, hole_on, lines_of, faced};
+ghost use Rattle.pair_check.specs.Sides.{IsUnfaced, AreFacedWithin, FaceWithin};
 
-use crate::places::{Places, places_of};
+use crate::places::{Places, places_of_faces};
+use crate::subject::{Faces, Subject, subject_of};
 use board_items::{Hole, Item, Part, What};
 use cond_lang::Kind;
 use copper_layers::LayerSet;
@@ -90,12 +92,25 @@ fn has_lines(item: &Item) -> bool
 // The places on which an edge may be near: none where neither is one.
 fn places_of_lines(a: &Item, b: &Item) -> Places
     ensures bound { result.to ≤ 35 }
-    ensures each { (copper : LayerSet) (layer : RowLayer) → IsTried copper layer → FaceWithin Kind.EdgeClearance a.now b.now result.from result.to layer }
+    ensures each { (copper : LayerSet) (layer : RowLayer) → IsTried copper layer → AreFacedWithin (faced EdgesAndCopper layer a.now b.now) result.from result.to layer }
 {
     if has_lines(a) || has_lines(b) {
-        places_of(Kind::EdgeClearance)
+        places_of_faces(Faces::EdgesAndCopper)
     } else {
         Places { from: 0, to: 0 }
+    }
+}
+
+// The places of all layers on which any of these parts may face each other.
+fn places_of_sides(faces: Faces, a: &Item, b: &Item) -> Places
+    ensures bound { result.to ≤ 35 }
+    ensures each { (copper : LayerSet) (layer : RowLayer) → IsTried copper layer → AreFacedWithin (faced faces layer a.now b.now) result.from result.to layer }
+{
+    match faces {
+        Faces::Coppers => places_in(shared_copper(a, b)),
+        Faces::HolesAndCopper => places_in(holed_beside(a, b)),
+        Faces::EdgesAndCopper => places_of_lines(a, b),
+        Faces::Holes | Faces::Yards | Faces::Areas => places_of_faces(faces),
     }
 }
 
@@ -104,13 +119,8 @@ pub(crate) fn places_between(kind: Kind, a: &Item, b: &Item) -> Places
     ensures bound { result.to ≤ 35 }
     ensures each { (copper : LayerSet) (layer : RowLayer) → IsTried copper layer → FaceWithin kind a.now b.now result.from result.to layer }
 {
-    match kind {
-        Kind::Short => places_in(shared_copper(a, b)),
-        Kind::Clearance => places_in(shared_copper(a, b)),
-        Kind::PhysicalClearance => places_in(shared_copper(a, b)),
-        Kind::HoleClearance => places_in(holed_beside(a, b)),
-        Kind::PhysicalHoleClearance => places_in(holed_beside(a, b)),
-        Kind::EdgeClearance => places_of_lines(a, b),
-        _ => places_of(kind),
+    match subject_of(kind) {
+        Subject::Sides(faces) => places_of_sides(faces, a, b),
+        Subject::Length(_) | Subject::Whole => Places { from: 0, to: 0 },
     }
 }

@@ -17,6 +17,7 @@ mod row;
 mod same;
 mod single;
 mod steps;
+mod subject;
 mod view;
 
 pub use asked::Asked;
@@ -31,6 +32,7 @@ pub use row::Row;
 use rule_pick::FactsById;
 pub use single::{single_at, test_item};
 pub use steps::Steps;
+pub use subject::{Faces, Measure, Subject};
 pub use view::CheckView;
 
 // Each type may go to another thread and be shared by threads.

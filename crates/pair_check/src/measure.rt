@@ -8,10 +8,11 @@ ghost use Rattle.board_items.specs.Parts.{hole_parts};
 ghost use Rattle.rule_pick.specs.FactsOf.{parts_asked};
 ghost use Rattle.item_copper.specs.Sides.{parts_at};
 ghost use Rattle.pair_check.specs.declared.layer.RowLayer.TheVariants.{Copper, FrontYard, BackYard, Nowhere};
-ghost use Rattle.pair_check.specs.Facing.{copper_on, hole_on, hole_alone, lines_of, front_of, back_of, area_on, yard_on, placed_on, both_ways, copper_facing, holes_facing, facings, MeetAt, KeepAt};
+ghost use Rattle.pair_check.specs.Facing.{copper_on, hole_on, hole_alone, lines_of, front_of, back_of, area_on, yard_on, placed_on, both_ways, copper_facing, holes_facing, faced, facings, MeetAt, KeepAt};
 ghost use Rattle.pair_check.specs.Sides.{IsInStack, facings_of, SomeFacingMeets, AllFacingsKeep};
 
 use crate::layer::RowLayer;
+use crate::subject::{Faces, Subject, subject_of};
 use board_items::{Hole, Item, Nm, Part, Parts, What};
 use cond_lang::Kind;
 use item_copper::{ListedParts, Side, SinglePart, is_empty, sides_gap, sides_meet};
@@ -259,73 +260,89 @@ fn areas_facing<'a>(a: &'a Item, b: &'a Item, layer: u32) -> Facings<'a>
 }
 
 // What faces each other on a copper layer.
-#[tactic(auto, unfolding(crate::specs::Facing::facings))]
-fn facings_on<'a>(kind: Kind, layer: u32, a: &'a Item, b: &'a Item) -> Facings<'a>
+fn faced_on<'a>(faces: Faces, layer: u32, a: &'a Item, b: &'a Item) -> Facings<'a>
     requires { layer < 32 }
-    ensures { facings_of result ≡ facings kind (Copper layer) a.now b.now }
+    ensures { facings_of result ≡ faced faces (Copper layer) a.now b.now }
 {
-    match kind {
-        Kind::Short | Kind::Clearance | Kind::PhysicalClearance => copper_facing(a, b, layer),
-        Kind::HoleClearance | Kind::PhysicalHoleClearance => holes_facing(a, b, layer),
-        Kind::EdgeClearance => edges_facing(a, b, layer),
-        Kind::Keepout => areas_facing(a, b, layer),
-        _ => Facings::Nothing,
+    match faces {
+        Faces::Coppers => copper_facing(a, b, layer),
+        Faces::HolesAndCopper => holes_facing(a, b, layer),
+        Faces::EdgesAndCopper => edges_facing(a, b, layer),
+        Faces::Areas => areas_facing(a, b, layer),
+        Faces::Holes | Faces::Yards => Facings::Nothing,
     }
 }
 
 // What faces each other on no layer.
-#[tactic(auto, unfolding(crate::specs::Facing::facings))]
-fn facings_nowhere<'a>(kind: Kind, a: &'a Item, b: &'a Item) -> Facings<'a>
-    ensures { facings_of result ≡ facings kind Nowhere a.now b.now }
+fn faced_nowhere<'a>(faces: Faces, a: &'a Item, b: &'a Item) -> Facings<'a>
+    ensures { facings_of result ≡ faced faces Nowhere a.now b.now }
 {
-    match kind {
-        Kind::HoleToHole => Facings::OneWay(Faced {
+    match faces {
+        Faces::Holes => Facings::OneWay(Faced {
             own: whole_hole(&a.hole),
             others: whole_hole(&b.hole),
         }),
-        Kind::EdgeClearance => edges_facing_holes(a, b),
-        _ => Facings::Nothing,
+        Faces::EdgesAndCopper => edges_facing_holes(a, b),
+        Faces::Coppers | Faces::HolesAndCopper | Faces::Yards | Faces::Areas => Facings::Nothing,
     }
 }
 
 // What faces each other in the courtyards of the front.
-#[tactic(auto, unfolding(crate::specs::Facing::facings))]
-fn facings_in_front<'a>(kind: Kind, a: &'a Item, b: &'a Item) -> Facings<'a>
-    ensures { facings_of result ≡ facings kind FrontYard a.now b.now }
+fn faced_in_front<'a>(faces: Faces, a: &'a Item, b: &'a Item) -> Facings<'a>
+    ensures { facings_of result ≡ faced faces FrontYard a.now b.now }
 {
-    match kind {
-        Kind::CourtyardClearance => Facings::OneWay(Faced {
+    match faces {
+        Faces::Yards => Facings::OneWay(Faced {
             own: front_of(&a.what),
             others: front_of(&b.what),
         }),
-        _ => Facings::Nothing,
+        Faces::Coppers
+        | Faces::HolesAndCopper
+        | Faces::Holes
+        | Faces::EdgesAndCopper
+        | Faces::Areas => Facings::Nothing,
     }
 }
 
 // What faces each other in the courtyards of the back.
-#[tactic(auto, unfolding(crate::specs::Facing::facings))]
-fn facings_in_back<'a>(kind: Kind, a: &'a Item, b: &'a Item) -> Facings<'a>
-    ensures { facings_of result ≡ facings kind BackYard a.now b.now }
+fn faced_in_back<'a>(faces: Faces, a: &'a Item, b: &'a Item) -> Facings<'a>
+    ensures { facings_of result ≡ faced faces BackYard a.now b.now }
 {
-    match kind {
-        Kind::CourtyardClearance => Facings::OneWay(Faced {
+    match faces {
+        Faces::Yards => Facings::OneWay(Faced {
             own: back_of(&a.what),
             others: back_of(&b.what),
         }),
-        _ => Facings::Nothing,
+        Faces::Coppers
+        | Faces::HolesAndCopper
+        | Faces::Holes
+        | Faces::EdgesAndCopper
+        | Faces::Areas => Facings::Nothing,
+    }
+}
+
+// Which of these parts face each other on the layer.
+fn faced_at<'a>(faces: Faces, layer: RowLayer, a: &'a Item, b: &'a Item) -> Facings<'a>
+    requires { IsInStack layer }
+    ensures { facings_of result ≡ faced faces layer a.now b.now }
+{
+    match layer {
+        RowLayer::Copper(layer) => faced_on(faces, layer, a, b),
+        RowLayer::FrontYard => faced_in_front(faces, a, b),
+        RowLayer::BackYard => faced_in_back(faces, a, b),
+        RowLayer::Nowhere => faced_nowhere(faces, a, b),
     }
 }
 
 /// All that faces each other for the kind on the layer.
+#[tactic(auto, unfolding(crate::specs::Facing::facings))]
 pub(crate) fn facings_at<'a>(kind: Kind, layer: RowLayer, a: &'a Item, b: &'a Item) -> Facings<'a>
     requires { IsInStack layer }
     ensures { facings_of result ≡ facings kind layer a.now b.now }
 {
-    match layer {
-        RowLayer::Copper(layer) => facings_on(kind, layer, a, b),
-        RowLayer::FrontYard => facings_in_front(kind, a, b),
-        RowLayer::BackYard => facings_in_back(kind, a, b),
-        RowLayer::Nowhere => facings_nowhere(kind, a, b),
+    match subject_of(kind) {
+        Subject::Sides(faces) => faced_at(faces, layer, a, b),
+        Subject::Length(_) | Subject::Whole => Facings::Nothing,
     }
 }
 

@@ -4,8 +4,8 @@ ghost use Rattle.std.specs.Prelude.{◌≡◌, ◌⊎◌, ◌↔◌, ◌+◌, �
 ghost use Rattle.drc_io.specs.Lengths.{IsLength};
 ghost use Rattle.geo_seg.specs.Distances.{IsGap};
 ghost use Rattle.board_items.specs.Boards.{item_at};
-ghost use Rattle.cond_lang.specs.Kinds.{kind_number};
-ghost use Rattle.rule_pick.specs.Reach.{is_between_two};
+ghost use Rattle.cond_lang.specs.declared.kind.Family.{Family};
+ghost use Rattle.cond_lang.specs.Kinds.{family, kind_number};
 ghost use Rattle.pair_check.specs.PlainRow.{PlainRow};
 ghost use Rattle.pair_check.specs.Layers.{IsTried, IsFirst};
 ghost use Rattle.pair_check.specs.Compared.{is_compared};
@@ -74,7 +74,7 @@ fn gap_if_near(
 // What is broken on the layer, if anything is.
 fn near_at(view: &CheckView, kind: Kind, pair: Pair<'_>, layer: RowLayer) -> Option<Near>
     requires few { length view.now.rules.now < 4294967295 }
-    requires measured { IsTrue (is_between_two kind) }
+    requires measured { family kind ≡ Family.Keeps }
     requires tried { IsTried view.now.board.now.copper layer }
     ensures { MatchOption result (¬ (IsNearAt (deciders (checked_by view.now)) kind (pair_of pair.entry) layer))
         (λ near. (near.layer ≡ layer) × IsNear (deciders (checked_by view.now)) kind (pair_of pair.entry) near) }
@@ -102,7 +102,7 @@ fn near_at(view: &CheckView, kind: Kind, pair: Pair<'_>, layer: RowLayer) -> Opt
 // The first layer on which the two are too near. No layer is tried before the first on which they face each other, or after the last.
 fn first_near(view: &CheckView, kind: Kind, pair: Pair<'_>) -> Option<Near>
     requires few { length view.now.rules.now < 4294967295 }
-    requires measured { IsTrue (is_between_two kind) }
+    requires measured { family kind ≡ Family.Keeps }
     ensures { MatchOption result (HoldsNowhere view.now.board.now.copper (IsNearAt (deciders (checked_by view.now)) kind (pair_of pair.entry)))
         (λ near. IsNear (deciders (checked_by view.now)) kind (pair_of pair.entry) near × IsFirst view.now.board.now.copper (IsNearAt (deciders (checked_by view.now)) kind (pair_of pair.entry)) near.layer) }
 {
@@ -143,7 +143,7 @@ fn first_meeting(copper: LayerSet, kind: Kind, a: &Item, b: &Item) -> Option<Row
 
 // That the two meet: always an error, whatever the rules say.
 fn meeting_row(view: &CheckView, kind: Kind, first: u32, second: u32, pair: Pair<'_>) -> Option<Row>
-    requires kind { (kind ≡ Kind.Short) ⊎ (kind ≡ Kind.Keepout) }
+    requires meets { family kind ≡ Family.Meets }
     requires ordered { first < second }
     ensures { MatchOption result ((row : PlainRow) → ¬ (IsOfKind (IsOfPair (deciders (checked_by view.now)) (pair_of pair.entry) first second) kind row))
         (λ row. IsOfKind (IsOfPair (deciders (checked_by view.now)) (pair_of pair.entry) first second) kind row) }
@@ -168,7 +168,7 @@ fn meeting_row(view: &CheckView, kind: Kind, first: u32, second: u32, pair: Pair
 // That the two are too near.
 fn near_row(view: &CheckView, kind: Kind, first: u32, second: u32, pair: Pair<'_>) -> Option<Row>
     requires few { length view.now.rules.now < 4294967295 }
-    requires measured { IsTrue (is_between_two kind) }
+    requires measured { family kind ≡ Family.Keeps }
     requires place { IsGivenPlace (deciders (checked_by view.now)) kind (pair_of pair) }
     requires compared { IsTrue (is_compared kind pair.a.now pair.b.now) }
     requires ordered { first < second }
@@ -200,7 +200,7 @@ fn add_measured(
     rows: &mut PairRows,
 )
     requires few { length view.now.rules.now < 4294967295 }
-    requires measured { IsTrue (is_between_two kind) }
+    requires measured { family kind ≡ Family.Keeps }
     requires place { IsGivenPlace (deciders (checked_by view.now)) kind (pair_of pair) }
     requires compared { IsTrue (is_compared kind pair.a.now pair.b.now) }
     requires ordered { first < second }
@@ -227,7 +227,7 @@ fn add_near(
 )
     requires few { length view.now.rules.now < 4294967295 }
     requires asked { IsNoteOf (deciders (checked_by view.now)) asked }
-    requires measured { IsTrue (is_between_two kind) }
+    requires measured { family kind ≡ Family.Keeps }
     requires place { IsGivenPlace (deciders (checked_by view.now)) kind (pair_of pair) }
     requires ordered { first < second }
     requires room { length rows.old < 8 }

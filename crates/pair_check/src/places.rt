@@ -1,12 +1,12 @@
 //! The layers in the order in which they are tried.
 
-ghost use Rattle.std.specs.Prelude.{◌≡◌, ◌≤◌, ◌<◌, MatchOption};
+ghost use Rattle.std.specs.Prelude.{◌≡◌, ◌⊎◌, ◌≤◌, ◌<◌, MatchOption};
 ghost use Rattle.pair_check.specs.declared.layer.RowLayer.{RowLayer};
-ghost use Rattle.pair_check.specs.PlainRow.{IsLayerOf};
+ghost use Rattle.pair_check.specs.PlainRow.{IsCopper, IsNowhere, IsFacedOn};
 ghost use Rattle.pair_check.specs.Layers.{rank, IsTried};
 
 use crate::layer::RowLayer;
-use cond_lang::Kind;
+use crate::subject::Faces;
 use copper_layers::LayerSet;
 
 /// Places in the order of layers, from the one to before the other.
@@ -16,26 +16,25 @@ pub(crate) struct Places {
     pub(crate) to: u32,
 }
 
-/// The places of all layers that a kind can have.
-pub(crate) fn places_of(kind: Kind) -> Places
+/// The places of all layers on which these parts face each other.
+pub(crate) fn places_of_faces(faces: Faces) -> Places
     ensures bound { result.to ≤ 35 }
-    ensures all { (layer : RowLayer) → IsLayerOf kind layer → (result.from ≤ rank layer) × (rank layer < result.to) }
+    ensures all { (layer : RowLayer) → IsFacedOn faces layer → (result.from ≤ rank layer) × (rank layer < result.to) }
 {
-    match kind {
-        Kind::CourtyardClearance => Places { from: 32, to: 34 },
-        Kind::HoleToHole | Kind::ViaDiameter | Kind::HoleSize | Kind::AnnularWidth => Places {
-            from: 34,
-            to: 35,
-        },
-        Kind::EdgeClearance | Kind::Disallow | Kind::Assertion => Places { from: 0, to: 35 },
-        Kind::Short
-        | Kind::Clearance
-        | Kind::HoleClearance
-        | Kind::Keepout
-        | Kind::TrackWidth
-        | Kind::PhysicalClearance
-        | Kind::PhysicalHoleClearance => Places { from: 0, to: 32 },
+    match faces {
+        Faces::Coppers | Faces::HolesAndCopper | Faces::Areas => Places { from: 0, to: 32 },
+        Faces::Yards => Places { from: 32, to: 34 },
+        Faces::Holes => Places { from: 34, to: 35 },
+        Faces::EdgesAndCopper => Places { from: 0, to: 35 },
     }
+}
+
+/// The places of all copper layers, and of none.
+pub(crate) fn places_of_items() -> Places
+    ensures bound { result.to ≤ 35 }
+    ensures all { (layer : RowLayer) → IsCopper layer ⊎ IsNowhere layer → (result.from ≤ rank layer) × (rank layer < result.to) }
+{
+    Places { from: 0, to: 35 }
 }
 
 /// The layer with this place, if the board has it.

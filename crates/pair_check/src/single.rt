@@ -5,24 +5,26 @@ ghost use Rattle.std.specs.Option.{option_map};
 ghost use Rattle.drc_io.specs.Lengths.{IsLength};
 ghost use Rattle.board_items.specs.declared.item.Item.{Item};
 ghost use Rattle.board_items.specs.Boards.{item_at};
-ghost use Rattle.cond_lang.specs.Kinds.{kind_number};
+ghost use Rattle.cond_lang.specs.declared.kind.Family.{Family};
+ghost use Rattle.cond_lang.specs.Kinds.{family, kind_number};
 ghost use Rattle.rule_pick.specs.FactsOf.{SomeOn};
 ghost use Rattle.rule_pick.specs.Picks.{pick_of};
 ghost use Rattle.pair_check.specs.PlainRow.{PlainRow, IsWithin};
 ghost use Rattle.pair_check.specs.declared.layer.RowLayer.{RowLayer};
 ghost use Rattle.pair_check.specs.Layers.{rank, IsTried, IsFirst};
-ghost use Rattle.pair_check.specs.Singles.{LiesAt, IsAskedAt, IsOnCopper, IsMeasuredAt, ring_of, track_width, via_size, length_of, times, BreaksLimit, IsQuotient, bans_what, bans_item, Forbids, IsOffAt, IsForbiddenAt};
+ghost use Rattle.pair_check.specs.Singles.{LiesAt, IsAskedAt, IsOnCopper, IsMeasuredAt, ring_of, track_width, via_size, length_by, length_of, times, BreaksLimit, IsQuotient, bans_what, bans_item, Forbids, IsOffAt, IsForbiddenAt};
 ghost use Rattle.pair_check.specs.Rows.{deciders, Stands, AreRowsWhere, AreRowsOfItem};
 ghost use Rattle.pair_check.specs.Views.{checked_by, IsWhole};
-ghost use Rattle.pair_check.specs.Stages.{is_limit, is_ban, HoldsNowhere, IsOff, IsForbidden, IsOfSingle, IsOfKind, AreRowsBelow};
+ghost use Rattle.pair_check.specs.Stages.{HoldsNowhere, IsOff, IsForbidden, IsOfSingle, IsOfKind, AreRowsBelow};
 
 use crate::asked::some_asks;
 use crate::faces::{layers_of, places_in};
 use crate::found::{Forbidden, Limit, Off, Single};
 use crate::layer::RowLayer;
 use crate::pair_rows::PairRows;
-use crate::places::{Places, places_of, tried_at};
+use crate::places::{Places, places_of_items, tried_at};
 use crate::row::{Row, counts};
+use crate::subject::{Measure, Subject, subject_of};
 use crate::view::CheckView;
 use board_items::{Item, Nm, Part, What};
 use cond_lang::{Disallow, Kind};
@@ -118,20 +120,25 @@ fn is_measured_at(copper: LayerSet, kind: Kind, item: &Item, layer: RowLayer) ->
     requires { IsTried copper layer }
     ensures { IsTrue result ↔ IsMeasuredAt kind item.now layer }
 {
-    match kind {
-        Kind::TrackWidth => is_on_copper(copper, item.copper.as_slice(), layer),
-        _ => is_nowhere(layer),
+    match subject_of(kind) {
+        Subject::Length(Measure::Width) => is_on_copper(copper, item.copper.as_slice(), layer),
+        Subject::Length(Measure::Diameter | Measure::Bore | Measure::Ring) => is_nowhere(layer),
+        Subject::Sides(_) | Subject::Whole => false,
     }
 }
 
 // The places of all layers on which the kind is measured.
 fn places_measured(kind: Kind, parts: &[Part]) -> Places
     ensures bound { result.to ≤ 35 }
-    ensures each { (item : Item) → item.copper ≡ parts.now → IsTrue (is_limit kind) → (layer : RowLayer) → IsMeasuredAt kind item layer → (result.from ≤ rank layer) × (rank layer < result.to) }
+    ensures each { (item : Item) → item.copper ≡ parts.now → (layer : RowLayer) → IsMeasuredAt kind item layer → (result.from ≤ rank layer) × (rank layer < result.to) }
 {
-    match kind {
-        Kind::TrackWidth => places_in(layers_of(parts)),
-        _ => Places { from: 34, to: 35 },
+    match subject_of(kind) {
+        Subject::Length(Measure::Width) => places_in(layers_of(parts)),
+        Subject::Length(Measure::Diameter | Measure::Bore | Measure::Ring) => Places {
+            from: 34,
+            to: 35,
+        },
+        Subject::Sides(_) | Subject::Whole => Places { from: 0, to: 0 },
     }
 }
 
@@ -176,17 +183,37 @@ fn hole_size(item: &Item) -> Option<Nm>
     }
 }
 
+fn length_by(measure: Measure, item: &Item) -> Option<Nm>
+    ensures value { result ≡ length_by measure item.now }
+    ensures range { IfSome result IsWithin }
+{
+    match measure {
+        Measure::Width => track_width(item),
+        Measure::Diameter => via_size(item),
+        Measure::Bore => hole_size(item),
+        Measure::Ring => ring_of(item),
+    }
+}
+
 // The length that the kind limits, in nanometres; of the copper round a hole twice the width.
 fn length_of(kind: Kind, item: &Item) -> Option<Nm>
     ensures value { result ≡ length_of kind item.now }
     ensures range { IfSome result IsWithin }
 {
-    match kind {
-        Kind::TrackWidth => track_width(item),
-        Kind::ViaDiameter => via_size(item),
-        Kind::HoleSize => hole_size(item),
-        Kind::AnnularWidth => ring_of(item),
-        _ => None,
+    match subject_of(kind) {
+        Subject::Length(measure) => length_by(measure, item),
+        Subject::Sides(_) | Subject::Whole => None,
+    }
+}
+
+// Whether the length is measured twice: the copper round a hole is, on both sides of it.
+fn is_twice(kind: Kind) -> bool
+    ensures { times kind ≡ (if result then pos 2 else pos 1) }
+{
+    match subject_of(kind) {
+        Subject::Length(Measure::Ring) => true,
+        Subject::Length(Measure::Width | Measure::Diameter | Measure::Bore) => false,
+        Subject::Sides(_) | Subject::Whole => false,
     }
 }
 
@@ -197,10 +224,7 @@ fn counted(kind: Kind, nm: Nm) -> Nm
     ensures from { pos 0 ≤ℤ result }
     ensures to { result ≤ℤ pos 1000000000 }
 {
-    match kind {
-        Kind::AnnularWidth => 2 * nm,
-        _ => nm,
-    }
+    if is_twice(kind) { 2 * nm } else { nm }
 }
 
 // The length that there is: the measured one by how many times it is measured, rounded down.
@@ -209,10 +233,7 @@ fn length_in(kind: Kind, n: Nm) -> Nm
     ensures quotient { IsQuotient n (times kind) result }
     ensures range { IsWithin result }
 {
-    match kind {
-        Kind::AnnularWidth => n.div_euclid(2),
-        _ => n,
-    }
+    if is_twice(kind) { n.div_euclid(2) } else { n }
 }
 
 // The limit that the measured length breaks.
@@ -245,7 +266,7 @@ fn broken_limit(kind: Kind, n: Nm, picked: Picked) -> Option<Limit>
 // The limit that is broken on the layer, if one is.
 fn off_at(view: &CheckView, kind: Kind, single: Single<'_>, n: Nm, layer: RowLayer) -> Option<Off>
     requires few { length view.now.rules.now < 4294967295 }
-    requires limit { IsTrue (is_limit kind) }
+    requires limit { family kind ≡ Family.Limits }
     requires within { IsWithin n }
     requires tried { IsTried view.now.board.now.copper layer }
     ensures broken { MatchOption result (¬ (IsOffAt (deciders (checked_by view.now)) kind single.entry.item.now single.entry.facts.now n layer))
@@ -277,7 +298,7 @@ fn off_at(view: &CheckView, kind: Kind, single: Single<'_>, n: Nm, layer: RowLay
 // The first layer on which a limit is broken. Only places where the kind is measured are tried.
 fn first_off(view: &CheckView, kind: Kind, single: Single<'_>, n: Nm) -> Option<Off>
     requires few { length view.now.rules.now < 4294967295 }
-    requires limit { IsTrue (is_limit kind) }
+    requires limit { family kind ≡ Family.Limits }
     requires within { IsWithin n }
     ensures broken { MatchOption result (HoldsNowhere view.now.board.now.copper (IsOffAt (deciders (checked_by view.now)) kind single.entry.item.now single.entry.facts.now n))
         (λ off. IsOff (deciders (checked_by view.now)) kind single.entry.facts.now n off × IsFirst view.now.board.now.copper (IsOffAt (deciders (checked_by view.now)) kind single.entry.item.now single.entry.facts.now n) off.layer) }
@@ -297,7 +318,7 @@ fn first_off(view: &CheckView, kind: Kind, single: Single<'_>, n: Nm) -> Option<
 // That a limit is broken.
 fn limit_row(view: &CheckView, kind: Kind, id: u32, single: Single<'_>) -> Option<Row>
     requires few { length view.now.rules.now < 4294967295 }
-    requires limit { IsTrue (is_limit kind) }
+    requires limit { family kind ≡ Family.Limits }
     ensures { MatchOption result ((row : PlainRow) → ¬ (IsOfKind (IsOfSingle (deciders (checked_by view.now)) single.entry.item.now single.entry.facts.now id) kind row))
         (λ row. IsOfKind (IsOfSingle (deciders (checked_by view.now)) single.entry.item.now single.entry.facts.now id) kind row) }
 {
@@ -344,10 +365,10 @@ fn bans_item(bans: Disallow, item: &Item) -> bool
 fn forbids(kind: Kind, picked: Picked, item: &Item) -> bool
     ensures { IsTrue result ↔ Forbids kind (pick_of picked) item.now }
 {
-    match kind {
-        Kind::Disallow => bans_item(picked.bans, item),
-        Kind::Assertion => !picked.holds,
-        _ => false,
+    if kind.is_assertion() {
+        !picked.holds
+    } else {
+        bans_item(picked.bans, item)
     }
 }
 
@@ -359,7 +380,7 @@ fn forbidden_at(
     layer: RowLayer,
 ) -> Option<Forbidden>
     requires few { length view.now.rules.now < 4294967295 }
-    requires ban { IsTrue (is_ban kind) }
+    requires ban { family kind ≡ Family.Forbids }
     requires tried { IsTried view.now.board.now.copper layer }
     ensures { MatchOption result (¬ (IsForbiddenAt (deciders (checked_by view.now)) kind single.entry.item.now single.entry.facts.now layer))
         (λ found. (found.layer ≡ layer) × IsAskedAt single.entry.item.now single.entry.item.now.what layer × IsForbidden (deciders (checked_by view.now)) kind single.entry.item.now single.entry.facts.now found) }
@@ -385,12 +406,12 @@ fn forbidden_at(
 // The first layer on which the item is forbidden.
 fn first_forbidden(view: &CheckView, kind: Kind, single: Single<'_>) -> Option<Forbidden>
     requires few { length view.now.rules.now < 4294967295 }
-    requires ban { IsTrue (is_ban kind) }
+    requires ban { family kind ≡ Family.Forbids }
     ensures { MatchOption result (HoldsNowhere view.now.board.now.copper (IsForbiddenAt (deciders (checked_by view.now)) kind single.entry.item.now single.entry.facts.now))
         (λ found. IsForbidden (deciders (checked_by view.now)) kind single.entry.item.now single.entry.facts.now found
         × IsFirst view.now.board.now.copper (IsForbiddenAt (deciders (checked_by view.now)) kind single.entry.item.now single.entry.facts.now) found.layer) }
 {
-    let places = places_of(kind);
+    let places = places_of_items();
     for place in places.from..places.to {
         if let Some(layer) = tried_at(view.board.copper(), place) {
             if let Some(found) = forbidden_at(view, kind, single, layer) {
@@ -404,7 +425,7 @@ fn first_forbidden(view: &CheckView, kind: Kind, single: Single<'_>) -> Option<F
 // That the item is forbidden.
 fn ban_row(view: &CheckView, kind: Kind, id: u32, single: Single<'_>) -> Option<Row>
     requires few { length view.now.rules.now < 4294967295 }
-    requires ban { IsTrue (is_ban kind) }
+    requires ban { family kind ≡ Family.Forbids }
     ensures { MatchOption result ((row : PlainRow) → ¬ (IsOfKind (IsOfSingle (deciders (checked_by view.now)) single.entry.item.now single.entry.facts.now id) kind row))
         (λ row. IsOfKind (IsOfSingle (deciders (checked_by view.now)) single.entry.item.now single.entry.facts.now id) kind row) }
 {
@@ -425,7 +446,7 @@ fn ban_row(view: &CheckView, kind: Kind, id: u32, single: Single<'_>) -> Option<
 // Appends the row of a kind that limits a length, if the item breaks it.
 fn add_limit(view: &CheckView, kind: Kind, id: u32, single: Single<'_>, rows: &mut PairRows)
     requires few { length view.now.rules.now < 4294967295 }
-    requires limit { IsTrue (is_limit kind) }
+    requires limit { family kind ≡ Family.Limits }
     requires room { length rows.old < 8 }
     requires below { AreRowsBelow (IsOfSingle (deciders (checked_by view.now)) single.item.now single.facts.now id) (kind_number kind) rows.old }
     ensures rows { AreRowsBelow (IsOfSingle (deciders (checked_by view.now)) single.entry.item.now single.entry.facts.now id) (kind_number kind + 1) rows.new }
@@ -440,7 +461,7 @@ fn add_limit(view: &CheckView, kind: Kind, id: u32, single: Single<'_>, rows: &m
 #[inline(never)]
 fn add_forbidden(view: &CheckView, kind: Kind, id: u32, single: Single<'_>, rows: &mut PairRows)
     requires few { length view.now.rules.now < 4294967295 }
-    requires ban { IsTrue (is_ban kind) }
+    requires ban { family kind ≡ Family.Forbids }
     requires room { length rows.old < 8 }
     requires below { AreRowsBelow (IsOfSingle (deciders (checked_by view.now)) single.item.now single.facts.now id) (kind_number kind) rows.old }
     ensures rows { AreRowsBelow (IsOfSingle (deciders (checked_by view.now)) single.entry.item.now single.entry.facts.now id) (kind_number kind + 1) rows.new }
@@ -455,7 +476,7 @@ fn add_forbidden(view: &CheckView, kind: Kind, id: u32, single: Single<'_>, rows
 #[inline(always)]
 fn add_ban(view: &CheckView, kind: Kind, id: u32, single: Single<'_>, rows: &mut PairRows)
     requires few { length view.now.rules.now < 4294967295 }
-    requires ban { IsTrue (is_ban kind) }
+    requires ban { family kind ≡ Family.Forbids }
     requires room { length rows.old < 8 }
     requires below { AreRowsBelow (IsOfSingle (deciders (checked_by view.now)) single.item.now single.facts.now id) (kind_number kind) rows.old }
     ensures rows { AreRowsBelow (IsOfSingle (deciders (checked_by view.now)) single.entry.item.now single.entry.facts.now id) (kind_number kind + 1) rows.new }

@@ -12,12 +12,16 @@ use Rattle.copper_layers.specs.Layers.{has_layer}
 use Rattle.board_items.specs.Copper.{on_layer, SomeMeet, Keeps}
 use Rattle.board_items.specs.Parts.{parts_of, hole_parts, kind_parts}
 use Rattle.cond_lang.specs.declared.kind.Kind.{Kind}
-use Rattle.cond_lang.specs.declared.kind.Kind.TheVariants.{Short, Clearance, HoleClearance, HoleToHole, EdgeClearance, CourtyardClearance, Keepout, TrackWidth, ViaDiameter, HoleSize, AnnularWidth, Disallow, PhysicalClearance, PhysicalHoleClearance, Assertion}
+use Rattle.pair_check.specs.declared.subject.Faces.{Faces}
+use Rattle.pair_check.specs.declared.subject.Faces.TheVariants.{Coppers, HolesAndCopper, Holes, EdgesAndCopper, Yards, Areas}
+use Rattle.pair_check.specs.declared.subject.Subject.{Subject}
+use Rattle.pair_check.specs.declared.subject.Subject.TheVariants.{Sides, Length, Whole}
+use Rattle.pair_check.specs.Subjects.{subject_of}
 use Rattle.rule_pick.specs.FactsOf.{placed_parts, parts_asked}
 use Rattle.item_copper.proofs.Far.{IsFar}
 use Rattle.pair_check.specs.declared.layer.RowLayer.{RowLayer}
 use Rattle.pair_check.specs.declared.layer.RowLayer.TheVariants.{Copper, FrontYard, BackYard, Nowhere}
-use Rattle.pair_check.specs.Facing.{Facing, facing, copper_on, hole_on, hole_without, hole_alone, lines_of, front_of, back_of, area_on, yard_on, placed_on, facings, MeetAt, KeepAt}
+use Rattle.pair_check.specs.Facing.{Facing, facing, copper_on, hole_on, hole_without, hole_alone, lines_of, front_of, back_of, area_on, yard_on, placed_on, faced, facings_in, facings, MeetAt, KeepAt}
 
 -- ---- parts of one item
 module _ (P : Part → Type 0) where
@@ -160,85 +164,27 @@ module _ (P Q : Part → Type 0) (a b : Item) (all_a : All P (parts_of a)) (all_
   holes : (layer : ℕ) → All Between (facing (hole_on layer a) (copper_on layer b) ∷ facing (hole_on layer b) (copper_on layer a) ∷ [])
   holes layer = both (hole_on layer a) (copper_on layer b) (hole_on layer b) (copper_on layer a) (on_hole P a all_a layer) (on_copper Q b all_b layer) (on_hole Q b all_b layer) (on_copper P a all_a layer)
 
-  on_layers : (kind : Kind) (layer : ℕ) → All Between (facings kind (Copper layer) a b)
-  unfolding facings
-  on_layers Short layer = coppers layer
-  on_layers Clearance layer = coppers layer
-  on_layers PhysicalClearance layer = coppers layer
-  on_layers HoleClearance layer = holes layer
-  on_layers PhysicalHoleClearance layer = holes layer
-  on_layers EdgeClearance layer =
+  faced_between : (faces : Faces) (layer : RowLayer) → All Between (faced faces layer a b)
+  faced_between Coppers (Copper layer) = coppers layer
+  faced_between HolesAndCopper (Copper layer) = holes layer
+  faced_between Holes Nowhere = there (hole_parts a.hole) (hole_parts b.hole) (hole P a all_a) (hole Q b all_b)
+  faced_between EdgesAndCopper (Copper layer) =
       both (lines_of a.what) (copper_on layer b) (lines_of b.what) (copper_on layer a) (lines P a all_a) (on_copper Q b all_b layer) (lines Q b all_b) (on_copper P a all_a layer)
-  on_layers Keepout layer =
+  faced_between EdgesAndCopper Nowhere = both (lines_of a.what) (hole_alone b) (lines_of b.what) (hole_alone a) (lines P a all_a) (alone Q b all_b) (lines Q b all_b) (alone P a all_a)
+  faced_between Yards FrontYard = there (front_of a.what) (front_of b.what) (fronts P a all_a) (fronts Q b all_b)
+  faced_between Yards BackYard = there (back_of a.what) (back_of b.what) (backs P a all_a) (backs Q b all_b)
+  faced_between Areas (Copper layer) =
       both (area_on layer a.what) (placed_on layer b b.what) (area_on layer b.what) (placed_on layer a a.what) (areas P a all_a layer) (seen Q b all_b layer) (areas Q b all_b layer) (seen P a all_a layer)
-  on_layers HoleToHole layer = none
-  on_layers CourtyardClearance layer = none
-  on_layers TrackWidth layer = none
-  on_layers ViaDiameter layer = none
-  on_layers HoleSize layer = none
-  on_layers AnnularWidth layer = none
-  on_layers Disallow layer = none
-  on_layers Assertion layer = none
-
-  nowhere : (kind : Kind) → All Between (facings kind Nowhere a b)
-  unfolding facings
-  nowhere HoleToHole = there (hole_parts a.hole) (hole_parts b.hole) (hole P a all_a) (hole Q b all_b)
-  nowhere EdgeClearance = both (lines_of a.what) (hole_alone b) (lines_of b.what) (hole_alone a) (lines P a all_a) (alone Q b all_b) (lines Q b all_b) (alone P a all_a)
-  nowhere Short = none
-  nowhere Clearance = none
-  nowhere HoleClearance = none
-  nowhere CourtyardClearance = none
-  nowhere Keepout = none
-  nowhere TrackWidth = none
-  nowhere ViaDiameter = none
-  nowhere HoleSize = none
-  nowhere AnnularWidth = none
-  nowhere Disallow = none
-  nowhere PhysicalClearance = none
-  nowhere PhysicalHoleClearance = none
-  nowhere Assertion = none
-
-  in_front : (kind : Kind) → All Between (facings kind FrontYard a b)
-  unfolding facings
-  in_front CourtyardClearance = there (front_of a.what) (front_of b.what) (fronts P a all_a) (fronts Q b all_b)
-  in_front HoleToHole = none
-  in_front EdgeClearance = none
-  in_front Short = none
-  in_front Clearance = none
-  in_front HoleClearance = none
-  in_front Keepout = none
-  in_front TrackWidth = none
-  in_front ViaDiameter = none
-  in_front HoleSize = none
-  in_front AnnularWidth = none
-  in_front Disallow = none
-  in_front PhysicalClearance = none
-  in_front PhysicalHoleClearance = none
-  in_front Assertion = none
-
-  in_back : (kind : Kind) → All Between (facings kind BackYard a b)
-  unfolding facings
-  in_back CourtyardClearance = there (back_of a.what) (back_of b.what) (backs P a all_a) (backs Q b all_b)
-  in_back HoleToHole = none
-  in_back EdgeClearance = none
-  in_back Short = none
-  in_back Clearance = none
-  in_back HoleClearance = none
-  in_back Keepout = none
-  in_back TrackWidth = none
-  in_back ViaDiameter = none
-  in_back HoleSize = none
-  in_back AnnularWidth = none
-  in_back Disallow = none
-  in_back PhysicalClearance = none
-  in_back PhysicalHoleClearance = none
-  in_back Assertion = none
+  faced_between _ _ = none
 
   facings_between : (kind : Kind) (layer : RowLayer) → All Between (facings kind layer a b)
-  facings_between kind (Copper layer) = on_layers kind layer
-  facings_between kind FrontYard = in_front kind
-  facings_between kind BackYard = in_back kind
-  facings_between kind Nowhere = nowhere kind
+  unfolding facings
+  facings_between kind layer = by (subject_of kind)
+    where
+      by : (subject : Subject) → All Between (facings_in subject layer a b)
+      by (Sides faces) = faced_between faces layer
+      by (Length measure) = none
+      by Whole = none
 
   -- ---- parts that are far from each other
   module _ (v : ℤ) (far : (p q : Part) → P p → Q q → IsFar v p q) (back : (p q : Part) → P p → Q q → IsFar v q p) where

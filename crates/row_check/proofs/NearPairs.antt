@@ -8,16 +8,19 @@ use Rattle.board_items.specs.declared.parts.Part.{Part}
 use Rattle.board_items.specs.Parts.{parts_of}
 use Rattle.board_items.specs.Extents.{LiesIn, AreBoundsOf}
 use Rattle.cond_lang.specs.declared.kind.Kind.{Kind}
-use Rattle.cond_lang.specs.declared.kind.Kind.TheVariants.{Short, Clearance, HoleClearance, HoleToHole, EdgeClearance, CourtyardClearance, Keepout, TrackWidth, ViaDiameter, HoleSize, AnnularWidth, Disallow, PhysicalClearance, PhysicalHoleClearance, Assertion}
+use Rattle.cond_lang.specs.declared.kind.Kind.TheVariants.{Clearance, HoleClearance, HoleToHole, EdgeClearance, CourtyardClearance, PhysicalClearance, PhysicalHoleClearance}
+use Rattle.cond_lang.specs.declared.kind.Family.{Family}
+use Rattle.cond_lang.specs.declared.kind.Family.TheVariants.{Meets, Keeps, Limits, Forbids}
+use Rattle.cond_lang.specs.Kinds.{family}
 use Rattle.rule_pick.specs.Picks.{Pick}
-use Rattle.rule_pick.specs.Reach.{is_between_two, IsReach}
+use Rattle.rule_pick.specs.Reach.{asks_distance, is_between_two, IsReach}
 use Rattle.item_copper.proofs.Rooms.{all_lie}
 use Rattle.item_copper.proofs.Far.{IsFar, far_in, far_back, each_lies, near_unless}
 use Rattle.pair_check.specs.declared.layer.RowLayer.{RowLayer}
 use Rattle.pair_check.specs.PlainRow.{PlainRow}
 use Rattle.pair_check.specs.Layers.{asked_layer}
 use Rattle.pair_check.specs.Facing.{MeetAt, KeepAt}
-use Rattle.pair_check.specs.Pairs.{Deciders, Pair, IsPickOf, SaysNear, Breaks}
+use Rattle.pair_check.specs.Pairs.{Deciders, Pair, IsPickOf, SaysNear, BreaksBy, Breaks}
 use Rattle.pair_check.specs.Rows.{Checked, deciders, IsRowOfTwo}
 use Rattle.pair_check.proofs.NearPicks.{local_at_most, class_at_most, least_at_most, pick_once}
 use Rattle.row_check.proofs.NearFacings.{all_kept, none_meet}
@@ -56,22 +59,24 @@ module _ (d : Deciders) (pair : Pair) (row : PlainRow) where
     | inr not_kept ↦ missed CourtyardClearance refl near not_kept
   ]
 
+  near : (kind : Kind) → is_between_two kind ≡ true → SaysNear d kind pair row → Found kind
+  near CourtyardClearance between says = in_yards says
+  near Clearance between says = missed Clearance between says says.where_first.holds.near
+  near HoleClearance between says = missed HoleClearance between says says.where_first.holds.near
+  near HoleToHole between says = missed HoleToHole between says says.where_first.holds.near
+  near EdgeClearance between says = missed EdgeClearance between says says.where_first.holds.near
+  near PhysicalClearance between says = missed PhysicalClearance between says says.where_first.holds.near
+  near PhysicalHoleClearance between says = missed PhysicalHoleClearance between says says.where_first.holds.near
+  near _ between says = absurd (cc)
+
   said : (kind : Kind) → Breaks d kind pair row → Found kind
-  said Short says = inl says.where_first.holds
-  said Keepout says = inl says.where_first.holds
-  said Clearance says = missed Clearance refl says says.where_first.holds.near
-  said HoleClearance says = missed HoleClearance refl says says.where_first.holds.near
-  said HoleToHole says = missed HoleToHole refl says says.where_first.holds.near
-  said EdgeClearance says = missed EdgeClearance refl says says.where_first.holds.near
-  said CourtyardClearance says = in_yards says
-  said PhysicalClearance says = missed PhysicalClearance refl says says.where_first.holds.near
-  said PhysicalHoleClearance says = missed PhysicalHoleClearance refl says says.where_first.holds.near
-  said TrackWidth says = absurd says
-  said ViaDiameter says = absurd says
-  said HoleSize says = absurd says
-  said AnnularWidth says = absurd says
-  said Disallow says = absurd says
-  said Assertion says = absurd says
+  said kind says = by (family kind) refl says
+    where
+      by : (f : Family) → family kind ≡ f → BreaksBy f d kind pair row → Found kind
+      by Meets e says = inl says.where_first.holds
+      by Keeps e says = near kind (ap asks_distance e) says
+      by Limits e says = absurd says
+      by Forbids e says = absurd says
 
   -- ---- items that are far from each other break nothing
   module _ (P Q : Part → Type 0) (all_a : All P (parts_of pair.a)) (all_b : All Q (parts_of pair.b)) (Fits : ℤ → Type 0)

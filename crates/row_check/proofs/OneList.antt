@@ -7,15 +7,17 @@ use Rattle.board_items.specs.declared.item.Item.{Item}
 use Rattle.board_items.specs.Boards.{item_at}
 use Rattle.cond_lang.specs.Rules.{PlainRule}
 use Rattle.cond_lang.specs.declared.kind.Kind.{Kind}
-use Rattle.cond_lang.specs.declared.kind.Kind.TheVariants.{Short, Clearance, HoleClearance, HoleToHole, EdgeClearance, CourtyardClearance, Keepout, TrackWidth, ViaDiameter, HoleSize, AnnularWidth, Disallow, PhysicalClearance, PhysicalHoleClearance, Assertion}
+use Rattle.cond_lang.specs.declared.kind.Family.{Family}
+use Rattle.cond_lang.specs.declared.kind.Family.TheVariants.{Meets, Keeps, Limits, Forbids}
+use Rattle.cond_lang.specs.Kinds.{family}
 use Rattle.net_class.specs.Classes.{PlainMins}
 use Rattle.rule_pick.specs.declared.facts.Facts.{Facts}
 use Rattle.rule_pick.specs.declared.kinds.Source.TheVariants.{Rule}
 use Rattle.rule_pick.specs.Deciding.{IsPick}
 use Rattle.rule_pick.specs.Picks.{Pick}
 use Rattle.pair_check.specs.PlainRow.{PlainRow}
-use Rattle.pair_check.specs.Pairs.{Deciders, Pair, Breaks, SaysMeeting, SaysNear}
-use Rattle.pair_check.specs.Singles.{BreaksAlone, SaysLimit, SaysForbidden}
+use Rattle.pair_check.specs.Pairs.{Deciders, Pair, BreaksBy, Breaks, SaysMeeting, SaysNear}
+use Rattle.pair_check.specs.Singles.{BreaksAloneBy, BreaksAlone, SaysLimit, SaysForbidden}
 use Rattle.pair_check.specs.Rows.{Checked, deciders, Before, AreRowsWhere, AreRows, IsRow, HasItems, HasSource}
 use Rattle.row_check.proofs.RowLists.{here, behind, nothing, cons_case}
 
@@ -114,38 +116,22 @@ module _ (d : Deciders) where
   forbidden_source kind item facts row s n h = picked_below d.rules d.mins kind _ _ _ s.pick s.picked n (sym s.source ∙ h)
 
   two_source : (kind : Kind) (pair : Pair) (row : PlainRow) → Breaks d kind pair row → HasSource d.rules row
-  two_source Short pair row s = meeting_source Short pair row s
-  two_source Keepout pair row s = meeting_source Keepout pair row s
-  two_source Clearance pair row s = near_source Clearance pair row s
-  two_source HoleClearance pair row s = near_source HoleClearance pair row s
-  two_source HoleToHole pair row s = near_source HoleToHole pair row s
-  two_source EdgeClearance pair row s = near_source EdgeClearance pair row s
-  two_source CourtyardClearance pair row s = near_source CourtyardClearance pair row s
-  two_source PhysicalClearance pair row s = near_source PhysicalClearance pair row s
-  two_source PhysicalHoleClearance pair row s = near_source PhysicalHoleClearance pair row s
-  two_source TrackWidth pair row s = absurd s
-  two_source ViaDiameter pair row s = absurd s
-  two_source HoleSize pair row s = absurd s
-  two_source AnnularWidth pair row s = absurd s
-  two_source Disallow pair row s = absurd s
-  two_source Assertion pair row s = absurd s
+  two_source kind pair row s = by (family kind) s
+    where
+      by : (f : Family) → BreaksBy f d kind pair row → HasSource d.rules row
+      by Meets s = meeting_source kind pair row s
+      by Keeps s = near_source kind pair row s
+      by Limits s = absurd s
+      by Forbids s = absurd s
 
   one_source : (kind : Kind) (item : Item) (facts : Facts) (row : PlainRow) → BreaksAlone d kind item facts row → HasSource d.rules row
-  one_source TrackWidth item facts row s = limit_source TrackWidth item facts row s
-  one_source ViaDiameter item facts row s = limit_source ViaDiameter item facts row s
-  one_source HoleSize item facts row s = limit_source HoleSize item facts row s
-  one_source AnnularWidth item facts row s = limit_source AnnularWidth item facts row s
-  one_source Disallow item facts row s = forbidden_source Disallow item facts row s
-  one_source Assertion item facts row s = forbidden_source Assertion item facts row s
-  one_source Short item facts row s = absurd s
-  one_source Keepout item facts row s = absurd s
-  one_source Clearance item facts row s = absurd s
-  one_source HoleClearance item facts row s = absurd s
-  one_source HoleToHole item facts row s = absurd s
-  one_source EdgeClearance item facts row s = absurd s
-  one_source CourtyardClearance item facts row s = absurd s
-  one_source PhysicalClearance item facts row s = absurd s
-  one_source PhysicalHoleClearance item facts row s = absurd s
+  one_source kind item facts row s = by (family kind) s
+    where
+      by : (f : Family) → BreaksAloneBy f d kind item facts row → HasSource d.rules row
+      by Meets s = absurd s
+      by Keeps s = absurd s
+      by Limits s = limit_source kind item facts row s
+      by Forbids s = forbidden_source kind item facts row s
 
 has_source : (c : Checked) (row : PlainRow) → IsRow c row → HasSource c.rules row
 has_source c row (inl two) = two_source (deciders c) row.kind two.pair row two.broken

@@ -5,20 +5,21 @@ use Rattle.board_items.specs.declared.item.Item.{Item}
 use Rattle.board_items.specs.Boards.{PlainBoard}
 use Rattle.net_class.specs.Classes.{PlainMins, PlainClasses}
 use Rattle.cond_lang.specs.declared.kind.Kind.{Kind}
-use Rattle.cond_lang.specs.declared.kind.Kind.TheVariants.{Clearance, HoleClearance, HoleToHole, EdgeClearance, CourtyardClearance, PhysicalClearance, PhysicalHoleClearance}
+use Rattle.cond_lang.specs.declared.kind.Family.{Family}
+use Rattle.cond_lang.specs.declared.kind.Family.TheVariants.{Meets, Keeps, Limits, Forbids}
+use Rattle.cond_lang.specs.Kinds.{family}
 use Rattle.cond_lang.specs.Rules.{PlainConstraint, PlainRule}
 use Rattle.rule_pick.specs.Deciding.{asked_least}
 
+abbrev pub asks_distance : Family → Bool
+asks_distance Meets = false
+asks_distance Keeps = true
+asks_distance Limits = false
+asks_distance Forbids = false
+
 -- the kinds that ask two items to keep a distance
 abbrev pub is_between_two : Kind → Bool
-is_between_two Clearance = true
-is_between_two HoleClearance = true
-is_between_two HoleToHole = true
-is_between_two EdgeClearance = true
-is_between_two CourtyardClearance = true
-is_between_two PhysicalClearance = true
-is_between_two PhysicalHoleClearance = true
-is_between_two _ = false
+is_between_two kind = asks_distance (family kind)
 
 -- the least value, where the kind is such a one
 abbrev pub distance_asked : PlainConstraint → List ℤ

@@ -3,6 +3,8 @@
 ghost use Rattle.std.specs.Prelude.{◌≡◌, ◌≢◌, ◌<◌, map, length};
 ghost use Rattle.std.specs.Option.{option_map, option_copied};
 ghost use Rattle.net_class.specs.Views.{mins_of};
+ghost use Rattle.cond_lang.specs.declared.kind.Family.{Family};
+ghost use Rattle.cond_lang.specs.Kinds.{family};
 ghost use Rattle.cond_lang.specs.Rules.{plain_constraint, plain_rule};
 ghost use Rattle.rule_pick.specs.Deciding.{greater_if, local_if, local_of, default_least, class_clearance_if, claim_holds, asked_least, pick_least, pick_of_rule, IsPick};
 ghost use Rattle.rule_pick.specs.Picks.{pick_of};
@@ -160,8 +162,7 @@ pub fn pick(
     layer: Option<u32>,
 ) -> Picked
     requires few { length rules.now < 4294967295 }
-    requires no_short { kind ≢ Kind.Short }
-    requires no_keepout { kind ≢ Kind.Keepout }
+    requires limited { family kind ≢ Family.Meets }
     ensures { IsPick (map plain_rule rules.now) (mins_of mins.now) kind a.now (option_copied b.entry) layer (pick_of result) }
 {
     let least = minimum(mins, a.micro, kind);

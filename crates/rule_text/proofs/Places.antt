@@ -5,7 +5,9 @@ use Rattle.sexpr_read.specs.Tree.{Tree, leaf, branch, parts, is_list, content}
 use Rattle.exact_dec.specs.declared.DecError.{DecError}
 use Rattle.exact_dec.specs.Computed.{with_unit_answer}
 use Rattle.cond_lang.specs.declared.kind.Kind.{Kind}
-use Rattle.cond_lang.specs.declared.kind.Kind.TheVariants.{Short, Clearance, HoleClearance, HoleToHole, EdgeClearance, CourtyardClearance, Keepout, TrackWidth, ViaDiameter, HoleSize, AnnularWidth, Disallow as Banning, PhysicalClearance, PhysicalHoleClearance, Assertion}
+use Rattle.cond_lang.specs.declared.kind.Family.{Family}
+use Rattle.cond_lang.specs.declared.kind.Family.TheVariants.{Meets, Keeps, Limits, Forbids}
+use Rattle.cond_lang.specs.Kinds.{family, is_assertion}
 use Rattle.cond_lang.specs.declared.rule.Disallow.{Disallow}
 use Rattle.cond_lang.specs.Found.{Found, read, fault}
 use Rattle.cond_lang.specs.Conditions.{reading}
@@ -15,7 +17,7 @@ use Rattle.rule_text.specs.declared.error.RuleError.TheVariants.{Version, Bad, B
 use Rattle.rule_text.specs.Forms.{◌>>=◌, needed, check, place, bad, text_of, is_text, has_head, has_word_head, as_atom, second_among, name_at, single_among, atom_at, clauses}
 use Rattle.rule_text.specs.LayersOf.{layer_named, layer_in}
 use Rattle.rule_text.specs.Limits.{kind_named, is_length, length_from, length_in, PlainLimits, with_least, with_wished, with_most, with_limit, with_limits, unlimited, bans_nothing, with_ban, with_bans, cond_from, cond_in}
-use Rattle.rule_text.specs.RulesOf.{PlainRules, PlainDraft, severity_named, severity_in, limited, banned, claim_among, claimed, constraint_in, has_kind, with_layer, with_severity, with_cond, with_kind, with_constraint, with_clause, with_clauses, is_asked, blank, with_rule, with_rules, is_version, no_rules, rules_of}
+use Rattle.rule_text.specs.RulesOf.{PlainRules, PlainDraft, severity_named, severity_in, limited, banned, claim_among, claimed, constraint_by, constraint_in, has_kind, with_layer, with_severity, with_cond, with_kind, with_constraint, with_clause, with_clauses, is_asked, blank, with_rule, with_rules, is_version, no_rules, rules_of}
 use Rattle.rule_text.specs.ListText.{behind_one, no_form, nothing_more, list_among, list_of}
 use Rattle.rule_text.specs.Short.{AllShort, IsShort}
 use Rattle.rule_text.specs.Near.{IsNear, NearIfErr}
@@ -142,34 +144,26 @@ near_claim_among t [] h k = near_place t h
 near_claim_among t (x ∷ []) h k = near_if (is_list x) (bad x) (Ok x) (near_place x (head_short x [] k)) tt
 near_claim_among t (x ∷ y ∷ ts) h k = near_place t h
 
-near_claimed : (t : Tree) → IsShort t → NearIfErr (claimed t)
-near_claimed t h =
+near_claimed : (k : Kind) (t : Tree) → IsShort t → NearIfErr (claimed k t)
+near_claimed k t h =
     near_then (claim_among t (clauses t)) _ (near_claim_among t (clauses t) h (clauses_short t h)) (λ a e.
-    near_then (cond_in a) _ (near_cond a (claim_short t a e h)) (λ c k. tt))
+    near_then (cond_in a) _ (near_cond a (claim_short t a e h)) (λ c l. tt))
 
-near_banned : (t : Tree) → IsShort t → NearIfErr (banned t)
-near_banned t h = near_then (with_bans bans_nothing (clauses t)) _ (near_bans bans_nothing (clauses t) (clauses_short t h)) (λ b e. tt)
+near_banned : (k : Kind) (t : Tree) → IsShort t → NearIfErr (banned k t)
+near_banned k t h = near_then (with_bans bans_nothing (clauses t)) _ (near_bans bans_nothing (clauses t) (clauses_short t h)) (λ b e. tt)
 
 near_limited : (k : Kind) (t : Tree) → IsShort t → NearIfErr (limited k t)
 near_limited k t h = near_then (with_limits unlimited (clauses t)) _ (near_limits unlimited (clauses t) (clauses_short t h)) (λ l e. tt)
 
 near_constraint : (k : Kind) (t : Tree) → IsShort t → NearIfErr (constraint_in k t)
 unfolding constraint_in
-near_constraint Banning t h = near_banned t h
-near_constraint Assertion t h = near_claimed t h
-near_constraint Short t h = near_limited Short t h
-near_constraint Clearance t h = near_limited Clearance t h
-near_constraint HoleClearance t h = near_limited HoleClearance t h
-near_constraint HoleToHole t h = near_limited HoleToHole t h
-near_constraint EdgeClearance t h = near_limited EdgeClearance t h
-near_constraint CourtyardClearance t h = near_limited CourtyardClearance t h
-near_constraint Keepout t h = near_limited Keepout t h
-near_constraint TrackWidth t h = near_limited TrackWidth t h
-near_constraint ViaDiameter t h = near_limited ViaDiameter t h
-near_constraint HoleSize t h = near_limited HoleSize t h
-near_constraint AnnularWidth t h = near_limited AnnularWidth t h
-near_constraint PhysicalClearance t h = near_limited PhysicalClearance t h
-near_constraint PhysicalHoleClearance t h = near_limited PhysicalHoleClearance t h
+near_constraint k t h = by (family k)
+  where
+    by : (f : Family) → NearIfErr (constraint_by f k t)
+    by Meets = near_limited k t h
+    by Keeps = near_limited k t h
+    by Limits = near_limited k t h
+    by Forbids = near_if (is_assertion k) (claimed k t) (banned k t) (near_claimed k t h) (near_banned k t h)
 
 -- ---- rules
 

@@ -5,12 +5,13 @@ use Rattle.std.specs.Prelude.{ℕ, List, [], ◌∷◌, ◌++◌, length, codes,
 use Rattle.std.specs.List.{list_any}
 use Rattle.sexpr_read.specs.Tree.{Tree, parts, is_list}
 use Rattle.cond_lang.specs.declared.kind.Kind.{Kind}
-use Rattle.cond_lang.specs.declared.kind.Kind.TheVariants.{Clearance, HoleClearance, HoleToHole, EdgeClearance, CourtyardClearance, TrackWidth, ViaDiameter, HoleSize, AnnularWidth, Disallow, PhysicalClearance, PhysicalHoleClearance, Assertion, Short, Keepout}
+use Rattle.cond_lang.specs.declared.kind.Family.{Family}
+use Rattle.cond_lang.specs.declared.kind.Family.TheVariants.{Meets, Keeps, Limits, Forbids}
 use Rattle.cond_lang.specs.declared.rule.RuleLayer.{RuleLayer}
 use Rattle.cond_lang.specs.declared.rule.RuleLayer.TheVariants.{Any}
 use Rattle.cond_lang.specs.declared.rule.Severity.{Severity}
 use Rattle.cond_lang.specs.declared.rule.Severity.TheVariants.{Error, Warning, Ignore, Exclusion}
-use Rattle.cond_lang.specs.Kinds.{kind_number}
+use Rattle.cond_lang.specs.Kinds.{family, kind_number, is_assertion}
 use Rattle.cond_lang.specs.Rules.{PlainRule, PlainConstraint}
 use Rattle.cond_lang.specs.Trees.{Tree as CondTree}
 use Rattle.rule_text.specs.declared.error.RuleError.{RuleError}
@@ -53,8 +54,8 @@ limiting kind limits = record { kind = kind; least = limits.least; most = limits
 abbrev pub limited : Kind → Tree → Result PlainConstraint RuleError
 limited kind clause = with_limits unlimited (clauses clause) >>= λ limits. Ok (limiting kind limits)
 
-abbrev pub banned : Tree → Result PlainConstraint RuleError
-banned clause = with_bans bans_nothing (clauses clause) >>= λ bans. Ok (record { kind = Disallow; least = None; most = None; bans = bans; claim = None })
+abbrev pub banned : Kind → Tree → Result PlainConstraint RuleError
+banned kind clause = with_bans bans_nothing (clauses clause) >>= λ bans. Ok (record { kind = kind; least = None; most = None; bans = bans; claim = None })
 
 -- an assertion has one part: an atom
 abbrev pub claim_among : Tree → List Tree → Result Tree RuleError
@@ -62,28 +63,23 @@ claim_among clause [] = bad clause
 claim_among clause (t ∷ []) = if is_list t then bad t else Ok t
 claim_among clause (t ∷ u ∷ ts) = bad clause
 
-abbrev pub claimed : Tree → Result PlainConstraint RuleError
-claimed clause = do
+abbrev pub claimed : Kind → Tree → Result PlainConstraint RuleError
+claimed kind clause = do
   atom ← claim_among clause (clauses clause)
   claim ← cond_in atom
-  Ok (record { kind = Assertion; least = None; most = None; bans = bans_nothing; claim = Some claim })
+  Ok (record { kind = kind; least = None; most = None; bans = bans_nothing; claim = Some claim })
+
+abbrev pub forbidding : Kind → Tree → Result PlainConstraint RuleError
+forbidding kind clause = if is_assertion kind then claimed kind clause else banned kind clause
+
+abbrev pub constraint_by : Family → Kind → Tree → Result PlainConstraint RuleError
+constraint_by Meets kind clause = limited kind clause
+constraint_by Keeps kind clause = limited kind clause
+constraint_by Limits kind clause = limited kind clause
+constraint_by Forbids kind clause = forbidding kind clause
 
 unfoldable pub constraint_in : Kind → Tree → Result PlainConstraint RuleError
-constraint_in Disallow clause = banned clause
-constraint_in Assertion clause = claimed clause
-constraint_in Short clause = limited Short clause
-constraint_in Clearance clause = limited Clearance clause
-constraint_in HoleClearance clause = limited HoleClearance clause
-constraint_in HoleToHole clause = limited HoleToHole clause
-constraint_in EdgeClearance clause = limited EdgeClearance clause
-constraint_in CourtyardClearance clause = limited CourtyardClearance clause
-constraint_in Keepout clause = limited Keepout clause
-constraint_in TrackWidth clause = limited TrackWidth clause
-constraint_in ViaDiameter clause = limited ViaDiameter clause
-constraint_in HoleSize clause = limited HoleSize clause
-constraint_in AnnularWidth clause = limited AnnularWidth clause
-constraint_in PhysicalClearance clause = limited PhysicalClearance clause
-constraint_in PhysicalHoleClearance clause = limited PhysicalHoleClearance clause
+constraint_in kind clause = constraint_by (family kind) kind clause
 
 -- a constraint of this kind is among them
 abbrev pub has_kind : Kind → List PlainConstraint → Bool

@@ -1,11 +1,11 @@
 //! The constraints of a rule.
 
-ghost use Rattle.std.specs.Prelude.{◌≡◌, false, map};
+ghost use Rattle.std.specs.Prelude.{◌≡◌, false, true, map};
 ghost use Rattle.sexpr_read.specs.Views.{tree_of, trees_left};
 ghost use Rattle.cond_lang.specs.Kinds.{is_assertion};
 ghost use Rattle.cond_lang.specs.Rules.{plain_constraint};
 ghost use Rattle.rule_text.specs.Limits.{kind_named};
-ghost use Rattle.rule_text.specs.RulesOf.{limited, banned, claimed, constraint_in, has_kind, is_other, is_constraint, is_asked};
+ghost use Rattle.rule_text.specs.RulesOf.{limited, banned, claimed, forbidding, constraint_in, has_kind, is_other, is_constraint, is_asked};
 ghost use Rattle.rule_text.specs.Forms.{clauses};
 ghost use Rattle.rule_text.specs.Short.{IsShort};
 ghost use Rattle.rule_text.specs.Views.{Gives};
@@ -15,7 +15,7 @@ use crate::conds::{claim_at, cond_in};
 use crate::error::RuleError;
 use crate::forms::{clauses, has_head, name_at};
 use crate::lengths::{limits_in, nm_of};
-use cond_lang::{Constraint, Kind};
+use cond_lang::{Constraint, Family, Kind};
 use sexpr_read::Node;
 use std::alloc::Global;
 
@@ -71,12 +71,13 @@ fn limited(kind: Kind, clause: Node<'_, '_>) -> Result<Constraint, RuleError>
 }
 
 /// A constraint that bans what its words say.
-fn banned(clause: Node<'_, '_>) -> Result<Constraint, RuleError>
-    ensures { Gives plain_constraint result (banned (tree_of clause.entry)) }
+fn banned(kind: Kind, clause: Node<'_, '_>) -> Result<Constraint, RuleError>
+    requires { is_assertion kind ≡ false }
+    ensures { Gives plain_constraint result (banned kind (tree_of clause.entry)) }
 {
     let bans = bans_in(clause)?;
     Ok(Constraint {
-        kind: Kind::Disallow,
+        kind,
         least: None,
         most: None,
         bans,
@@ -85,19 +86,32 @@ fn banned(clause: Node<'_, '_>) -> Result<Constraint, RuleError>
 }
 
 /// An assertion of its one part.
-fn claimed(alloc: Global, clause: Node<'_, '_>) -> Result<Constraint, RuleError>
-    requires { IsShort (tree_of clause) }
-    ensures { Gives plain_constraint result (claimed (tree_of clause.entry)) }
+fn claimed(alloc: Global, kind: Kind, clause: Node<'_, '_>) -> Result<Constraint, RuleError>
+    requires kind { is_assertion kind ≡ true }
+    requires short { IsShort (tree_of clause) }
+    ensures { Gives plain_constraint result (claimed kind (tree_of clause.entry)) }
 {
     let atom = claim_at(clause)?;
     let claim = cond_in(alloc, atom)?;
     Ok(Constraint {
-        kind: Kind::Assertion,
+        kind,
         least: None,
         most: None,
         bans: NOTHING,
         claim: Some(claim),
     })
+}
+
+/// A constraint that forbids, by a claim or by words of what is banned.
+fn forbidding(alloc: Global, kind: Kind, clause: Node<'_, '_>) -> Result<Constraint, RuleError>
+    requires { IsShort (tree_of clause) }
+    ensures { Gives plain_constraint result (forbidding kind (tree_of clause.entry)) }
+{
+    if kind.is_assertion() {
+        claimed(alloc, kind, clause)
+    } else {
+        banned(kind, clause)
+    }
 }
 
 /// What `(constraint NAME ..)` asks of its kind.
@@ -110,22 +124,9 @@ pub(crate) fn constraint_in(
     requires { IsShort (tree_of clause) }
     ensures { Gives plain_constraint result (constraint_in kind (tree_of clause.entry)) }
 {
-    match kind {
-        Kind::Disallow => banned(clause),
-        Kind::Assertion => claimed(alloc, clause),
-        Kind::Short
-        | Kind::Clearance
-        | Kind::HoleClearance
-        | Kind::HoleToHole
-        | Kind::EdgeClearance
-        | Kind::CourtyardClearance
-        | Kind::Keepout
-        | Kind::TrackWidth
-        | Kind::ViaDiameter
-        | Kind::HoleSize
-        | Kind::AnnularWidth
-        | Kind::PhysicalClearance
-        | Kind::PhysicalHoleClearance => limited(kind, clause),
+    match kind.family() {
+        Family::Meets | Family::Keeps | Family::Limits => limited(kind, clause),
+        Family::Forbids => forbidding(alloc, kind, clause),
     }
 }
 

@@ -1,46 +1,21 @@
-use Rattle.std.proofs.Common.{sym, subst}
-use Rattle.cond_lang.specs.declared.kind.Kind.{Kind}
-use Rattle.pair_check.specs.Sides.{FaceWithin}
-use Rattle.pair_check.proofs.Unfaced.{short_within, clearance_within, physical_within, hole_within, physical_hole_within, kind_within}
+use Rattle.std.proofs.Common.{inl, inr, sym, ◌∙◌, arith}
+use Rattle.std.proofs.lemmas.List.Elements.{All-nil}
+use Rattle.pair_check.specs.declared.subject.Subject.TheVariants.{Sides, Length, Whole}
+use Rattle.pair_check.specs.Sides.{IsUnfaced}
+use Rattle.pair_check.proofs.Unfaced.{kind_within}
 use Rattle.pair_check.proofs.faces.places_between.Goals as goal
 
-pub returns-in-Short-clause-each : goal.returns-in-Short-clause-each
-returns-in-Short-clause-each c = λ copper layer is.
-    let a = c.args.a.now in
-    let b = c.args.b.now in
-    let places = c.places_in.result in
-    subst (λ (k : Kind). FaceWithin k a b places.from places.to layer) (sym c.in-Short.is) (short_within c.shared_copper.result a b places.from places.to c.places_in.ensures.each c.shared_copper.ensures layer)
+pub returns-in-Sides-clause-each : goal.returns-in-Sides-clause-each
+returns-in-Sides-clause-each c = λ copper layer is.
+    let places = c.places_of_sides.result in
+    kind_within c.args.kind (Sides c.in-Sides.faces) c.args.a.now c.args.b.now places.from places.to layer (sym c.subject_of.ensures ∙ c.in-Sides.is) (c.places_of_sides.ensures.each copper layer is)
 
-pub returns-in-Clearance-clause-each : goal.returns-in-Clearance-clause-each
-returns-in-Clearance-clause-each c = λ copper layer is.
-    let a = c.args.a.now in
-    let b = c.args.b.now in
-    let places = c.places_in-in-Clearance.result in
-    subst (λ (k : Kind). FaceWithin k a b places.from places.to layer) (sym c.in-Clearance.is) (clearance_within c.shared_copper-in-Clearance.result a b places.from places.to c.places_in-in-Clearance.ensures.each c.shared_copper-in-Clearance.ensures layer)
-
-pub returns-in-PhysicalClearance-clause-each : goal.returns-in-PhysicalClearance-clause-each
-returns-in-PhysicalClearance-clause-each c = λ copper layer is.
-    let a = c.args.a.now in
-    let b = c.args.b.now in
-    let places = c.places_in-in-PhysicalClearance.result in
-    subst (λ (k : Kind). FaceWithin k a b places.from places.to layer) (sym c.in-PhysicalClearance.is) (physical_within c.shared_copper-in-PhysicalClearance.result a b places.from places.to c.places_in-in-PhysicalClearance.ensures.each c.shared_copper-in-PhysicalClearance.ensures layer)
-
-pub returns-in-HoleClearance-clause-each : goal.returns-in-HoleClearance-clause-each
-returns-in-HoleClearance-clause-each c = λ copper layer is.
-    let a = c.args.a.now in
-    let b = c.args.b.now in
-    let places = c.places_in-in-HoleClearance.result in
-    subst (λ (k : Kind). FaceWithin k a b places.from places.to layer) (sym c.in-HoleClearance.is) (hole_within c.holed_beside.result a b places.from places.to c.places_in-in-HoleClearance.ensures.each c.holed_beside.ensures.there c.holed_beside.ensures.back layer)
-
-pub returns-in-PhysicalHoleClearance-clause-each : goal.returns-in-PhysicalHoleClearance-clause-each
-returns-in-PhysicalHoleClearance-clause-each c = λ copper layer is.
-    let a = c.args.a.now in
-    let b = c.args.b.now in
-    let places = c.places_in-in-PhysicalHoleClearance.result in
-    subst (λ (k : Kind). FaceWithin k a b places.from places.to layer) (sym c.in-PhysicalHoleClearance.is) (physical_hole_within c.holed_beside-in-PhysicalHoleClearance.result a b places.from places.to c.places_in-in-PhysicalHoleClearance.ensures.each c.holed_beside-in-PhysicalHoleClearance.ensures.there c.holed_beside-in-PhysicalHoleClearance.ensures.back layer)
-
-pub returns-in_default : goal.returns-in_default
-returns-in_default c = record {
-  bound = c.places_of.ensures.bound;
-  each = λ copper layer is. kind_within c.args.kind c.args.a.now c.args.b.now c.places_of.result.from c.places_of.result.to c.places_of.ensures.all copper layer is;
+pub returns-in-Length : goal.returns-in-Length
+returns-in-Length c = record {
+  bound = omega arith;
+  each = λ copper layer is.
+      elim c.in-Length.is [
+        | inl m ↦ kind_within c.args.kind (Length m.0) c.args.a.now c.args.b.now 0 0 layer (sym c.subject_of.ensures ∙ m.1) (inl (All-nil IsUnfaced))
+        | inr w ↦ kind_within c.args.kind Whole c.args.a.now c.args.b.now 0 0 layer (sym c.subject_of.ensures ∙ w) (inl (All-nil IsUnfaced))
+      ];
 }

@@ -1,12 +1,12 @@
 use Rattle.std.proofs.Common.{sym, ◌∙◌}
-use Rattle.cond_lang.specs.declared.kind.Kind.TheVariants.{EdgeClearance}
-use Rattle.pair_check.proofs.Unfaced.{edge_within, kind_within}
+use Rattle.pair_check.specs.declared.subject.Faces.TheVariants.{EdgesAndCopper}
+use Rattle.pair_check.proofs.Unfaced.{edge_within, faces_within}
 use Rattle.pair_check.proofs.faces.places_of_lines.Goals.{then-has_lines, else-has_lines}
 use Rattle.pair_check.proofs.faces.places_of_lines.Goals as goal
 
 pub returns-then-has_lines-2-clause-each : goal.returns-then-has_lines-2-clause-each
 returns-then-has_lines-2-clause-each c = λ copper layer is.
-    kind_within EdgeClearance c.args.a.now c.args.b.now c.places_of.result.from c.places_of.result.to c.places_of.ensures.all copper layer is
+    faces_within EdgesAndCopper c.args.a.now c.args.b.now c.places_of_faces.result.from c.places_of_faces.result.to c.places_of_faces.ensures.all copper layer is
 
 pub returns-else-has_lines-2-clause-each : goal.returns-else-has_lines-2-clause-each
 returns-else-has_lines-2-clause-each c = elim c.if-has_lines.branch [

@@ -8,7 +8,7 @@ use Rattle.pair_check.specs.Views.{checked_by}
 use Rattle.pair_check.specs.Stages.{pair_of}
 use Rattle.pair_check.proofs.NearLayers.{meeting_layer}
 use Rattle.pair_check.proofs.TriedLayers.{first_in}
-use Rattle.pair_check.proofs.RowsOfPair.{two_of_meeting, in_order, breaks_meeting}
+use Rattle.pair_check.proofs.RowsOfPair.{meeting_in_order, breaks_meeting}
 use Rattle.pair_check.proofs.pair.meeting_row.Goals as goal
 
 pub invariant_of-result : goal.invariant_of-result
@@ -17,7 +17,7 @@ invariant_of-result c =
     let p = a.pair in
     let where_first = c.in_ok-layer.ensures in
     record {
-      ordered = in_order a.kind a.first a.second (two_of_meeting a.kind c.requires.kind) c.requires.ordered;
+      ordered = meeting_in_order a.kind a.first a.second c.requires.meets c.requires.ordered;
       layer = meeting_layer c.copper.result a.kind c.in_ok-layer.layer p.a.now p.b.now where_first.tried where_first.holds;
       value = record { from = omega (arith, ints); to = omega (arith, ints) };
       gap = record { from = omega (arith, ints); to = omega (arith, ints) };
@@ -35,7 +35,7 @@ returns c =
         first_is = refl;
         second_is = refl;
         broken =
-            breaks_meeting d (pair_of p) a.kind _ c.requires.kind
+            breaks_meeting d (pair_of p) a.kind _ c.requires.meets
             (record {
               compared = compared;
               where_first = first_in c.copper.result d.copper (λ (layer : RowLayer). MeetAt a.kind layer p.a.now p.b.now) c.in_ok-layer.layer c.copper.ensures c.in_ok-layer.ensures;

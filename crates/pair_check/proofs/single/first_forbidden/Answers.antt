@@ -5,7 +5,7 @@ use Rattle.pair_check.specs.Layers.{rank, IsTried}
 use Rattle.pair_check.specs.Singles.{IsAskedAt, IsForbiddenAt}
 use Rattle.pair_check.specs.Rows.{deciders}
 use Rattle.pair_check.specs.Views.{checked_by}
-use Rattle.pair_check.proofs.RowsOfSingle.{ban_layer}
+use Rattle.pair_check.proofs.RowsOfSingle.{asked_at}
 use Rattle.pair_check.proofs.TriedLayers.{none_at_start, none_in_none, none_here, none_untried, first_here, tried_in, untried_in}
 use Rattle.pair_check.proofs.single.first_forbidden.Goals.{in-Some+in_default-forbidden_at, in_default}
 use Rattle.pair_check.proofs.single.first_forbidden.Goals as goal
@@ -14,9 +14,9 @@ pub loop-place-init : goal.loop-place-init
 loop-place-init c =
     let d = deciders (checked_by c.args.view.now) in
     let s = c.args.single in
-    let places = c.places_of-places.result in
+    let places = c.places_of_items-places.result in
     none_at_start d.copper (IsForbiddenAt d c.args.kind s.item.now s.facts.now) places.from places.to
-    (record { within = λ layer is n. c.places_of-places.ensures.all layer (ban_layer d.copper c.args.kind s.item.now layer c.requires.ban is n.asked) })
+    (record { within = λ layer is n. c.places_of_items-places.ensures.all layer (asked_at d.copper s.item.now s.item.now.what layer is n.asked) })
 
 pub loop-place-preserved : goal.loop-place-preserved
 loop-place-preserved c =
@@ -32,9 +32,9 @@ pub returns : goal.returns
 returns c =
     let d = deciders (checked_by c.args.view.now) in
     let s = c.args.single in
-    let places = c.places_of-places.result in
+    let places = c.places_of_items-places.result in
     none_in_none d.copper (IsForbiddenAt d c.args.kind s.item.now s.facts.now) places.from places.to c.loop-place.place
-    (record { within = λ layer is n. c.places_of-places.ensures.all layer (ban_layer d.copper c.args.kind s.item.now layer c.requires.ban is n.asked) }) c.loop-place-test.false c.loop-place.invariant
+    (record { within = λ layer is n. c.places_of_items-places.ensures.all layer (asked_at d.copper s.item.now s.item.now.what layer is n.asked) }) c.loop-place-test.false c.loop-place.invariant
 
 pub returns-in-Some-forbidden_at : goal.returns-in-Some-forbidden_at
 returns-in-Some-forbidden_at c =

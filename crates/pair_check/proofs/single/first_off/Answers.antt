@@ -18,7 +18,7 @@ loop-place-init c =
     let s = c.args.single in
     let places = c.places_measured-places.result in
     none_at_start d.copper (IsOffAt d c.args.kind s.item.now s.facts.now (passed c.args.n)) places.from places.to
-    (record { within = λ layer is n. c.places_measured-places.ensures.each s.item.now (sym c.as_slice.ensures) c.requires.limit layer n.asked })
+    (record { within = λ layer is n. c.places_measured-places.ensures.each s.item.now (sym c.as_slice.ensures) layer n.asked })
 
 pub loop-place-preserved : goal.loop-place-preserved
 loop-place-preserved c =
@@ -39,7 +39,7 @@ returns-clause-broken c =
     let before : NoneBefore d.copper (IsOffAt d c.args.kind s.item.now s.facts.now c.args.n) c.loop-place.place =
     subst (λ (z : ℤ). NoneBefore d.copper (IsOffAt d c.args.kind s.item.now s.facts.now z) c.loop-place.place) (within_passed c.args.n c.requires.within) c.loop-place.invariant in
     none_in_none d.copper (IsOffAt d c.args.kind s.item.now s.facts.now c.args.n) places.from places.to c.loop-place.place
-    (record { within = λ layer is n. c.places_measured-places.ensures.each s.item.now (sym c.as_slice.ensures) c.requires.limit layer n.asked }) c.loop-place-test.false before
+    (record { within = λ layer is n. c.places_measured-places.ensures.each s.item.now (sym c.as_slice.ensures) layer n.asked }) c.loop-place-test.false before
 
 pub returns-in-Some-off_at-clause-broken : goal.returns-in-Some-off_at-clause-broken
 returns-in-Some-off_at-clause-broken c =

@@ -16,7 +16,7 @@ invariant_of-result c =
     let where_first = c.in_ok-off.ensures.broken.1 in
     record {
       ordered = limit_in_order a.kind a.id c.requires.limit;
-      layer = limit_layer d.copper a.kind a.single.item.now off.layer c.requires.limit where_first.tried where_first.holds.asked;
+      layer = limit_layer d.copper a.kind a.single.item.now off.layer where_first.tried where_first.holds.asked;
       value = passed_is_length off.limit.nm c.in_ok-off.ensures.range;
       gap = passed_is_within c.length_in.result c.length_in.ensures.range;
       severity = c.in_ok-off.ensures.broken.0.counts;

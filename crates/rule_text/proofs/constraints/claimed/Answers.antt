@@ -3,4 +3,4 @@ use Rattle.rule_text.proofs.Shortness.{claim_short}
 use Rattle.rule_text.proofs.constraints.claimed.Goals as goal
 
 pub cond_in-requires : goal.cond_in-requires
-cond_in-requires c = claim_short (tree_of c.args.clause) (tree_of c.in_ok-atom.atom) c.in_ok-atom.ensures c.requires
+cond_in-requires c = claim_short (tree_of c.args.clause) (tree_of c.in_ok-atom.atom) c.in_ok-atom.ensures c.requires.short
