@@ -1,5 +1,5 @@
 -- Kinds of which nothing is asked.
-use Rattle.std.proofs.Common.{◌≡◌, inl, inr, refl, sym, ap, subst, ◌∙◌, ℕ, ◌==◌, ℤ, pos, Bool, true, false, not, cond, ◌&&◌, ◌||◌, IsTrue, is_some, List, [], ◌∷◌, map, All, Option, None, Some, find, arith}
+use Rattle.std.proofs.Common.{◌≡◌, inl, inr, refl, sym, ap, subst, ◌∙◌, ℕ, ◌==◌, ℤ, pos, Bool, true, false, not, cond, ◌&&◌, ◌||◌, is_some, List, [], ◌∷◌, map, All, Option, None, Some, find, arith}
 use Rattle.std.specs.Bool.{if◌then◌else◌}
 use Rattle.std.specs.Int.{int_max}
 use Rattle.std.specs.Ordering.{int_eq}

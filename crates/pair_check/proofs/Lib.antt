@@ -11,3 +11,4 @@ pub mod NearPicks
 pub mod Unfaced
 pub mod AskedKinds
 pub mod SameRow
+pub mod IdlePairs

@@ -37,9 +37,6 @@ module _ (d : Deciders) (pair : Pair) where
   pub breaks_meeting : (kind : Kind) (row : PlainRow) → family kind ≡ Meets → SaysMeeting d kind pair row → Breaks d kind pair row
   breaks_meeting kind row e says = subst (λ (f : Family). BreaksBy f d kind pair row) (sym e) says
 
-  pub says_meeting : (kind : Kind) (row : PlainRow) → family kind ≡ Meets → Breaks d kind pair row → SaysMeeting d kind pair row
-  says_meeting kind row e broken = subst (λ (f : Family). BreaksBy f d kind pair row) e broken
-
   pub breaks_near : (kind : Kind) (row : PlainRow) → family kind ≡ Keeps → SaysNear d kind pair row → Breaks d kind pair row
   breaks_near kind row e says = subst (λ (f : Family). BreaksBy f d kind pair row) (sym e) says
 

@@ -11,3 +11,4 @@ pub mod Rows
 pub mod Views
 pub mod Stages
 pub mod SameRows
+pub mod Idle

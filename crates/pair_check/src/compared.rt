@@ -51,8 +51,8 @@ fn belong_together(a: &Item, b: &Item) -> bool
     a.unit == b.unit && (are_graphic_and_pad(a, b) || are_pads_of_one_number(a, b))
 }
 
-// Whether both are on one net.
-fn share_net(a: &Item, b: &Item) -> bool
+/// Whether both are on one net.
+pub(crate) fn share_net(a: &Item, b: &Item) -> bool
     ensures { result ≡ share_net a.now b.now }
 {
     a.net == b.net && a.net != 0

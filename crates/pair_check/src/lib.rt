@@ -7,6 +7,7 @@ mod asked;
 mod compared;
 mod faces;
 mod found;
+mod idle;
 pub mod laws;
 mod layer;
 mod measure;

@@ -1,6 +1,6 @@
 //! What two items break.
 
-ghost use Rattle.std.specs.Prelude.{◌≡◌, ◌⊎◌, ◌↔◌, ◌+◌, ◌<◌, ◌≤◌, IsTrue, IsSome, [], length, MatchOption};
+ghost use Rattle.std.specs.Prelude.{◌≡◌, ◌↔◌, ◌+◌, ◌<◌, ◌≤◌, IsTrue, IsSome, [], length, MatchOption};
 ghost use Rattle.drc_io.specs.Lengths.{IsLength};
 ghost use Rattle.geo_seg.specs.Distances.{IsGap};
 ghost use Rattle.board_items.specs.Boards.{item_at};
@@ -21,6 +21,7 @@ use crate::asked::{ANYTHING, Asked};
 use crate::compared::is_compared;
 use crate::faces::places_between;
 use crate::found::{Near, Pair, Single};
+use crate::idle::is_idle;
 use crate::layer::RowLayer;
 use crate::measure::{Facings, facings_at, gap_at, may_face, meet_at};
 use crate::pair_rows::PairRows;
@@ -294,6 +295,9 @@ fn add_all(
     requires none { rows.old ≡ [] }
     ensures { AreRowsWhere (IsOfPair (deciders (checked_by view.now)) (pair_of pair.entry) first second) rows.new }
 {
+    if is_idle(asked, pair.a, pair.b) {
+        return;
+    }
     add_of_nets(view, asked, first, second, pair, rows);
     add_near(view, asked, Kind::HoleToHole, first, second, pair, rows);
     add_near(view, asked, Kind::EdgeClearance, first, second, pair, rows);
