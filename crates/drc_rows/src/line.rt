@@ -1,4 +1,4 @@
-//! A line that is put together on the stack and goes out in one write.
+//! Lines that are put together on the stack and go out in one write, as many as there is room for.
 
 ghost use Rattle.std.specs.Prelude.{◌≡◌, ◌≤◌, ◌+◌, ◌++◌, ℕ, List, [], length, take};
 ghost use Rattle.drc_io.specs.Sinks.{Writes};
@@ -7,8 +7,8 @@ ghost use Rattle.drc_rows.specs.Line.{Puts};
 use drc_io::{Failed, Sink, put_all};
 use std::marker::Model;
 
-/// The bytes that a line has room for. What is longer goes out in several writes.
-const ROOM: usize = 512;
+/// How many bytes there is room for. What is longer goes out in several writes.
+const ROOM: usize = 2048;
 
 /// What was put together and has not gone out yet: at most [`ROOM`] bytes.
 #[derive(Drop)]
@@ -22,7 +22,7 @@ impl Model for Line {
 
     ghost view = { λ l. take l.len l.bytes };
 
-    ghost invariant = { λ l. l.len ≤ 512 };
+    ghost invariant = { λ l. l.len ≤ 2048 };
 }
 
 impl Line {

@@ -47,15 +47,6 @@ fn push_net<W: Sink>(line: &mut Line, out: &mut W, name: &[u8], count: usize) ->
     push_number(line, out, b": ", count as u64, b" groups\n")
 }
 
-/// Writes the name of a net and how many groups it has.
-fn write_head<W: Sink>(out: &mut W, name: &[u8], count: usize) -> Result<(), Failed>
-    ensures { Writes (W.written out.old) (W.written out.new) (W.faults out.old) (W.faults out.new) (net_line name.now count) result }
-{
-    let mut line = Line::new();
-    push_net(&mut line, out, name, count)?;
-    line.end(out)
-}
-
 // ---- groups
 
 /// Puts a group into the line: how many items it has, and the one of the least id.
@@ -74,25 +65,19 @@ fn push_group<W: Sink>(
     line.push(out, b"\n")
 }
 
-/// Writes the line of a group.
-fn write_group<W: Sink>(out: &mut W, board: &Board, members: &[u32]) -> Result<(), Failed>
-    requires filled { 0 < length members.now }
-    requires placed { All (IsOnBoard board.now) members.now }
-    ensures { Writes (W.written out.old) (W.written out.new) (W.faults out.old) (W.faults out.new) (group_line board.now members.now) result }
-{
-    let mut line = Line::new();
-    push_group(&mut line, out, board, members)?;
-    line.end(out)
-}
-
-/// Writes the lines of all groups.
-fn write_groups<W: Sink>(out: &mut W, board: &Board, groups: &[Group]) -> Result<(), Failed>
+/// Puts the lines of all groups together.
+fn push_groups<W: Sink>(
+    line: &mut Line,
+    out: &mut W,
+    board: &Board,
+    groups: &[Group],
+) -> Result<(), Failed>
     requires filled { All (λ group. 0 < length group) groups.now }
     requires placed { All (All (IsOnBoard board.now)) groups.now }
-    ensures { Writes (W.written out.old) (W.written out.new) (W.faults out.old) (W.faults out.new) (flat_map (group_line board.now) groups.now) result }
+    ensures { Puts (W.written out.old) (W.written out.new) (W.faults out.old) (W.faults out.new) line.old (flat_map (group_line board.now) groups.now) line.new result }
 {
     for group in groups {
-        write_group(out, board, group.members())?;
+        push_group(line, out, board, group.members())?;
     }
     Ok(())
 }
@@ -170,24 +155,9 @@ fn push_link<W: Sink>(
     line.push(out, b"\n")
 }
 
-/// Writes the line of a link.
-fn write_link<W: Sink>(
-    out: &mut W,
-    board: &Board,
-    anchors: &[Anchor],
-    link: Link,
-) -> Result<(), Failed>
-    requires anchors { All (λ anchor. IsOnBoard board.now anchor.id) anchors.now }
-    requires places { HasPlaces anchors.now link }
-    ensures { Writes (W.written out.old) (W.written out.new) (W.faults out.old) (W.faults out.new) (link_line board.now anchors.now link) result }
-{
-    let mut line = Line::new();
-    push_link(&mut line, out, board, anchors, link)?;
-    line.end(out)
-}
-
-/// Writes the lines of all links.
-fn write_links<W: Sink>(
+/// Puts the lines of all links together.
+fn push_links<W: Sink>(
+    line: &mut Line,
     out: &mut W,
     board: &Board,
     anchors: &[Anchor],
@@ -195,12 +165,36 @@ fn write_links<W: Sink>(
 ) -> Result<(), Failed>
     requires anchors { All (λ anchor. IsOnBoard board.now anchor.id) anchors.now }
     requires places { All (HasPlaces anchors.now) links.now }
-    ensures { Writes (W.written out.old) (W.written out.new) (W.faults out.old) (W.faults out.new) (flat_map (link_line board.now anchors.now) links.now) result }
+    ensures { Puts (W.written out.old) (W.written out.new) (W.faults out.old) (W.faults out.new) line.old (flat_map (link_line board.now anchors.now) links.now) line.new result }
 {
     for link in links {
-        write_link(out, board, anchors, *link)?;
+        push_link(line, out, board, anchors, *link)?;
     }
     Ok(())
+}
+
+/// Puts the lines of a net together.
+#[tactic(auto, unfolding(crate::specs::NetBlock::net_block))]
+fn push_block<W: Sink>(
+    line: &mut Line,
+    out: &mut W,
+    board: &Board,
+    net: u32,
+    groups: &[Group],
+    anchors: &[Anchor],
+    nest: &Nest,
+) -> Result<(), Failed>
+    requires declared { IsSome (name_of board.now net) }
+    requires filled { All (λ group. 0 < length group) groups.now }
+    requires members { All (All (IsOnBoard board.now)) groups.now }
+    requires anchors { All (λ anchor. IsOnBoard board.now anchor.id) anchors.now }
+    requires places { All (HasPlaces anchors.now) nest.now.links }
+    ensures { Puts (W.written out.old) (W.written out.new) (W.faults out.old) (W.faults out.new) line.old (net_block board.now net groups.now anchors.now nest.now.links) line.new result }
+{
+    let name = board.net_name(net).unwrap();
+    push_net(line, out, name.bytes(), groups.len())?;
+    push_groups(line, out, board, groups)?;
+    push_links(line, out, board, anchors, nest.links.as_slice())
 }
 
 /// Writes the lines of a net: its name and how many groups it has, a line for each group, and a line for each link of its
@@ -209,7 +203,6 @@ fn write_links<W: Sink>(
 /// The net is declared; no group is empty, and all members and the items of all anchors are on the board; the links join
 /// anchors of the list. `Failed` comes only where the sink's count of faults rose, and then a front part of the lines was
 /// written. It takes no memory.
-#[tactic(auto, unfolding(crate::specs::NetBlock::net_block))]
 pub fn write_net<W: Sink>(
     board: &Board,
     net: u32,
@@ -225,8 +218,7 @@ pub fn write_net<W: Sink>(
     requires places { All (HasPlaces anchors.now) nest.now.links }
     ensures { Writes (W.written out.old) (W.written out.new) (W.faults out.old) (W.faults out.new) (net_block board.now net groups.now anchors.now nest.now.links) result }
 {
-    let name = board.net_name(net).unwrap();
-    write_head(out, name.bytes(), groups.len())?;
-    write_groups(out, board, groups)?;
-    write_links(out, board, anchors, nest.links.as_slice())
+    let mut line = Line::new();
+    push_block(&mut line, out, board, net, groups, anchors, nest)?;
+    line.end(out)
 }

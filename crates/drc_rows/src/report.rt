@@ -189,15 +189,21 @@ fn push_row<W: Sink>(
     line.push(out, b"\n")
 }
 
-/// Writes the line of a row.
-fn write_row<W: Sink>(out: &mut W, view: &CheckView<'_>, row: &Row) -> Result<(), Failed>
-    requires items { HasItems view.now.board.now row.now }
-    requires source { HasSource (map plain_rule view.now.rules.now) row.now }
-    ensures { Writes (W.written out.old) (W.written out.new) (W.faults out.old) (W.faults out.new) (row_line view.now.board.now (map plain_rule view.now.rules.now) row.now) result }
+/// Puts the lines of rows together.
+fn push_rows<W: Sink>(
+    line: &mut Line,
+    out: &mut W,
+    view: &CheckView<'_>,
+    rows: &[Row],
+) -> Result<(), Failed>
+    requires items { All (HasItems view.now.board.now) rows.now }
+    requires sources { All (HasSource (map plain_rule view.now.rules.now)) rows.now }
+    ensures { Puts (W.written out.old) (W.written out.new) (W.faults out.old) (W.faults out.new) line.old (flat_map (row_line view.now.board.now (map plain_rule view.now.rules.now)) rows.now) line.new result }
 {
-    let mut line = Line::new();
-    push_row(&mut line, out, view, row)?;
-    line.end(out)
+    for row in rows {
+        push_row(line, out, view, row)?;
+    }
+    Ok(())
 }
 
 /// Writes the lines of rows, in their order. Their items are in the board of the view, and the rules that ask for them are
@@ -208,10 +214,9 @@ pub fn write_rows<W: Sink>(view: &CheckView<'_>, rows: &[Row], out: &mut W) -> R
     requires sources { All (HasSource (map plain_rule view.now.rules.now)) rows.now }
     ensures { Writes (W.written out.old) (W.written out.new) (W.faults out.old) (W.faults out.new) (flat_map (row_line view.now.board.now (map plain_rule view.now.rules.now)) rows.now) result }
 {
-    for row in rows {
-        write_row(out, view, row)?;
-    }
-    Ok(())
+    let mut line = Line::new();
+    push_rows(&mut line, out, view, rows)?;
+    line.end(out)
 }
 
 /// Writes pieces one behind another, as one text. `Failed` comes only where the sink's count of faults rose, and then a
