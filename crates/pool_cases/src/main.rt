@@ -8,8 +8,9 @@ mod gates;
 mod stealing;
 mod works;
 
-use crate::gates::{Calls, Turns};
+use crate::gates::Calls;
 use crate::works::{Failing, Squares, numbers, weighed};
+use case_gates::Turns;
 use std::io;
 use std::io::Print;
 use std::thread::Threads;

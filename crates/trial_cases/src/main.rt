@@ -5,7 +5,6 @@
 #![tactic(auto)]
 
 mod answers;
-mod gates;
 mod opening;
 mod stopping;
 mod surveys;
@@ -16,7 +15,7 @@ ghost use Rattle.std.specs.Prelude.{◌≡◌, ◌≤◌, false, length, map, Al
 ghost use Rattle.edit_script.specs.Commands.{plain_command};
 ghost use Rattle.edit_script.specs.Fits.{Fits};
 
-use crate::gates::Turns;
+use case_gates::Turns;
 use drc_session::Session;
 use edit_script::Command;
 use std::alloc::AllocGlobal;

@@ -5,7 +5,7 @@ ghost use Rattle.edit_script.specs.Commands.{plain_command};
 ghost use Rattle.edit_script.specs.Fits.{Fits};
 
 use crate::answers::{Answer, answer_at};
-use crate::gates::Turns;
+use case_gates::Turns;
 use drc_session::Session;
 use edit_script::Command;
 use std::alloc::{AllocError, AllocGlobal, Global};

@@ -1,4 +1,5 @@
-//! What is called before and after each command.
+//! Gates for programs of cases: what is called before and after each number of a deal.
+#![tactic(auto)]
 
 use std::sync::atomic::AtomicBool;
 use std::sync::atomic::Ordering::SeqCst;
@@ -7,8 +8,8 @@ use tile_pool::Gate;
 /// So often number 0 looks whether another is done.
 const TURNS: u32 = 200_000_000;
 
-// Whether the other is done before so many turns are over.
-fn is_done_in_time(done: &AtomicBool) -> bool {
+/// Whether the other is done before so many turns are over.
+pub fn is_done_in_time(done: &AtomicBool) -> bool {
     for _ in 0..TURNS {
         if done.load(SeqCst) {
             return true;
@@ -17,7 +18,7 @@ fn is_done_in_time(done: &AtomicBool) -> bool {
     false
 }
 
-/// Keeps number 0 from its command until number 1 is done, and gives up after so many turns: workers that run one after another do.
+/// Keeps number 0 back until number 1 is done, and gives up after so many turns: workers that run one after another do.
 #[derive(Drop)]
 pub struct Turns {
     done: AtomicBool,
