@@ -1,13 +1,13 @@
 // Reads a text, and prints how many bytes it has and how many parts its root.
 //
 // Without words it reads small texts of its own a few times. With `plain FILE` it adds the file's bytes up, with
-// `sexpr FILE` it reads the file as one S-expression, with `board FILE` as a board, whose items it counts, with
-// `facts FILE` as a board, the facts of whose items it finds and counts, and with `json FILE` as JSON.
+// `sexpr FILE` it reads the file as one S-expression, and with `json FILE` as JSON. With `board FILE` it reads the file as
+// a board, whose items it counts; with `facts`, `index`, `rows`, `groups` and `links` it goes on to that phase of a run.
 #![tactic(auto)]
 
-use item_facts::all_facts;
-use net_class::Classes;
-use pcb_read::read_board;
+mod phases;
+
+use crate::phases::{Phase, found};
 use sexpr_read::parse_one;
 use std::alloc::Global;
 use std::io::Print;
@@ -15,7 +15,7 @@ use std::rt::Runtime;
 use std::{env, fs};
 
 /// The most bytes of a text.
-const LIMIT: usize = 33_554_432;
+pub(crate) const LIMIT: usize = 33_554_432;
 
 /// The bytes, each added to the sum so far times 31.
 fn checksum(text: &[u8]) -> u64 {
@@ -35,36 +35,6 @@ fn parts(alloc: Global, text: &[u8]) -> Option<u64> {
     let mut count = 0u64;
     for _ in doc.root().children() {
         count = count.wrapping_add(1);
-    }
-    Some(count)
-}
-
-/// How many items the board of the text has.
-fn items_on_board(alloc: Global, text: &[u8]) -> Option<u64> {
-    if text.len() > LIMIT {
-        return None;
-    }
-    let board = read_board(alloc, text).ok()?;
-    let mut count = 0u64;
-    for _ in board.iter() {
-        count = count.wrapping_add(1);
-    }
-    Some(count)
-}
-
-/// How many items of the board of the text have facts, under the plain classes.
-fn facts_on_board(alloc: Global, text: &[u8]) -> Option<u64> {
-    if text.len() > LIMIT {
-        return None;
-    }
-    let board = read_board(alloc, text).ok()?;
-    let classes = Classes::plain(alloc).ok()?;
-    let facts = all_facts(alloc, &board, &classes).ok()?;
-    let mut count = 0u64;
-    for (id, _) in board.iter() {
-        if facts.get(id).is_some() {
-            count = count.wrapping_add(1);
-        }
     }
     Some(count)
 }
@@ -90,6 +60,16 @@ fn show(rt: &impl Print, kind: &str, bytes: usize, number: Option<u64>) -> anyho
     Ok(())
 }
 
+// The phases of a run behind that of facts.
+fn show_phases<R: Print + AllocGlobal>(rt: &R, text: &[u8]) -> anyhow::Result<()> {
+    for name in ["index", "rows", "groups", "links"] {
+        if let Some(phase) = Phase::named(name) {
+            show(rt, name, text.len(), found(rt.alloc(), text, phase))?;
+        }
+    }
+    Ok(())
+}
+
 fn stored<R: Print + AllocGlobal>(rt: &R) -> anyhow::Result<()> {
     let text = b"(kicad_pcb (version 20221018) (net 0 \"\") (net 1 \"N1\"))";
     show(rt, "plain", text.len(), Some(checksum(text)))?;
@@ -99,19 +79,38 @@ fn stored<R: Print + AllocGlobal>(rt: &R) -> anyhow::Result<()> {
     show(rt, "sexpr", 4, parts(rt.alloc(), b"(()x"))?;
     let track =
         b"(kicad_pcb (version 20221018) (layers (0 F.Cu signal)) (segment (start 1 2) (end 3 4) (width 0.2) (layer F.Cu)))";
-    show(rt, "board", track.len(), items_on_board(rt.alloc(), track))?;
-    show(rt, "board", text.len(), items_on_board(rt.alloc(), text))?;
-    show(rt, "facts", track.len(), facts_on_board(rt.alloc(), track))?;
+    show(
+        rt,
+        "board",
+        track.len(),
+        found(rt.alloc(), track, Phase::Board),
+    )?;
+    show(
+        rt,
+        "board",
+        text.len(),
+        found(rt.alloc(), text, Phase::Board),
+    )?;
+    show(
+        rt,
+        "facts",
+        track.len(),
+        found(rt.alloc(), track, Phase::Facts),
+    )?;
+    let pieces =
+        b"(kicad_pcb (version 20221018) (layers (0 F.Cu signal)) (net 0 \"\") (net 1 A) (segment (start 1 2) (end 3 2) (width 0.2) (layer F.Cu) (net 1)) (segment (start 6 2) (end 7 2) (width 0.2) (layer F.Cu) (net 1)))";
+    show_phases(rt, pieces)?;
     show(rt, "json", 15, items(rt.alloc(), b"[1, {}, \"a\", 2]"))?;
     show(rt, "json", 3, items(rt.alloc(), b"[1,"))
 }
 
 fn bench<R: Runtime + Print + AllocGlobal>(rt: &R, kind: &str, path: &str) -> anyhow::Result<()> {
     let text = fs::read(rt, path)?;
+    if let Some(phase) = Phase::named(kind) {
+        return show(rt, kind, text.len(), found(rt.alloc(), &text, phase));
+    }
     match kind {
         "sexpr" => show(rt, kind, text.len(), parts(rt.alloc(), &text)),
-        "board" => show(rt, kind, text.len(), items_on_board(rt.alloc(), &text)),
-        "facts" => show(rt, kind, text.len(), facts_on_board(rt.alloc(), &text)),
         "json" => show(rt, kind, text.len(), items(rt.alloc(), &text)),
         _ => show(rt, "plain", text.len(), Some(checksum(&text))),
     }
