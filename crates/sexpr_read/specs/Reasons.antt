@@ -1,37 +1,58 @@
 -- What a refusal is called, its code, and its place: a report writes `NAME (CODE) at PLACE`. A refusal that carries
 -- another puts its own name and a point before the other's name, and its own code and a point before the other's code.
 use Rattle.std.specs.Prelude.{ℕ, List, ◌++◌, Option, Some, None, codes}
+use Rattle.sexpr_read.specs.declared.place.Reason.{Reason}
 use Rattle.sexpr_read.specs.declared.place.TextError.{TextError}
 use Rattle.sexpr_read.specs.declared.place.TextError.TheVariants.{NotUtf8, CloseWithoutOpen, EndInside, TooDeep, ExtraText, EmptyText, OutOfMemory}
 
-abbrev pub name_of : TextError → List ℕ
-name_of (NotUtf8 at) = codes "NotUtf8"
-name_of (CloseWithoutOpen at) = codes "CloseWithoutOpen"
-name_of (EndInside at) = codes "EndInside"
-name_of (TooDeep at) = codes "TooDeep"
-name_of (ExtraText at) = codes "ExtraText"
-name_of EmptyText = codes "EmptyText"
-name_of OutOfMemory = codes "OutOfMemory"
+pub record PlainReason : Type 0 where
+  pub name : List ℕ
+  pub code : List ℕ
+  pub place : Option ℕ
 
--- the number of the refusal; want of memory has none, which is written 0
+abbrev pub plain_reason : Reason → PlainReason
+plain_reason r = record { name = r.name.now; code = r.code.now; place = r.place }
+
+-- that of a refusal that stands at a byte of the text
+abbrev pub reason_at : List ℕ → List ℕ → ℕ → PlainReason
+reason_at name code at = record { name = name; code = code; place = Some at }
+
+-- that of a refusal that carries another, whose reason stands behind its name and its code
+abbrev pub reason_behind : List ℕ → List ℕ → PlainReason → PlainReason
+reason_behind name code of_other = record { name = name ++ of_other.name; code = code ++ of_other.code; place = of_other.place }
+
+-- that of a refusal that has no place
+abbrev pub reason_alone : List ℕ → List ℕ → PlainReason
+reason_alone name code = record { name = name; code = code; place = None }
+
+-- how a reason is written, but for its place
+abbrev pub written : PlainReason → List ℕ
+written r = r.name ++ codes " (" ++ r.code ++ codes ")"
+
+-- ---- texts
+
+-- an empty text is refused at its start; want of memory has no number, which is written 0, and no place
+abbrev pub reason_in : TextError → PlainReason
+reason_in (NotUtf8 at) = reason_at (codes "NotUtf8") (codes "1") at
+reason_in (CloseWithoutOpen at) = reason_at (codes "CloseWithoutOpen") (codes "2") at
+reason_in (EndInside at) = reason_at (codes "EndInside") (codes "3") at
+reason_in (TooDeep at) = reason_at (codes "TooDeep") (codes "4") at
+reason_in (ExtraText at) = reason_at (codes "ExtraText") (codes "5") at
+reason_in EmptyText = reason_at (codes "EmptyText") (codes "6") 0
+reason_in OutOfMemory = reason_alone (codes "OutOfMemory") (codes "0")
+
+abbrev pub name_of : TextError → List ℕ
+name_of e = (reason_in e).name
+
 abbrev pub code_of : TextError → List ℕ
-code_of (NotUtf8 at) = codes "1"
-code_of (CloseWithoutOpen at) = codes "2"
-code_of (EndInside at) = codes "3"
-code_of (TooDeep at) = codes "4"
-code_of (ExtraText at) = codes "5"
-code_of EmptyText = codes "6"
-code_of OutOfMemory = codes "0"
+code_of e = (reason_in e).code
+
+abbrev pub place_of : TextError → Option ℕ
+place_of e = (reason_in e).place
 
 abbrev pub reason_of : TextError → List ℕ
-reason_of e = name_of e ++ codes " (" ++ code_of e ++ codes ")"
+reason_of e = written (reason_in e)
 
--- an empty text is refused at its start; want of memory has no place
-abbrev pub place_of : TextError → Option ℕ
-place_of (NotUtf8 at) = Some at
-place_of (CloseWithoutOpen at) = Some at
-place_of (EndInside at) = Some at
-place_of (TooDeep at) = Some at
-place_of (ExtraText at) = Some at
-place_of EmptyText = Some 0
-place_of OutOfMemory = None
+-- the first reason of an error that carries a refusal of the text
+abbrev pub carried_reason_in : TextError → PlainReason
+carried_reason_in e = reason_behind (codes "Text.") (codes "1.") (reason_in e)
