@@ -19,46 +19,83 @@ pub enum CondError {
     OutOfMemory,
 }
 
+/// What a refusal is called, its number, and its byte of the text where it has one.
+#[derive(Clone, Copy, Debug, Drop, PartialEq, Eq)]
+pub struct Reason {
+    pub name: &'static str,
+    pub code: &'static str,
+    pub place: Option<u32>,
+}
+
+// The reason of a refusal of the condition by itself, and as the fourth reason of an error that carries it.
+#[derive(Clone, Copy, Drop)]
+struct Reasons {
+    own: Reason,
+    carried: Reason,
+}
+
+// A row of their table.
+macro_rules! reasons {
+    ($name:literal, $code:literal, $place:expr) => {
+        Reasons {
+            own: Reason {
+                name: $name,
+                code: $code,
+                place: $place,
+            },
+            carried: Reason {
+                name: concat!("Cond.", $name),
+                code: concat!("4.", $code),
+                place: $place,
+            },
+        }
+    };
+}
+
 impl CondError {
     ghost use Rattle.std.specs.Prelude.{◌≡◌};
-    ghost use Rattle.cond_lang.specs.Reasons.{name_of, code_of, place_of};
+    ghost use Rattle.cond_lang.specs.Reasons.{plain_reason, reason_in, carried_reason_in, name_of, code_of, place_of};
 
+    // Want of memory has no number, which is written 0, and no place.
+    fn reasons(&self) -> Reasons
+        ensures own { plain_reason result.own ≡ reason_in self.now }
+        ensures carried { plain_reason result.carried ≡ carried_reason_in self.now }
+    {
+        match self {
+            CondError::Bad { at } => reasons!("Bad", "1", Some(*at)),
+            CondError::UnknownName { at } => reasons!("UnknownName", "2", Some(*at)),
+            CondError::TypeClash { at } => reasons!("TypeClash", "3", Some(*at)),
+            CondError::TooDeep { at } => reasons!("TooDeep", "4", Some(*at)),
+            CondError::OutOfMemory => reasons!("OutOfMemory", "0", None),
+        }
+    }
+
+    /// Its reason as the fourth of an error that carries it: `Cond.` stands before its name and `4.` before its number.
+    pub fn carried_reason(&self) -> Reason
+        ensures { plain_reason result ≡ carried_reason_in self.now }
+    {
+        self.reasons().carried
+    }
+
+    /// Its name.
     pub fn name(&self) -> &'static str
         ensures { result.now ≡ name_of self.now }
     {
-        match self {
-            CondError::Bad { .. } => "Bad",
-            CondError::UnknownName { .. } => "UnknownName",
-            CondError::TypeClash { .. } => "TypeClash",
-            CondError::TooDeep { .. } => "TooDeep",
-            CondError::OutOfMemory => "OutOfMemory",
-        }
+        self.reasons().own.name
     }
 
     /// Its number. Want of memory has none, which is written 0.
     pub fn code(&self) -> &'static str
         ensures { result.now ≡ code_of self.now }
     {
-        match self {
-            CondError::Bad { .. } => "1",
-            CondError::UnknownName { .. } => "2",
-            CondError::TypeClash { .. } => "3",
-            CondError::TooDeep { .. } => "4",
-            CondError::OutOfMemory => "0",
-        }
+        self.reasons().own.code
     }
 
     /// Its byte of the text. Want of memory has no place.
     pub fn place(&self) -> Option<u32>
         ensures { result ≡ place_of self.now }
     {
-        match self {
-            CondError::Bad { at }
-            | CondError::UnknownName { at }
-            | CondError::TypeClash { at }
-            | CondError::TooDeep { at } => Some(*at),
-            CondError::OutOfMemory => None,
-        }
+        self.reasons().own.place
     }
 }
 
