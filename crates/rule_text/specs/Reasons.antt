@@ -1,45 +1,33 @@
 -- What a refusal is called, its code, and its places: a report writes `NAME (CODE) at PLACE`, and for a condition
 -- `NAME (CODE) at PLACE + INNER`.
-use Rattle.std.specs.Prelude.{ℕ, List, ◌++◌, Option, Some, None, codes}
-use Rattle.sexpr_read.specs.Reasons.{name_of as text_name_of, code_of as text_code_of, place_of as text_place_of}
-use Rattle.cond_lang.specs.Reasons.{name_of as cond_name_of, code_of as cond_code_of, place_of as cond_place_of}
+use Rattle.std.specs.Prelude.{ℕ, List, Option, None, codes}
+use Rattle.sexpr_read.specs.Reasons.{PlainReason, reason_at, reason_alone, written, carried_reason_in}
+use Rattle.cond_lang.specs.Reasons.{place_of as cond_place_of, carried_reason_in as carried_cond_reason_in}
 use Rattle.rule_text.specs.declared.error.RuleError.{RuleError}
 use Rattle.rule_text.specs.declared.error.RuleError.TheVariants.{Text, Version, Bad, Cond, BadNumber, OutOfMemory}
 
-abbrev pub name_of : RuleError → List ℕ
-name_of (Text e) = codes "Text." ++ text_name_of e
-name_of (Version at) = codes "Version"
-name_of (Bad at) = codes "Bad"
-name_of (Cond at inner) = codes "Cond." ++ cond_name_of inner
-name_of (BadNumber at) = codes "BadNumber"
-name_of OutOfMemory = codes "OutOfMemory"
+-- a condition is refused where its text begins; want of memory has no number, which is written 0, and no place
+abbrev pub reason_in : RuleError → PlainReason
+reason_in (Text e) = carried_reason_in e
+reason_in (Version at) = reason_at (codes "Version") (codes "2") at
+reason_in (Bad at) = reason_at (codes "Bad") (codes "3") at
+reason_in (Cond at inner) = reason_at (carried_cond_reason_in inner).name (carried_cond_reason_in inner).code at
+reason_in (BadNumber at) = reason_at (codes "BadNumber") (codes "5") at
+reason_in OutOfMemory = reason_alone (codes "OutOfMemory") (codes "0")
 
--- the number of the refusal; want of memory has none, which is written 0
+abbrev pub name_of : RuleError → List ℕ
+name_of e = (reason_in e).name
+
 abbrev pub code_of : RuleError → List ℕ
-code_of (Text e) = codes "1." ++ text_code_of e
-code_of (Version at) = codes "2"
-code_of (Bad at) = codes "3"
-code_of (Cond at inner) = codes "4." ++ cond_code_of inner
-code_of (BadNumber at) = codes "5"
-code_of OutOfMemory = codes "0"
+code_of e = (reason_in e).code
+
+abbrev pub place_of : RuleError → Option ℕ
+place_of e = (reason_in e).place
 
 abbrev pub reason_of : RuleError → List ℕ
-reason_of e = name_of e ++ codes " (" ++ code_of e ++ codes ")"
-
--- want of memory has no place
-abbrev pub place_of : RuleError → Option ℕ
-place_of (Text e) = text_place_of e
-place_of (Version at) = Some at
-place_of (Bad at) = Some at
-place_of (Cond at inner) = Some at
-place_of (BadNumber at) = Some at
-place_of OutOfMemory = None
+reason_of e = written (reason_in e)
 
 -- the place in a condition
 abbrev pub inner_place_of : RuleError → Option ℕ
-inner_place_of (Text e) = None
-inner_place_of (Version at) = None
-inner_place_of (Bad at) = None
 inner_place_of (Cond at inner) = cond_place_of inner
-inner_place_of (BadNumber at) = None
-inner_place_of OutOfMemory = None
+inner_place_of _ = None

@@ -1,10 +1,7 @@
 //! Why a rule file is refused.
 
-ghost use Rattle.std.specs.Prelude.{◌≡◌, ◌++◌, codes};
-ghost use Rattle.cond_lang.specs.Reasons.{name_of as cond_name_of, code_of as cond_code_of};
-
 use cond_lang::CondError;
-use sexpr_read::TextError;
+use sexpr_read::{Reason, TextError};
 use std::alloc::{AllocError, AllocFailed};
 use std::error::Error;
 use std::fmt;
@@ -29,59 +26,46 @@ pub enum RuleError {
 
 impl RuleError {
     ghost use Rattle.std.specs.Prelude.{◌≡◌};
-    ghost use Rattle.rule_text.specs.Reasons.{name_of, code_of, place_of, inner_place_of};
+    ghost use Rattle.sexpr_read.specs.Reasons.{plain_reason};
+    ghost use Rattle.rule_text.specs.Reasons.{reason_in, name_of, code_of, place_of, inner_place_of};
 
-    pub fn name(&self) -> &'static str
-        ensures { result.now ≡ name_of self.now }
+    /// Its name, its number and its place.
+    pub fn reason(&self) -> Reason
+        ensures { plain_reason result ≡ reason_in self.now }
     {
         match self {
-            RuleError::Text(TextError::NotUtf8 { .. }) => "Text.NotUtf8",
-            RuleError::Text(TextError::CloseWithoutOpen { .. }) => "Text.CloseWithoutOpen",
-            RuleError::Text(TextError::EndInside { .. }) => "Text.EndInside",
-            RuleError::Text(TextError::TooDeep { .. }) => "Text.TooDeep",
-            RuleError::Text(TextError::ExtraText { .. }) => "Text.ExtraText",
-            RuleError::Text(TextError::EmptyText) => "Text.EmptyText",
-            RuleError::Text(TextError::OutOfMemory) => "Text.OutOfMemory",
-            RuleError::Version { .. } => "Version",
-            RuleError::Bad { .. } => "Bad",
-            RuleError::Cond { inner, .. } => name_in_cond(inner),
-            RuleError::BadNumber { .. } => "BadNumber",
-            RuleError::OutOfMemory => "OutOfMemory",
+            RuleError::Text(error) => error.carried_reason(),
+            RuleError::Version { at } => Reason::new("Version", "2", Some(*at)),
+            RuleError::Bad { at } => Reason::new("Bad", "3", Some(*at)),
+            RuleError::Cond { at, inner } => {
+                let carried = inner.carried_reason();
+                Reason::new(carried.name, carried.code, Some(*at))
+            }
+            RuleError::BadNumber { at } => Reason::new("BadNumber", "5", Some(*at)),
+            RuleError::OutOfMemory => Reason::new("OutOfMemory", "0", None),
         }
     }
 
-    /// Its number. Want of memory has none, which is written 0.
+    /// Its name; behind `Text.` that of the text's refusal, and behind `Cond.` that of the condition's.
+    pub fn name(&self) -> &'static str
+        ensures { result.now ≡ name_of self.now }
+    {
+        self.reason().name
+    }
+
+    /// Its number; behind `1.` that of the text's refusal, and behind `4.` that of the condition's. Want of memory has
+    /// none, which is written 0.
     pub fn code(&self) -> &'static str
         ensures { result.now ≡ code_of self.now }
     {
-        match self {
-            RuleError::Text(TextError::NotUtf8 { .. }) => "1.1",
-            RuleError::Text(TextError::CloseWithoutOpen { .. }) => "1.2",
-            RuleError::Text(TextError::EndInside { .. }) => "1.3",
-            RuleError::Text(TextError::TooDeep { .. }) => "1.4",
-            RuleError::Text(TextError::ExtraText { .. }) => "1.5",
-            RuleError::Text(TextError::EmptyText) => "1.6",
-            RuleError::Text(TextError::OutOfMemory) => "1.0",
-            RuleError::Version { .. } => "2",
-            RuleError::Bad { .. } => "3",
-            RuleError::Cond { inner, .. } => code_in_cond(inner),
-            RuleError::BadNumber { .. } => "5",
-            RuleError::OutOfMemory => "0",
-        }
+        self.reason().code
     }
 
     /// Its byte of the text, for a condition where that begins. Want of memory has no place.
     pub fn place(&self) -> Option<u32>
         ensures { result ≡ place_of self.now }
     {
-        match self {
-            RuleError::Text(error) => error.place(),
-            RuleError::Version { at }
-            | RuleError::Bad { at }
-            | RuleError::Cond { at, .. }
-            | RuleError::BadNumber { at } => Some(*at),
-            RuleError::OutOfMemory => None,
-        }
+        self.reason().place
     }
 
     /// The byte in what the text of a condition stands for. Others have none.
@@ -96,30 +80,6 @@ impl RuleError {
             | RuleError::BadNumber { .. }
             | RuleError::OutOfMemory => None,
         }
-    }
-}
-
-fn name_in_cond(error: &CondError) -> &'static str
-    ensures { result.now ≡ codes "Cond." ++ cond_name_of error.now }
-{
-    match error {
-        CondError::Bad { .. } => "Cond.Bad",
-        CondError::UnknownName { .. } => "Cond.UnknownName",
-        CondError::TypeClash { .. } => "Cond.TypeClash",
-        CondError::TooDeep { .. } => "Cond.TooDeep",
-        CondError::OutOfMemory => "Cond.OutOfMemory",
-    }
-}
-
-fn code_in_cond(error: &CondError) -> &'static str
-    ensures { result.now ≡ codes "4." ++ cond_code_of error.now }
-{
-    match error {
-        CondError::Bad { .. } => "4.1",
-        CondError::UnknownName { .. } => "4.2",
-        CondError::TypeClash { .. } => "4.3",
-        CondError::TooDeep { .. } => "4.4",
-        CondError::OutOfMemory => "4.0",
     }
 }
 
