@@ -1,9 +1,6 @@
 //! Why an item or a board is refused.
 
-ghost use Rattle.std.specs.Prelude.{◌≡◌, ◌++◌, codes};
-ghost use Rattle.sexpr_read.specs.Reasons.{name_of, code_of};
-
-use sexpr_read::TextError;
+use sexpr_read::{Reason, TextError};
 use std::alloc::{AllocError, AllocFailed};
 use std::error::Error;
 use std::fmt;
@@ -25,31 +22,34 @@ pub enum ItemError {
 
 impl ItemError {
     ghost use Rattle.std.specs.Prelude.{◌≡◌};
-    ghost use Rattle.board_errors.specs.Reasons.{item_name_of, item_code_of};
+    ghost use Rattle.sexpr_read.specs.Reasons.{plain_reason};
+    ghost use Rattle.board_errors.specs.Reasons.{item_reason_in, item_name_of, item_code_of};
 
+    // An item that is not taken stands in no text.
+    fn reason(&self) -> Reason
+        ensures { plain_reason result ≡ item_reason_in self.now }
+    {
+        match self {
+            ItemError::OutOfBoard => Reason::new("OutOfBoard", "1", None),
+            ItemError::UnknownNet => Reason::new("UnknownNet", "2", None),
+            ItemError::UnknownLayer => Reason::new("UnknownLayer", "3", None),
+            ItemError::TooMany => Reason::new("TooMany", "4", None),
+            ItemError::OutOfMemory => Reason::new("OutOfMemory", "0", None),
+        }
+    }
+
+    /// Its name.
     pub fn name(&self) -> &'static str
         ensures { result.now ≡ item_name_of self.now }
     {
-        match self {
-            ItemError::OutOfBoard => "OutOfBoard",
-            ItemError::UnknownNet => "UnknownNet",
-            ItemError::UnknownLayer => "UnknownLayer",
-            ItemError::TooMany => "TooMany",
-            ItemError::OutOfMemory => "OutOfMemory",
-        }
+        self.reason().name
     }
 
     /// Its number. Want of memory has none, which is written 0.
     pub fn code(&self) -> &'static str
         ensures { result.now ≡ item_code_of self.now }
     {
-        match self {
-            ItemError::OutOfBoard => "1",
-            ItemError::UnknownNet => "2",
-            ItemError::UnknownLayer => "3",
-            ItemError::TooMany => "4",
-            ItemError::OutOfMemory => "0",
-        }
+        self.reason().code
     }
 }
 
@@ -126,106 +126,53 @@ pub enum BoardError {
     OutOfMemory,
 }
 
-// The name of a refusal of the text, as that of the board.
-fn text_name(e: &TextError) -> &'static str
-    ensures { result.now ≡ codes "Text." ++ name_of e.now }
-{
-    match e {
-        TextError::NotUtf8 { .. } => "Text.NotUtf8",
-        TextError::CloseWithoutOpen { .. } => "Text.CloseWithoutOpen",
-        TextError::EndInside { .. } => "Text.EndInside",
-        TextError::TooDeep { .. } => "Text.TooDeep",
-        TextError::ExtraText { .. } => "Text.ExtraText",
-        TextError::EmptyText => "Text.EmptyText",
-        TextError::OutOfMemory => "Text.OutOfMemory",
-    }
-}
-
-fn text_code(e: &TextError) -> &'static str
-    ensures { result.now ≡ codes "1." ++ code_of e.now }
-{
-    match e {
-        TextError::NotUtf8 { .. } => "1.1",
-        TextError::CloseWithoutOpen { .. } => "1.2",
-        TextError::EndInside { .. } => "1.3",
-        TextError::TooDeep { .. } => "1.4",
-        TextError::ExtraText { .. } => "1.5",
-        TextError::EmptyText => "1.6",
-        TextError::OutOfMemory => "1.0",
-    }
-}
-
 impl BoardError {
     ghost use Rattle.std.specs.Prelude.{◌≡◌};
-    ghost use Rattle.board_errors.specs.Reasons.{board_name_of, board_code_of, board_place_of};
+    ghost use Rattle.sexpr_read.specs.Reasons.{plain_reason};
+    ghost use Rattle.board_errors.specs.Reasons.{board_reason_in, board_name_of, board_code_of, board_place_of};
+
+    /// Its name, its number and its place.
+    pub fn reason(&self) -> Reason
+        ensures { plain_reason result ≡ board_reason_in self.now }
+    {
+        match self {
+            BoardError::Text(error) => error.carried_reason(),
+            BoardError::NotABoard { at } => Reason::new("NotABoard", "2", Some(*at)),
+            BoardError::Version { at } => Reason::new("Version", "3", Some(*at)),
+            BoardError::Missing { at } => Reason::new("Missing", "4", Some(*at)),
+            BoardError::BadNumber { at } => Reason::new("BadNumber", "5", Some(*at)),
+            BoardError::OutOfBoard { at } => Reason::new("OutOfBoard", "6", Some(*at)),
+            BoardError::Arc { at } => Reason::new("Arc", "7", Some(*at)),
+            BoardError::Turned { at } => Reason::new("Turned", "8", Some(*at)),
+            BoardError::PadShape { at } => Reason::new("PadShape", "9", Some(*at)),
+            BoardError::Ring { at } => Reason::new("Ring", "10", Some(*at)),
+            BoardError::UnknownNet { at } => Reason::new("UnknownNet", "11", Some(*at)),
+            BoardError::UnknownLayer { at } => Reason::new("UnknownLayer", "12", Some(*at)),
+            BoardError::ThickFill { at } => Reason::new("ThickFill", "13", Some(*at)),
+            BoardError::TooMany { at } => Reason::new("TooMany", "14", Some(*at)),
+            BoardError::OutOfMemory => Reason::new("OutOfMemory", "0", None),
+        }
+    }
 
     /// Its name; a refusal of the text stands behind a point.
     pub fn name(&self) -> &'static str
         ensures { result.now ≡ board_name_of self.now }
     {
-        match self {
-            BoardError::Text(e) => text_name(e),
-            BoardError::NotABoard { .. } => "NotABoard",
-            BoardError::Version { .. } => "Version",
-            BoardError::Missing { .. } => "Missing",
-            BoardError::BadNumber { .. } => "BadNumber",
-            BoardError::OutOfBoard { .. } => "OutOfBoard",
-            BoardError::Arc { .. } => "Arc",
-            BoardError::Turned { .. } => "Turned",
-            BoardError::PadShape { .. } => "PadShape",
-            BoardError::Ring { .. } => "Ring",
-            BoardError::UnknownNet { .. } => "UnknownNet",
-            BoardError::UnknownLayer { .. } => "UnknownLayer",
-            BoardError::ThickFill { .. } => "ThickFill",
-            BoardError::TooMany { .. } => "TooMany",
-            BoardError::OutOfMemory => "OutOfMemory",
-        }
+        self.reason().name
     }
 
     /// Its number; that of a refusal of the text stands behind a point. Want of memory has none, which is written 0.
     pub fn code(&self) -> &'static str
         ensures { result.now ≡ board_code_of self.now }
     {
-        match self {
-            BoardError::Text(e) => text_code(e),
-            BoardError::NotABoard { .. } => "2",
-            BoardError::Version { .. } => "3",
-            BoardError::Missing { .. } => "4",
-            BoardError::BadNumber { .. } => "5",
-            BoardError::OutOfBoard { .. } => "6",
-            BoardError::Arc { .. } => "7",
-            BoardError::Turned { .. } => "8",
-            BoardError::PadShape { .. } => "9",
-            BoardError::Ring { .. } => "10",
-            BoardError::UnknownNet { .. } => "11",
-            BoardError::UnknownLayer { .. } => "12",
-            BoardError::ThickFill { .. } => "13",
-            BoardError::TooMany { .. } => "14",
-            BoardError::OutOfMemory => "0",
-        }
+        self.reason().code
     }
 
     /// Its byte of the text. Want of memory has no place.
     pub fn place(&self) -> Option<u32>
         ensures { result ≡ board_place_of self.now }
     {
-        match self {
-            BoardError::Text(e) => e.place(),
-            BoardError::NotABoard { at }
-            | BoardError::Version { at }
-            | BoardError::Missing { at }
-            | BoardError::BadNumber { at }
-            | BoardError::OutOfBoard { at }
-            | BoardError::Arc { at }
-            | BoardError::Turned { at }
-            | BoardError::PadShape { at }
-            | BoardError::Ring { at }
-            | BoardError::UnknownNet { at }
-            | BoardError::UnknownLayer { at }
-            | BoardError::ThickFill { at }
-            | BoardError::TooMany { at } => Some(*at),
-            BoardError::OutOfMemory => None,
-        }
+        self.reason().place
     }
 }
 

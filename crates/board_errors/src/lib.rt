@@ -2,5 +2,8 @@
 #![tactic(auto)]
 
 mod errors;
+mod in_two;
 
 pub use errors::{BoardError, ItemError};
+pub use in_two::{InTwo, ReasonInTwo};
+pub use sexpr_read::Reason;
