@@ -1,8 +1,7 @@
 //! Why a command is not carried out.
 
-ghost use Rattle.std.specs.Prelude.{◌≡◌, ◌++◌};
-
 use board_edits::Refusal;
+use board_errors::{InTwo, ReasonInTwo};
 use board_items::BoardError;
 use rule_text::RuleError;
 use std::alloc::AllocError;
@@ -29,72 +28,45 @@ pub enum EditError {
     OutOfMemory,
 }
 
-/// A text in two pieces, the one behind the other.
-#[derive(Clone, Copy, Debug, Drop, PartialEq, Eq)]
-pub struct InTwo {
-    pub front: &'static str,
-    pub rest: &'static str,
-}
-
-fn one(rest: &'static str) -> InTwo
-    ensures { result.front.now ++ result.rest.now ≡ rest.now }
-{
-    two("", rest)
-}
-
-fn two(front: &'static str, rest: &'static str) -> InTwo
-    ensures { result.front.now ++ result.rest.now ≡ front.now ++ rest.now }
-{
-    InTwo { front, rest }
-}
-
 impl EditError {
     ghost use Rattle.std.specs.Prelude.{◌≡◌, ◌++◌};
-    ghost use Rattle.drc_state.specs.Reasons.{edit_name_of, edit_code_of, edit_place_of, edit_inner_place_of};
+    ghost use Rattle.board_errors.specs.Reasons.{reason_in_one};
+    ghost use Rattle.drc_state.specs.Reasons.{edit_reason_in, edit_name_of, edit_code_of, edit_place_of, edit_inner_place_of};
+
+    /// Its name, its number and its place.
+    pub fn reason(&self) -> ReasonInTwo
+        ensures { reason_in_one result ≡ edit_reason_in self.now }
+    {
+        match self {
+            EditError::NoSuchItem => ReasonInTwo::alone("NoSuchItem", "1"),
+            EditError::SharedName => ReasonInTwo::alone("SharedName", "2"),
+            EditError::PartOfFootprint => ReasonInTwo::alone("PartOfFootprint", "3"),
+            EditError::Item(error) => ReasonInTwo::behind("Item.", "4.", error.reason()),
+            EditError::Rules(error) => ReasonInTwo::behind("Rules.", "5.", error.reason()),
+            EditError::Stopped => ReasonInTwo::alone("Stopped", "6"),
+            EditError::OutOfMemory => ReasonInTwo::alone("OutOfMemory", "0"),
+        }
+    }
 
     /// Its name; that of a refusal of an added list or of rules stands behind a point.
     pub fn name(&self) -> InTwo
         ensures { result.front.now ++ result.rest.now ≡ edit_name_of self.now }
     {
-        match self {
-            EditError::NoSuchItem => one("NoSuchItem"),
-            EditError::SharedName => one("SharedName"),
-            EditError::PartOfFootprint => one("PartOfFootprint"),
-            EditError::Item(error) => two("Item.", error.name()),
-            EditError::Rules(error) => two("Rules.", error.name()),
-            EditError::Stopped => one("Stopped"),
-            EditError::OutOfMemory => one("OutOfMemory"),
-        }
+        self.reason().name
     }
 
     /// Its number; that of a refusal of an added list or of rules stands behind a point. Want of memory has none, which is written 0.
     pub fn code(&self) -> InTwo
         ensures { result.front.now ++ result.rest.now ≡ edit_code_of self.now }
     {
-        match self {
-            EditError::NoSuchItem => one("1"),
-            EditError::SharedName => one("2"),
-            EditError::PartOfFootprint => one("3"),
-            EditError::Item(error) => two("4.", error.code()),
-            EditError::Rules(error) => two("5.", error.code()),
-            EditError::Stopped => one("6"),
-            EditError::OutOfMemory => one("0"),
-        }
+        self.reason().code
     }
 
     /// Its byte of the text that it came from. A unit that is not found has none, nor has want of memory.
     pub fn place(&self) -> Option<u32>
         ensures { result ≡ edit_place_of self.now }
     {
-        match self {
-            EditError::Item(error) => error.place(),
-            EditError::Rules(error) => error.place(),
-            EditError::NoSuchItem
-            | EditError::SharedName
-            | EditError::PartOfFootprint
-            | EditError::Stopped
-            | EditError::OutOfMemory => None,
-        }
+        self.reason().place
     }
 
     /// The byte in what the text of a rule's condition stands for. Others have none.
@@ -138,18 +110,6 @@ impl From<AllocError> for EditError {
 
     fn from(_: AllocError) -> EditError {
         EditError::OutOfMemory
-    }
-}
-
-impl fmt::Display for InTwo {
-    ghost use Rattle.std.specs.Prelude.{Some, ◌++◌};
-
-    ghost output = { λ text. Some (text.front.now ++ text.rest.now) };
-
-    fn fmt<W: fmt::Write>(&self, f: &mut fmt::Formatter<W>) -> fmt::Result {
-        let front = self.front;
-        let rest = self.rest;
-        write!(f, "{front}{rest}")
     }
 }
 

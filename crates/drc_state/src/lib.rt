@@ -6,8 +6,9 @@ mod error;
 pub mod laws;
 mod planning;
 
+pub use board_errors::{InTwo, ReasonInTwo};
 pub use change::{Change, Edit, change_of, edit_in};
-pub use error::{EditError, InTwo};
+pub use error::EditError;
 pub use planning::edit_of;
 
 // Each type may go to another thread and be shared by threads.
