@@ -1,8 +1,10 @@
 //! Why a step of a history is not taken.
 
-ghost use Rattle.std.specs.Prelude.{◌≡◌, ◌++◌};
+ghost use Rattle.std.specs.Prelude.{◌≡◌};
+ghost use Rattle.drc_state.specs.Reasons.{reason_in_one, reason_alone, reason_behind};
+ghost use Rattle.undo_log.specs.Reasons.{three_in_one};
 
-use drc_state::{EditError, InTwo};
+use drc_state::{EditError, InTwo, ReasonInTwo};
 use std::alloc::AllocError;
 use std::error::Error;
 use std::fmt;
@@ -30,64 +32,73 @@ pub struct InThree {
     pub rest: InTwo,
 }
 
-// A text as one piece.
-fn one(text: &'static str) -> InThree
-    ensures { result.front.now ++ (result.rest.front.now ++ result.rest.rest.now) ≡ text.now }
+// What a refusal is called and its number, each in three pieces, and its byte of the text where it has one.
+#[derive(Clone, Copy, Drop)]
+struct ReasonInThree {
+    name: InThree,
+    code: InThree,
+    place: Option<u32>,
+}
+
+// The reason of a refusal that carries no other and has no place.
+fn alone(name: &'static str, code: &'static str) -> ReasonInThree
+    ensures { three_in_one result ≡ reason_alone name.now code.now }
 {
-    let rest = InTwo {
-        front: "",
-        rest: text,
-    };
-    InThree { front: "", rest }
+    behind("", "", ReasonInTwo::alone(name, code))
+}
+
+// The reason of a refusal that carries another, whose reason stands behind its name and its number.
+fn behind(name: &'static str, code: &'static str, of_other: ReasonInTwo) -> ReasonInThree
+    ensures { three_in_one result ≡ reason_behind name.now code.now (reason_in_one of_other) }
+{
+    ReasonInThree {
+        name: InThree {
+            front: name,
+            rest: of_other.name,
+        },
+        code: InThree {
+            front: code,
+            rest: of_other.code,
+        },
+        place: of_other.place,
+    }
 }
 
 impl HistoryError {
     ghost use Rattle.std.specs.Prelude.{◌≡◌, ◌++◌};
-    ghost use Rattle.undo_log.specs.Reasons.{step_name_of, step_code_of, step_place_of, step_inner_place_of};
+    ghost use Rattle.undo_log.specs.Reasons.{step_reason_in, step_name_of, step_code_of, step_place_of, step_inner_place_of};
+
+    fn reason(&self) -> ReasonInThree
+        ensures { three_in_one result ≡ step_reason_in self.now }
+    {
+        match self {
+            HistoryError::Edit(error) => behind("Edit.", "10.", error.reason()),
+            HistoryError::NothingToUndo => alone("NothingToUndo", "11"),
+            HistoryError::NothingToRedo => alone("NothingToRedo", "12"),
+            HistoryError::Stopped => alone("Stopped", "13"),
+            HistoryError::OutOfMemory => alone("OutOfMemory", "0"),
+        }
+    }
 
     /// Its name; that of a refused command stands behind a point.
     pub fn name(&self) -> InThree
         ensures { result.front.now ++ (result.rest.front.now ++ result.rest.rest.now) ≡ step_name_of self.now }
     {
-        match self {
-            HistoryError::Edit(error) => InThree {
-                front: "Edit.",
-                rest: error.name(),
-            },
-            HistoryError::NothingToUndo => one("NothingToUndo"),
-            HistoryError::NothingToRedo => one("NothingToRedo"),
-            HistoryError::Stopped => one("Stopped"),
-            HistoryError::OutOfMemory => one("OutOfMemory"),
-        }
+        self.reason().name
     }
 
     /// Its number; that of a refused command stands behind a point. Want of memory has none, which is written 0.
     pub fn code(&self) -> InThree
         ensures { result.front.now ++ (result.rest.front.now ++ result.rest.rest.now) ≡ step_code_of self.now }
     {
-        match self {
-            HistoryError::Edit(error) => InThree {
-                front: "10.",
-                rest: error.code(),
-            },
-            HistoryError::NothingToUndo => one("11"),
-            HistoryError::NothingToRedo => one("12"),
-            HistoryError::Stopped => one("13"),
-            HistoryError::OutOfMemory => one("0"),
-        }
+        self.reason().code
     }
 
     /// The byte of the text that a refused command came from, where its refusal has one. Others have none.
     pub fn place(&self) -> Option<u32>
         ensures { result ≡ step_place_of self.now }
     {
-        match self {
-            HistoryError::Edit(error) => error.place(),
-            HistoryError::NothingToUndo
-            | HistoryError::NothingToRedo
-            | HistoryError::Stopped
-            | HistoryError::OutOfMemory => None,
-        }
+        self.reason().place
     }
 
     /// The byte in what the text of a rule's condition stands for. Others have none.
