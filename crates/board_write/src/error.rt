@@ -1,7 +1,6 @@
 //! Why a board is not written.
 
-ghost use Rattle.std.specs.Prelude.{◌≡◌, ◌++◌};
-
+use board_errors::{InTwo, ReasonInTwo};
 use board_items::BoardError;
 use drc_io::Failed;
 use std::alloc::AllocError;
@@ -19,60 +18,40 @@ pub enum WriteError {
     OutOfMemory,
 }
 
-/// A text in two pieces, the one behind the other.
-#[derive(Clone, Copy, Debug, Drop, PartialEq, Eq)]
-pub struct InTwo {
-    pub front: &'static str,
-    pub rest: &'static str,
-}
-
-// A text as one piece.
-fn one(rest: &'static str) -> InTwo
-    ensures { result.front.now ++ result.rest.now ≡ rest.now }
-{
-    InTwo { front: "", rest }
-}
-
 impl WriteError {
     ghost use Rattle.std.specs.Prelude.{◌≡◌, ◌++◌};
-    ghost use Rattle.board_write.specs.Reasons.{write_name_of, write_code_of, write_place_of};
+    ghost use Rattle.board_errors.specs.Reasons.{reason_in_one};
+    ghost use Rattle.board_write.specs.Reasons.{write_reason_in, write_name_of, write_code_of, write_place_of};
+
+    fn reason(&self) -> ReasonInTwo
+        ensures { reason_in_one result ≡ write_reason_in self.now }
+    {
+        match self {
+            WriteError::Board(error) => ReasonInTwo::behind("Board.", "21.", error.reason()),
+            WriteError::Failed => ReasonInTwo::alone("Failed", "22"),
+            WriteError::OutOfMemory => ReasonInTwo::alone("OutOfMemory", "0"),
+        }
+    }
 
     /// Its name; that of a refusal of the text stands behind a point.
     pub fn name(&self) -> InTwo
         ensures { result.front.now ++ result.rest.now ≡ write_name_of self.now }
     {
-        match self {
-            WriteError::Board(error) => InTwo {
-                front: "Board.",
-                rest: error.name(),
-            },
-            WriteError::Failed => one("Failed"),
-            WriteError::OutOfMemory => one("OutOfMemory"),
-        }
+        self.reason().name
     }
 
     /// Its number; that of a refusal of the text stands behind a point. Want of memory has none, which is written 0.
     pub fn code(&self) -> InTwo
         ensures { result.front.now ++ result.rest.now ≡ write_code_of self.now }
     {
-        match self {
-            WriteError::Board(error) => InTwo {
-                front: "21.",
-                rest: error.code(),
-            },
-            WriteError::Failed => one("22"),
-            WriteError::OutOfMemory => one("0"),
-        }
+        self.reason().code
     }
 
     /// The byte of the text at which it is refused. The others have none.
     pub fn place(&self) -> Option<u32>
         ensures { result ≡ write_place_of self.now }
     {
-        match self {
-            WriteError::Board(error) => error.place(),
-            WriteError::Failed | WriteError::OutOfMemory => None,
-        }
+        self.reason().place
     }
 }
 
@@ -109,18 +88,6 @@ impl From<Failed> for WriteError {
 
     fn from(_: Failed) -> WriteError {
         WriteError::Failed
-    }
-}
-
-impl fmt::Display for InTwo {
-    ghost use Rattle.std.specs.Prelude.{Some, ◌++◌};
-
-    ghost output = { λ text. Some (text.front.now ++ text.rest.now) };
-
-    fn fmt<W: fmt::Write>(&self, f: &mut fmt::Formatter<W>) -> fmt::Result {
-        let front = self.front;
-        let rest = self.rest;
-        write!(f, "{front}{rest}")
     }
 }
 

@@ -26,9 +26,10 @@ mod source;
 mod written;
 
 use crate::written::text_by;
+pub use board_errors::InTwo;
 use drc_io::{Sink, put_all};
 use edit_script::Command;
-pub use error::{InTwo, WriteError};
+pub use error::WriteError;
 pub use source::{Source, read_source};
 use std::alloc::Global;
 
