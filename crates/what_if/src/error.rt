@@ -1,7 +1,6 @@
 //! Why there is no trial.
 
-ghost use Rattle.std.specs.Prelude.{◌≡◌};
-
+use board_errors::Reason;
 use drc_state::EditError;
 use std::alloc::AllocError;
 use std::error::Error;
@@ -18,26 +17,31 @@ pub enum TrialError {
 
 impl TrialError {
     ghost use Rattle.std.specs.Prelude.{◌≡◌};
-    ghost use Rattle.what_if.specs.Reasons.{name_of, code_of};
+    ghost use Rattle.board_errors.specs.Reasons.{plain_reason};
+    ghost use Rattle.what_if.specs.Reasons.{reason_in, name_of, code_of};
+
+    // A command is told by its step and has no place here.
+    fn reason(&self) -> Reason
+        ensures { plain_reason result ≡ reason_in self.now }
+    {
+        match self {
+            TrialError::Refused { .. } => Reason::new("Refused", "31", None),
+            TrialError::OutOfMemory => Reason::new("OutOfMemory", "0", None),
+        }
+    }
 
     /// Its name.
     pub fn name(&self) -> &'static str
         ensures { result.now ≡ name_of self.now }
     {
-        match self {
-            TrialError::Refused { .. } => "Refused",
-            TrialError::OutOfMemory => "OutOfMemory",
-        }
+        self.reason().name
     }
 
     /// Its number. Want of memory has none, which is written 0.
     pub fn code(&self) -> &'static str
         ensures { result.now ≡ code_of self.now }
     {
-        match self {
-            TrialError::Refused { .. } => "31",
-            TrialError::OutOfMemory => "0",
-        }
+        self.reason().code
     }
 }
 
