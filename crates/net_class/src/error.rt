@@ -1,6 +1,6 @@
 //! Why a project is refused.
 
-use json_exact::JsonError;
+use json_exact::{JsonError, Reason};
 use std::alloc::{AllocError, AllocFailed};
 use std::error::Error;
 use std::fmt;
@@ -21,44 +21,39 @@ pub enum ProjectError {
 
 impl ProjectError {
     ghost use Rattle.std.specs.Prelude.{◌≡◌};
-    ghost use Rattle.net_class.specs.Reasons.{name_of, code_of, place_of};
+    ghost use Rattle.json_exact.specs.Reasons.{plain_reason};
+    ghost use Rattle.net_class.specs.Reasons.{reason_in, name_of, code_of, place_of};
 
-    pub fn name(&self) -> &'static str
-        ensures { result.now ≡ name_of self.now }
+    fn reason(&self) -> Reason
+        ensures { plain_reason result ≡ reason_in self.now }
     {
         match self {
-            ProjectError::Json(JsonError::Bad { .. }) => "Json.Bad",
-            ProjectError::Json(JsonError::TooDeep { .. }) => "Json.TooDeep",
-            ProjectError::Json(JsonError::OutOfMemory) => "Json.OutOfMemory",
-            ProjectError::Shape { .. } => "Shape",
-            ProjectError::BadNumber { .. } => "BadNumber",
-            ProjectError::OutOfMemory => "OutOfMemory",
+            ProjectError::Json(error) => error.carried_reason(),
+            ProjectError::Shape { at } => Reason::new("Shape", "2", Some(*at)),
+            ProjectError::BadNumber { at } => Reason::new("BadNumber", "3", Some(*at)),
+            ProjectError::OutOfMemory => Reason::new("OutOfMemory", "0", None),
         }
     }
 
-    /// Its number. Want of memory has none, which is written 0.
+    /// Its name; behind `Json.` that of the JSON text's refusal.
+    pub fn name(&self) -> &'static str
+        ensures { result.now ≡ name_of self.now }
+    {
+        self.reason().name
+    }
+
+    /// Its number; behind `1.` that of the JSON text's refusal. Want of memory has none, which is written 0.
     pub fn code(&self) -> &'static str
         ensures { result.now ≡ code_of self.now }
     {
-        match self {
-            ProjectError::Json(JsonError::Bad { .. }) => "1.1",
-            ProjectError::Json(JsonError::TooDeep { .. }) => "1.2",
-            ProjectError::Json(JsonError::OutOfMemory) => "1.0",
-            ProjectError::Shape { .. } => "2",
-            ProjectError::BadNumber { .. } => "3",
-            ProjectError::OutOfMemory => "0",
-        }
+        self.reason().code
     }
 
     /// Its byte of the text. Want of memory has no place.
     pub fn place(&self) -> Option<u32>
         ensures { result ≡ place_of self.now }
     {
-        match self {
-            ProjectError::Json(error) => error.place(),
-            ProjectError::Shape { at } | ProjectError::BadNumber { at } => Some(*at),
-            ProjectError::OutOfMemory => None,
-        }
+        self.reason().place
     }
 }
 
