@@ -1,6 +1,6 @@
 //! Why a script is refused.
 
-use sexpr_read::TextError;
+use sexpr_read::{Reason, TextError};
 use std::alloc::{AllocError, AllocFailed};
 use std::error::Error;
 use std::fmt;
@@ -19,51 +19,38 @@ pub enum ScriptError {
 
 impl ScriptError {
     ghost use Rattle.std.specs.Prelude.{◌≡◌};
-    ghost use Rattle.edit_script.specs.Reasons.{name_of, code_of, place_of};
+    ghost use Rattle.sexpr_read.specs.Reasons.{plain_reason};
+    ghost use Rattle.edit_script.specs.Reasons.{reason_in, name_of, code_of, place_of};
+
+    fn reason(&self) -> Reason
+        ensures { plain_reason result ≡ reason_in self.now }
+    {
+        match self {
+            ScriptError::Text(error) => error.carried_reason(),
+            ScriptError::Bad { at } => Reason::new("Bad", "2", Some(*at)),
+            ScriptError::OutOfMemory => Reason::new("OutOfMemory", "0", None),
+        }
+    }
 
     /// Its name; behind `Text.` that of the text's refusal.
     pub fn name(&self) -> &'static str
         ensures { result.now ≡ name_of self.now }
     {
-        match self {
-            ScriptError::Text(TextError::NotUtf8 { .. }) => "Text.NotUtf8",
-            ScriptError::Text(TextError::CloseWithoutOpen { .. }) => "Text.CloseWithoutOpen",
-            ScriptError::Text(TextError::EndInside { .. }) => "Text.EndInside",
-            ScriptError::Text(TextError::TooDeep { .. }) => "Text.TooDeep",
-            ScriptError::Text(TextError::ExtraText { .. }) => "Text.ExtraText",
-            ScriptError::Text(TextError::EmptyText) => "Text.EmptyText",
-            ScriptError::Text(TextError::OutOfMemory) => "Text.OutOfMemory",
-            ScriptError::Bad { .. } => "Bad",
-            ScriptError::OutOfMemory => "OutOfMemory",
-        }
+        self.reason().name
     }
 
     /// Its number; behind `1.` that of the text's refusal. Want of memory has none, which is written 0.
     pub fn code(&self) -> &'static str
         ensures { result.now ≡ code_of self.now }
     {
-        match self {
-            ScriptError::Text(TextError::NotUtf8 { .. }) => "1.1",
-            ScriptError::Text(TextError::CloseWithoutOpen { .. }) => "1.2",
-            ScriptError::Text(TextError::EndInside { .. }) => "1.3",
-            ScriptError::Text(TextError::TooDeep { .. }) => "1.4",
-            ScriptError::Text(TextError::ExtraText { .. }) => "1.5",
-            ScriptError::Text(TextError::EmptyText) => "1.6",
-            ScriptError::Text(TextError::OutOfMemory) => "1.0",
-            ScriptError::Bad { .. } => "2",
-            ScriptError::OutOfMemory => "0",
-        }
+        self.reason().code
     }
 
     /// Its byte of the text, at most 33,554,432. Want of memory has no place.
     pub fn place(&self) -> Option<u32>
         ensures { result ≡ place_of self.now }
     {
-        match self {
-            ScriptError::Text(error) => error.place(),
-            ScriptError::Bad { at } => Some(*at),
-            ScriptError::OutOfMemory => None,
-        }
+        self.reason().place
     }
 }
 
