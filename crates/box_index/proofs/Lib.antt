@@ -1,4 +1,5 @@
 pub mod TileLemmas
+pub mod Begins
 pub mod EntryLists
 pub mod Buckets
 pub mod Numbers

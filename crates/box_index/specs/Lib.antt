@@ -1,4 +1,5 @@
 pub mod Tiles
+pub mod Corners
 pub mod Areas
 pub mod Cuts
 pub mod Walks

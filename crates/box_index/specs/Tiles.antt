@@ -75,6 +75,15 @@ IsComplete index =
     → IsTrue (are_near (margin index) first.bounds second.bounds)
     → let tile = owner_of (margin index) first.bounds second.bounds in (Contains (near_of index tile) first × Contains (near_of index tile) second)
 
+-- the tile answers for no two entries that are near
+abbrev pub AnswersForNone : PlainIndex → ℕ → Type 0
+AnswersForNone index tile =
+    (first second : Entry)
+    → Contains index.entries first
+    → Contains index.entries second
+    → IsTrue (are_near (margin index) first.bounds second.bounds)
+    → owner_of (margin index) first.bounds second.bounds ≢ tile
+
 -- the list with the entry in its place: after those with lesser ids, and before those with greater ones
 abbrev pub placed : Entry → List Entry → List Entry
 placed e xs = filter (λ x. nat_lt x.id e.id) xs ++ e ∷ filter (λ x. nat_lt e.id x.id) xs

@@ -6,12 +6,13 @@ ghost use Rattle.geo_seg.specs.Boxes.{FitsWithin, widened, are_near};
 ghost use Rattle.box_index.specs.declared.entry.Entry.{Entry};
 ghost use Rattle.box_index.specs.Areas.{has_tile};
 ghost use Rattle.box_index.specs.Walks.{AreEmpty, AreMarks, HaveSameEntries};
-ghost use Rattle.box_index.specs.Tiles.{PlainIndex, IsSound, IsComplete, IsAbsent, OwnsBoth, meets_tile, near_of, owner_of, margin, placed, without, held_of, is_held, dirty_of, numbers_below, tile_count};
+ghost use Rattle.box_index.specs.Tiles.{PlainIndex, IsSound, IsComplete, AnswersForNone, IsAbsent, OwnsBoth, meets_tile, near_of, owner_of, margin, placed, without, held_of, is_held, dirty_of, numbers_below, tile_count};
 
 use crate::area::Area;
+use crate::corners::last_corner;
 use crate::entry::Entry;
 use crate::kept::KeptBoxes;
-use crate::lanes::{TILES, are_near, owner};
+use crate::lanes::{LANES, TILES, are_near, owner};
 use crate::walks::{mark_boxes, put_each, reserve_each, take_out_each};
 use geo_seg::Bounds;
 use std::alloc::{AllocError, Global};
@@ -138,6 +139,16 @@ impl TileIndex {
         ensures sound { IsSound self.now }
     {
         Area::around(2 * self.reach, bounds)
+    }
+
+    /// Whether the tile may answer for two of the entries that are near each other. Only a no is sure: no entry begins in its
+    /// column or right of it, or none in its row or below. It takes no memory.
+    pub fn may_answer(&self, tile: u32) -> bool
+        ensures { result ≡ false → AnswersForNone self.now tile }
+    {
+        let last = last_corner(self.near(tile));
+        let tile = tile as usize;
+        tile % LANES <= last.column && tile / LANES <= last.row
     }
 
     // Whether the tile holds an entry.

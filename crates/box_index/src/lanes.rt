@@ -10,13 +10,13 @@ use crate::boxes::do_boxes_meet;
 use geo_seg::Bounds;
 
 /// Tiles in a row, and rows of tiles.
-const LANES: usize = 125;
+pub(crate) const LANES: usize = 125;
 
 /// All tiles.
 pub(crate) const TILES: usize = LANES * LANES;
 
-// The column of an x, or the row of a y.
-fn lane(z: i64) -> usize
+/// The column of an x, or the row of a y.
+pub(crate) fn lane(z: i64) -> usize
     requires from { neg_ℤ (pos 3000000000) ≤ℤ z }
     requires to { z ≤ℤ pos 3000000000 }
     ensures value { result ≡ lane z }

@@ -7,6 +7,7 @@
 
 mod area;
 mod boxes;
+mod corners;
 mod entry;
 mod index;
 mod kept;

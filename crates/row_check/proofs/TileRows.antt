@@ -10,7 +10,7 @@ use Rattle.board_items.specs.Boards.{PlainBoard, item_at}
 use Rattle.board_items.specs.Parts.{parts_of}
 use Rattle.board_items.specs.Extents.{AreBoundsOf}
 use Rattle.box_index.specs.declared.entry.Entry.{Entry}
-use Rattle.box_index.specs.Tiles.{PlainIndex, IsSound, IsRising, margin, owner_of}
+use Rattle.box_index.specs.Tiles.{PlainIndex, IsSound, IsRising, AnswersForNone, margin, owner_of}
 use Rattle.box_index.proofs.EntryLists.{pairs_first, pairs_rest}
 use Rattle.box_index.proofs.Buckets.{contains_filter}
 use Rattle.pair_check.specs.PlainRow.{PlainRow}
@@ -18,7 +18,7 @@ use Rattle.pair_check.specs.Rows.{Checked, IsRowOfTwo}
 use Rattle.board_index.specs.Holding.{IsEntryOf}
 use Rattle.row_check.specs.Tiles.{IsIndexOf, IsAskedIn, AreRowsOfTile, pairs_of, is_changed}
 use Rattle.row_check.specs.Walks.{is_owned, AreRowsOfPairs}
-use Rattle.row_check.proofs.RowLists.{here, behind, nothing, cons_case, alike}
+use Rattle.row_check.proofs.RowLists.{here, behind, nothing, cons_case, alike, no_rows}
 use Rattle.row_check.proofs.PairLists.{Pair, Passes}
 use Rattle.row_check.proofs.TestedPairs.{touches, test_of}
 use Rattle.row_check.proofs.NearPairs.{broken_near}
@@ -174,3 +174,9 @@ module _ (c : Checked) (index : PlainIndex) (sound : IsSound index) (is : IsInde
 
     pub tile_rows : (rows : List PlainRow) → AreRowsOfPairs c (filter (test_of (touches changed) (is_owned index tile)) (pairs_of index.entries)) rows → AreRowsOfTile c index tile changed rows
     tile_rows rows r = alike (Passes c (filter Q ps)) (λ row. IsRowOfTwo c row × IsAskedIn index tile changed row.first row.second) rows on back r
+
+    -- a tile that answers for no near entries has no rows
+    pub none_answered : AnswersForNone index tile → AreRowsOfTile c index tile changed []
+    none_answered none =
+        no_rows (λ row. IsRowOfTwo c row × IsAskedIn index tile changed row.first row.second)
+        (λ row h. none h.1.first h.1.second h.1.has_first h.1.has_second (entries_near row h.0 h.1.first h.1.second h.1.has_first h.1.has_second h.1.is_first h.1.is_second) h.1.owner)

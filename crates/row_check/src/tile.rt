@@ -258,6 +258,10 @@ pub fn test_tile<L: Ledger>(
 {
     let asked = Asked::by(view);
     let near = index.near(tile);
+    // What is large lies in many tiles that answer for none of its pairs.
+    if !index.may_answer(tile) {
+        return Ok(Vec::new(alloc));
+    }
     let all_touched = touched_of(alloc, near, changed)?;
     let all_boxes = boxes_of(alloc, near)?;
     let boxes: &[Bounds] = &all_boxes;
