@@ -42,10 +42,14 @@ abbrev pub with_items : PlainBoard → List Item → PlainBoard
 with_items board [] = board
 with_items board (item ∷ items) = with_items (with_item board item) items
 
+-- with the items that were found
+abbrev pub with_found : PlainBoard → Result (List Item) BoardError → Result PlainBoard BoardError
+with_found board items = items >>= λ found. Ok (with_items board found)
+
 -- the board with the items of a list, which are a unit of their own
 abbrev pub SaysWith : PlainBoard → Tree → Sort → Result PlainBoard BoardError → Type 0
 SaysWith board tree sort answer =
-    (items : Result (List Item) BoardError) × SaysItems board board.next_unit tree sort items × (answer ≡ (items >>= λ found. Ok (with_items board found)))
+    (items : Result (List Item) BoardError) × SaysItems board board.next_unit tree sort items × (answer ≡ with_found board items)
 
 -- what is read with one part of the root
 abbrev pub SaysPartBy : Reading → Tree → Option Sort → Result Reading BoardError → Type 0

@@ -1,12 +1,21 @@
 //! Items that go into a board.
 
-ghost use Rattle.std.specs.Prelude.{◌≡◌, ◌<◌, true, OnOk, IfErr};
+ghost use Rattle.std.specs.Prelude.{◌≡◌, ◌<◌, ◌≤◌, suc, true, OnOk, IfOk, IfErr, Result};
 ghost use Rattle.board_items.specs.Boards.{with_item, is_admitted};
 ghost use Rattle.board_items.specs.Refusals.{room_of};
-ghost use Rattle.part_read.specs.Ready.{AreReady};
-ghost use Rattle.pcb_read.specs.BoardOf.{with_items};
+ghost use Rattle.sexpr_read.specs.Views.{tree_of};
+ghost use Rattle.board_errors.specs.declared.errors.BoardError.{BoardError};
+ghost use Rattle.board_items.specs.declared.item.Item.{Item};
+ghost use Rattle.part_read.specs.Nodes.{Gives};
+ghost use Rattle.part_read.specs.Graphics.{one_item};
+ghost use Rattle.part_read.specs.Ready.{IsReady, AreReady};
+ghost use Rattle.pcb_read.specs.Answers.{LeavesSome};
+ghost use Rattle.pcb_read.specs.ItemsOf.{in_room};
+ghost use Rattle.pcb_read.specs.BoardOf.{with_items, with_found};
 
 use board_items::{Board, BoardError, Item, ItemError};
+use part_read::place;
+use sexpr_read::Node;
 
 /// Appends an item that the board takes.
 fn add_item(board: &mut Board, item: Item) -> Result<(), BoardError>
@@ -38,4 +47,24 @@ pub fn add_items(board: &mut Board, unit: u32, items: Vec<Item>) -> Result<(), B
         add_item(board, item)?;
     }
     Ok(())
+}
+
+/// Appends the one item that was read of a list, where there is room for it.
+pub(crate) fn add_one(
+    board: &mut Board,
+    unit: u32,
+    node: Node<'_, '_>,
+    answer: Result<Item, BoardError>,
+) -> Result<(), BoardError>
+    requires { IfOk answer (IsReady board.old unit) }
+    ensures read { (said : Result Item BoardError) → Gives answer said → LeavesSome result board.new (λ left. left ≡ with_found board.old (in_room board.old unit (tree_of node.entry) (one_item said))) }
+    ensures copper { OnOk result (board.new.copper ≡ board.old.copper) }
+    ensures not_below { OnOk result (board.old.next_unit ≤ board.new.next_unit) }
+    ensures one_at_most { OnOk result (unit ≡ board.old.next_unit → board.new.next_unit ≤ suc board.old.next_unit) }
+{
+    let item = answer?;
+    if board.left() == 0 || unit == u32::MAX {
+        return Err(BoardError::TooMany { at: place(node) });
+    }
+    add_item(board, item)
 }

@@ -9,11 +9,12 @@ ghost use Rattle.pcb_read.specs.Answers.{LeavesSome};
 ghost use Rattle.pcb_read.specs.BoardOf.{with_layers, with_other, SaysWith, SaysPart, SaysParts, version_in, header_in, SaysBoard};
 ghost use Rattle.pcb_read.specs.Spans.{with_span, SaysSpans, AreSpans, GivesBoardWith};
 
-use crate::adding::add_items;
+use crate::adding::{add_items, add_one};
 use crate::lists::read_list;
 use crate::nets::read_net;
 use crate::sorts::{Sort, sort_of};
 use crate::spans::Spans;
+use crate::tracks::{track_of, via_of};
 use board_items::{Board, BoardError};
 use copper_layers::LayerSet;
 use part_read::{first_atom, has_head, layers_listed, place};
@@ -90,7 +91,7 @@ fn read_other(
 }
 
 /// Appends the items of a list of this sort, as a unit of their own.
-fn read_items(
+fn read_many(
     alloc: Global,
     board: &mut Board,
     node: Node<'_, '_>,
@@ -104,6 +105,32 @@ fn read_items(
     let unit = board.next_unit();
     let items = read_list(alloc, board, unit, node, sort)?;
     add_items(board, unit, items)
+}
+
+/// The same. Most lists of a board are tracks and vias, which need no list of items.
+fn read_items(
+    alloc: Global,
+    board: &mut Board,
+    node: Node<'_, '_>,
+    sort: Sort,
+) -> Result<(), BoardError>
+    ensures read { LeavesSome result board.new (SaysWith board.old (tree_of node.entry) sort) }
+    ensures copper { OnOk result (board.new.copper ≡ board.old.copper) }
+    ensures not_below { OnOk result (board.old.next_unit ≤ board.new.next_unit) }
+    ensures one_at_most { OnOk result (board.new.next_unit ≤ suc board.old.next_unit) }
+{
+    let unit = board.next_unit();
+    match sort {
+        Sort::Track => {
+            let answer = track_of(alloc, board, unit, node);
+            add_one(board, unit, node, answer)
+        }
+        Sort::Via => {
+            let answer = via_of(alloc, board, unit, node);
+            add_one(board, unit, node, answer)
+        }
+        _ => read_many(alloc, board, node, sort),
+    }
 }
 
 /// Reads one part of the root.

@@ -1,5 +1,5 @@
 use Rattle.pcb_read.proofs.Rooming.{rise_low, rise_high}
-use Rattle.pcb_read.proofs.root.read_items.Goals as goal
+use Rattle.pcb_read.proofs.root.read_many.Goals as goal
 
 pub returns-clause-not_below : goal.returns-clause-not_below
 returns-clause-not_below c = rise_low c.add_items.result c.args.board.now c.add_items.new.board c.in_ok-items.items.items c.add_items.ensures.added
