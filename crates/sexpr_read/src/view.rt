@@ -1,4 +1,4 @@
-ghost use Rattle.std.specs.Prelude.{◌≡◌};
+ghost use Rattle.std.specs.Prelude.{◌≡◌, ◌↔◌, IsTrue};
 ghost use Rattle.std.proofs.Props.{props};
 ghost use Rattle.sexpr_read.specs.Cells.{cells_of, forest_of, tree_at, IsPlaced, ArePlaced, ArePlaced-prop};
 ghost use Rattle.sexpr_read.specs.Texts.{AreTexts, AreTexts-prop, HasTexts, HasTexts-prop};
@@ -71,6 +71,7 @@ impl<'d, 't> Node<'d, 't> {
     }
 
     /// An atom's bytes as they stand in the text, without quotes, or `None` for a list.
+    #[inline(always)]
     pub fn atom(self) -> Option<&'t [u8]>
         ensures { option_copied result ≡ content (tree_of self.entry) }
     {
@@ -119,6 +120,7 @@ impl<'d, 't> Node<'d, 't> {
     }
 
     /// Whether it is an atom that stands for `text`, the escapes of a string read.
+    #[inline(always)]
     pub fn is(self, text: &[u8]) -> bool
         ensures { IsTrue result ↔ (value (tree_of self.entry) ≡ Some text.now) }
     {
@@ -126,7 +128,7 @@ impl<'d, 't> Node<'d, 't> {
             None => false,
             Some(content) => match self.kind {
                 Kind::String => is_unescaped(content, text),
-                Kind::Word | Kind::List => content == text,
+                Kind::Word | Kind::List => is_same(content, text),
             },
         }
     }
@@ -169,6 +171,23 @@ impl<'d, 't> Node<'d, 't> {
             },
         }
     }
+}
+
+/// Whether two texts are the same. Most that are asked about differ in length or in the first byte, which is told without a call.
+#[inline(always)]
+fn is_same(content: &[u8], text: &[u8]) -> bool
+    ensures { IsTrue result ↔ (content.now ≡ text.now) }
+{
+    if content.len() != text.len() {
+        return false;
+    }
+    let Some((first, after)) = content.split_first() else {
+        return true;
+    };
+    let Some((other, rest)) = text.split_first() else {
+        return false;
+    };
+    *first == *other && after == rest
 }
 
 /// The parts of a list that are still to come, in the order of the text.
