@@ -349,6 +349,13 @@ impl Board {
         (places as u32).min(LAST - self.slot_count())
     }
 
+    /// What holds of each board, as a step of a proof. It does nothing.
+    pub fn soundness(&self)
+        ensures sound { IsSound self.now }
+    {
+        let _ = &self.live;
+    }
+
     /// The copper layers.
     pub fn copper(&self) -> LayerSet
         ensures { result ≡ self.now.copper }
