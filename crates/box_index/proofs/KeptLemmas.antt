@@ -1,6 +1,6 @@
 -- Boxes that are kept in slots, as a list of entries.
-use Rattle.std.proofs.Common.{◌≡◌, ◌≢◌, ◌∙◌, ap, sym, subst, refl, ℕ, zero, suc, ◌+◌, ◌<◌, ◌≤◌, Bool, true, false, cond, not, ◌==◌, nat_lt, List, [], ◌∷◌, ◌++◌, length, set, get_or, arith}
-use Rattle.std.specs.Prelude.{Option, None, Some, IfSome}
+use Rattle.std.proofs.Common.{◌≡◌, ◌≢◌, ◌∙◌, ap, sym, refl, ℕ, zero, suc, ◌+◌, ◌<◌, ◌≤◌, Bool, true, false, cond, not, ◌==◌, nat_lt, List, [], ◌∷◌, ◌++◌, length, set, get_or, arith}
+use Rattle.std.specs.Prelude.{Option, None, Some}
 use Rattle.std.specs.List.{filter, All}
 use Rattle.std.proofs.lemmas.List.Elements.{All-nil, All-cons, All-weaker}
 use Rattle.box_index.specs.declared.entry.Entry.{Entry}
@@ -11,13 +11,13 @@ use Rattle.box_index.specs.Kept.{entry_of, entries_from, entries_of}
 use Rattle.box_index.proofs.EntryLists.{filter_all, filter_none, none_at, below_true, below_false, same_test, other_test}
 
 -- ---- lists of entries
-before_all : (e : Entry) (xs : List Entry) → All (λ (y : Entry). e.id < y.id) xs → e ∷ xs ≡ placed e xs
+pub before_all : (e : Entry) (xs : List Entry) → All (λ (y : Entry). e.id < y.id) xs → e ∷ xs ≡ placed e xs
 before_all e xs h =
     let low = filter_none (λ (y : Entry). nat_lt y.id e.id) xs (All-weaker (λ (y : Entry). e.id < y.id) (λ (y : Entry). nat_lt y.id e.id ≡ false) (λ y l. below_false _ _ (omega arith)) xs h) in
     let high = filter_all (λ (y : Entry). nat_lt e.id y.id) xs (All-weaker (λ (y : Entry). e.id < y.id) (λ (y : Entry). nat_lt e.id y.id ≡ true) (λ y l. below_true _ _ l) xs h) in
     sym (ap (λ (ys : List Entry). ys ++ e ∷ filter (λ (y : Entry). nat_lt e.id y.id) xs) low ∙ ap (λ (ys : List Entry). e ∷ ys) high)
 
-after_first : (e x : Entry) (xs : List Entry) → x.id < e.id → x ∷ placed e xs ≡ placed e (x ∷ xs)
+pub after_first : (e x : Entry) (xs : List Entry) → x.id < e.id → x ∷ placed e xs ≡ placed e (x ∷ xs)
 after_first e x xs l =
     let p : Entry → Bool = λ y. nat_lt y.id e.id in
     let q : Entry → Bool = λ y. nat_lt e.id y.id in
@@ -25,7 +25,7 @@ after_first e x xs l =
     let f : nat_lt e.id x.id ≡ false = below_false _ _ (omega arith) in
     sym (ap (λ b. cond b (x ∷ filter p xs) (filter p xs) ++ e ∷ filter q (x ∷ xs)) t ∙ ap (λ b. (x ∷ filter p xs) ++ e ∷ cond b (x ∷ filter q xs) (filter q xs)) f)
 
-in_place : (e x : Entry) (xs : List Entry) → x.id ≡ e.id → placed e xs ≡ placed e (x ∷ xs)
+pub in_place : (e x : Entry) (xs : List Entry) → x.id ≡ e.id → placed e xs ≡ placed e (x ∷ xs)
 in_place e x xs h =
     let p : Entry → Bool = λ y. nat_lt y.id e.id in
     let q : Entry → Bool = λ y. nat_lt e.id y.id in
@@ -33,16 +33,16 @@ in_place e x xs h =
     let f : nat_lt e.id x.id ≡ false = below_false _ _ (omega arith) in
     sym (ap (λ b. cond b (x ∷ filter p xs) (filter p xs) ++ e ∷ filter q (x ∷ xs)) t ∙ ap (λ b. filter p xs ++ e ∷ cond b (x ∷ filter q xs) (filter q xs)) f)
 
-without_first : (id : ℕ) (x : Entry) (xs : List Entry) → id ≡ x.id → All (λ (y : Entry). x.id < y.id) xs → xs ≡ without id (x ∷ xs)
+pub without_first : (id : ℕ) (x : Entry) (xs : List Entry) → id ≡ x.id → All (λ (y : Entry). x.id < y.id) xs → xs ≡ without id (x ∷ xs)
 without_first id x xs e h =
     let test : Entry → Bool = λ y. not (y.id == id) in
     sym (ap (λ b. cond b (x ∷ filter test xs) (filter test xs)) (other_test _ _ (sym e))
     ∙ filter_all test xs (All-weaker (λ (y : Entry). x.id < y.id) (λ (y : Entry). test y ≡ true) (λ y l. same_test _ _ (omega arith)) xs h))
 
-without_later : (id : ℕ) (x : Entry) (xs : List Entry) → x.id ≢ id → x ∷ without id xs ≡ without id (x ∷ xs)
+pub without_later : (id : ℕ) (x : Entry) (xs : List Entry) → x.id ≢ id → x ∷ without id xs ≡ without id (x ∷ xs)
 without_later id x xs n = let test : Entry → Bool = λ y. not (y.id == id) in sym (ap (λ b. cond b (x ∷ filter test xs) (filter test xs)) (same_test _ _ n))
 
-later_cut : (x e : Entry) (xs ys : List Entry) → IsCut xs e ys → IsCut (x ∷ xs) e (x ∷ ys)
+pub later_cut : (x e : Entry) (xs ys : List Entry) → IsCut xs e ys → IsCut (x ∷ xs) e (x ∷ ys)
 later_cut x e xs ys c = record { front = x ∷ c.front; back = c.back; was = ap (λ (zs : List Entry). x ∷ zs) c.was; is = ap (λ (zs : List Entry). x ∷ zs) c.is }
 
 -- ---- entries of slots
@@ -57,6 +57,18 @@ above n (Some s ∷ slots) =
 all_above : (n id : ℕ) (slots : List (Option Sides)) → id ≡ n → All (λ (e : Entry). id < e.id) (entries_from (n + 1) slots)
 all_above n id slots h = All-weaker (λ (e : Entry). n + 1 ≤ e.id) (λ (e : Entry). id < e.id) (λ e l. omega arith) (entries_from (n + 1) slots) (above (n + 1) slots)
 
+below : (n : ℕ) (slots : List (Option Sides)) → All (λ (e : Entry). e.id < n + length slots) (entries_from n slots)
+unfolding entries_from
+below n [] = All-nil (λ (e : Entry). e.id < n + 0)
+below n (None ∷ slots) =
+    All-weaker (λ (e : Entry). e.id < n + 1 + length slots) (λ (e : Entry). e.id < n + suc (length slots)) (λ e l. omega arith) (entries_from (n + 1) slots) (below (n + 1) slots)
+below n (Some s ∷ slots) =
+    All-cons (λ (e : Entry). e.id < n + suc (length slots)) (entry_of n s) (entries_from (n + 1) slots) (omega arith)
+    (All-weaker (λ (e : Entry). e.id < n + 1 + length slots) (λ (e : Entry). e.id < n + suc (length slots)) (λ e l. omega arith) (entries_from (n + 1) slots) (below (n + 1) slots))
+
+pub all_below : (id : ℕ) (slots : List (Option Sides)) → length slots ≤ id → All (λ (e : Entry). e.id < id) (entries_of slots)
+all_below id slots h = All-weaker (λ (e : Entry). e.id < 0 + length slots) (λ (e : Entry). e.id < id) (λ e l. omega arith) (entries_of slots) (below 0 slots)
+
 -- an empty slot more changes nothing
 one_more : (n : ℕ) (slots : List (Option Sides)) → entries_from n (slots ++ None ∷ []) ≡ entries_from n slots
 unfolding entries_from
@@ -66,6 +78,16 @@ one_more n (Some s ∷ slots) = ap (λ (es : List Entry). entry_of n s ∷ es) (
 
 pub still : (slots : List (Option Sides)) → entries_of (slots ++ None ∷ []) ≡ entries_of slots
 still slots = one_more 0 slots
+
+-- a full slot more adds its entry
+full_more : (n id : ℕ) (s : Sides) (slots : List (Option Sides)) → id ≡ n + length slots → entries_from n (slots ++ Some s ∷ []) ≡ entries_from n slots ++ entry_of id s ∷ []
+unfolding entries_from
+full_more n id s [] h = ap (λ i. entry_of i s ∷ []) (omega arith)
+full_more n id s (None ∷ slots) h = full_more (n + 1) id s slots (omega arith)
+full_more n id s (Some t ∷ slots) h = ap (λ (es : List Entry). entry_of n t ∷ es) (full_more (n + 1) id s slots (omega arith))
+
+pub one_put : (id : ℕ) (s : Sides) (slots : List (Option Sides)) → id ≡ length slots → entries_of (slots ++ Some s ∷ []) ≡ entries_of slots ++ entry_of id s ∷ []
+one_put id s slots h = full_more 0 id s slots (omega arith)
 
 -- a box put into a slot
 put_here : (n id : ℕ) (s : Sides) (slots : List (Option Sides)) → id ≡ n → entry_of n s ∷ entries_from (n + 1) slots ≡ placed (entry_of id s) (entries_from (n + 1) slots)
@@ -94,19 +116,11 @@ take_from n id (suc k) (None ∷ slots) h = take_from (n + 1) id k slots (omega 
 take_from n id (suc k) (Some t ∷ slots) h =
     ap (λ (es : List Entry). entry_of n t ∷ es) (take_from (n + 1) id k slots (omega arith)) ∙ without_later id (entry_of n t) (entries_from (n + 1) slots) (omega arith)
 
-set_past : (slots : List (Option Sides)) (k : ℕ) → length slots ≤ k → set slots k None ≡ slots
-set_past [] k l = refl
-set_past (s ∷ slots) zero l = absurd (omega arith)
-set_past (s ∷ slots) (suc k) l = ap (λ (rest : List (Option Sides)). s ∷ rest) (set_past slots k (omega arith))
-
 pub take_slot : (id : ℕ) (slots : List (Option Sides)) → entries_of (set slots id None) ≡ without id (entries_of slots)
 take_slot id slots = take_from 0 id id slots (omega arith)
 
-pub take_past : (id : ℕ) (slots : List (Option Sides)) → length slots ≤ id → entries_of slots ≡ without id (entries_of slots)
-take_past id slots l = ap entries_of (sym (set_past slots id l)) ∙ take_slot id slots
-
 -- what was in it
-some_same : (a b : Sides) → Some a ≡ Some b → a ≡ b
+pub some_same : (a b : Sides) → Some a ≡ Some b → a ≡ b
 some_same a b h = cc
 
 cut_here : (n id : ℕ) (s t : Sides) (es : List Entry) → id ≡ n → t ≡ s → IsCut (entry_of n t ∷ es) (entry_of id s) es

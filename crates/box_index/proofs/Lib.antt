@@ -5,5 +5,6 @@ pub mod Buckets
 pub mod Numbers
 pub mod RisingIds
 pub mod KeptLemmas
+pub mod FarLemmas
 pub mod Reaching
 pub mod Copies

@@ -1,13 +1,10 @@
-use Rattle.std.proofs.Common.{◌∙◌, ap, sym, subst, set, Option, None}
+use Rattle.std.proofs.Common.{◌∙◌, ap, sym, subst, set, Option}
 use Rattle.geo_seg.specs.declared.boxes.Bounds.{Bounds}
 use Rattle.box_index.specs.declared.kept.Sides.{Sides}
 use Rattle.box_index.specs.Cuts.{IsCut}
 use Rattle.box_index.specs.Kept.{entry_of, entries_of}
-use Rattle.box_index.proofs.KeptLemmas.{take_slot, take_past, cut_slot, none_slot}
+use Rattle.box_index.proofs.KeptLemmas.{take_slot, cut_slot, none_slot}
 use Rattle.box_index.proofs.kept.take.Goals as goal
-
-pub returns-then-place-slots-clause-entries : goal.returns-then-place-slots-clause-entries
-returns-then-place-slots-clause-entries c = take_past c.args.id c.args.slots.now c.if-place-slots.true
 
 pub returns-in-Some-clause-entries : goal.returns-in-Some-clause-entries
 returns-in-Some-clause-entries c = ap (λ (slot : Option Sides). entries_of (set c.args.slots.now c.args.id slot)) c.take.ensures.after ∙ take_slot c.args.id c.args.slots.now
@@ -18,7 +15,7 @@ returns-in-Some-clause-found c =
     let id = c.args.id in
     subst (λ (b : Bounds). IsCut (entries_of slots) (record { id = id; bounds = b }) (entries_of (set slots id c.take.new.self))) (sym c.bounds.ensures)
     (subst (λ (slot : Option Sides). IsCut (entries_of slots) (entry_of id c.in-Some.sides) (entries_of (set slots id slot))) (sym c.take.ensures.after)
-    (cut_slot id c.in-Some.sides slots _ c.if-place-slots.false (sym c.in-Some.ensures.value)))
+    (cut_slot id c.in-Some.sides slots _ c.requires (sym c.in-Some.ensures.value)))
 
 pub returns-in-None-clause-entries : goal.returns-in-None-clause-entries
 returns-in-None-clause-entries c = ap (λ (slot : Option Sides). entries_of (set c.args.slots.now c.args.id slot)) c.take.ensures.after ∙ take_slot c.args.id c.args.slots.now
