@@ -14,7 +14,9 @@ use Rattle.board_items.specs.Moves.{IsMovedEntry}
 use Rattle.board_items.specs.Refusals.{room_of}
 use Rattle.part_read.specs.declared.graphics.Ground.{Ground}
 use Rattle.part_read.specs.declared.graphics.Ground.TheVariants.{Copper, Outlines, Front, Back, Elsewhere}
-use Rattle.part_read.specs.Elements.{◌>>=◌, needed, check, place, has_head, element}
+use Rattle.list_read.specs.Answers.{◌>>=◌, needed, check}
+use Rattle.list_read.specs.Heads.{place, has_head}
+use Rattle.list_read.specs.Elements.{element}
 use Rattle.part_read.specs.NetsOf.{net_of}
 use Rattle.part_read.specs.Graphics.{ground_of, one_item, graphic_by, curve_by, text_by}
 use Rattle.part_read.proofs.Reach.{both_ok}

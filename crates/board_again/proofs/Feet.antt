@@ -9,7 +9,7 @@ use Rattle.board_items.specs.Boards.{PlainBoard}
 use Rattle.board_items.specs.Refusals.{room_of}
 use Rattle.board_items.specs.declared.item.About.TheVariants.{Text as OfText, Dimension as OfDimension}
 use Rattle.part_read.specs.declared.drawings.Kind.TheVariants.{Line, Rect, Circle, Outline}
-use Rattle.part_read.specs.Elements.{is_text, first_is}
+use Rattle.list_read.specs.Heads.{is_text, first_is}
 use Rattle.tree_text.specs.Pieces.{SameTrees}
 use Rattle.footprint_read.specs.FootprintOf.{Says}
 use Rattle.read_alike.specs.Alike.{Shift, place_moved, Alike}

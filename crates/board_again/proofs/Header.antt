@@ -5,7 +5,9 @@ use Rattle.sexpr_read.specs.declared.place.Span.{Span}
 use Rattle.sexpr_read.specs.Tree.{Forest, none, atom, list, Tree, leaf, branch, trees, is_list}
 use Rattle.board_errors.specs.declared.errors.BoardError.{BoardError}
 use Rattle.board_errors.specs.declared.errors.BoardError.TheVariants.{NotABoard, Version, Missing}
-use Rattle.part_read.specs.Elements.{◌>>=◌, needed, check, place, is_value, is_text, has_head, atom_of}
+use Rattle.list_read.specs.Answers.{◌>>=◌, needed, check}
+use Rattle.list_read.specs.Heads.{place, is_value, is_text, has_head}
+use Rattle.part_read.specs.Elements.{atom_of}
 use Rattle.tree_text.specs.Pieces.{SameTrees}
 use Rattle.tree_text.specs.Anew.{insides}
 use Rattle.pcb_read.specs.BoardOf.{is_version, version_in, header_in}

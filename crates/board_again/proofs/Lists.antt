@@ -9,7 +9,7 @@ use Rattle.sexpr_read.specs.Tree.{Forest, none, atom, list, Tree, leaf, branch, 
 use Rattle.board_items.specs.declared.item.Item.{Item}
 use Rattle.board_items.specs.Boards.{PlainBoard}
 use Rattle.board_items.specs.Refusals.{room_of}
-use Rattle.part_read.specs.Elements.{is_text, first_is}
+use Rattle.list_read.specs.Heads.{is_text, first_is}
 use Rattle.tree_text.specs.Pieces.{SameTrees}
 use Rattle.read_alike.specs.Alike.{Shift, Alike}
 use Rattle.read_alike.specs.Carried.{shift_of, Becomes, of_unit, ItemsOf}

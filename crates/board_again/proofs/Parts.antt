@@ -5,7 +5,9 @@ use Rattle.sexpr_read.specs.declared.place.Span.{Span}
 use Rattle.sexpr_read.specs.Tree.{Forest, none, atom, list, Tree, leaf, branch, trees}
 use Rattle.board_errors.specs.declared.errors.BoardError.{BoardError}
 use Rattle.board_items.specs.Boards.{name_of, with_net}
-use Rattle.part_read.specs.Elements.{◌>>=◌, first_is, has_head, text_of, atom_of}
+use Rattle.list_read.specs.Answers.{◌>>=◌}
+use Rattle.list_read.specs.Heads.{first_is, has_head, text_of}
+use Rattle.part_read.specs.Elements.{atom_of}
 use Rattle.part_read.specs.Numbers.{number_in}
 use Rattle.part_read.specs.LayersOf.{layers_listed}
 use Rattle.tree_text.specs.Pieces.{SameTrees}

@@ -10,7 +10,8 @@ use Rattle.sexpr_read.proofs.Accepted.{accepted, refusal_of_utf8}
 use Rattle.board_errors.specs.declared.errors.BoardError.{BoardError}
 use Rattle.board_errors.specs.declared.errors.BoardError.TheVariants.{NotABoard, Missing}
 use Rattle.board_items.specs.Boards.{PlainBoard}
-use Rattle.part_read.specs.Elements.{◌>>=◌, check, place, has_head}
+use Rattle.list_read.specs.Answers.{◌>>=◌, check}
+use Rattle.list_read.specs.Heads.{place, has_head}
 use Rattle.tree_text.specs.Pieces.{Writes}
 use Rattle.tree_text.specs.Anew.{AreAtoms}
 use Rattle.tree_text.specs.Utf8.{AreUtf8}

@@ -5,7 +5,9 @@ use Rattle.sexpr_read.specs.declared.place.Span.{Span}
 use Rattle.sexpr_read.specs.Tree.{Forest, none, atom, list, Tree, branch, trees, is_list}
 use Rattle.board_errors.specs.declared.errors.BoardError.{BoardError}
 use Rattle.board_errors.specs.declared.errors.BoardError.TheVariants.{NotABoard, Version, Missing}
-use Rattle.part_read.specs.Elements.{◌>>=◌, needed, check, place, has_head, atom_of}
+use Rattle.list_read.specs.Answers.{◌>>=◌, needed, check}
+use Rattle.list_read.specs.Heads.{place, has_head}
+use Rattle.part_read.specs.Elements.{atom_of}
 use Rattle.tree_text.specs.Anew.{Fate, stays, inside_by, insides_after}
 use Rattle.pcb_read.specs.BoardOf.{Reading, is_version, version_in, header_in}
 use Rattle.board_alike.specs.Written.{Draft, unit_fate, list_fate, FatesAre}

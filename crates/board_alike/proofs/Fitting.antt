@@ -2,7 +2,7 @@
 use Rattle.std.proofs.Common.{◌≡◌, refl, sym, subst, Bool, true, false, cond, ℤ, List, codes, Option, None, Some}
 use Rattle.std.specs.Prelude.{nat_eq}
 use Rattle.sexpr_read.specs.Tree.{Forest, none, atom, list, trees}
-use Rattle.part_read.specs.Elements.{first_is}
+use Rattle.list_read.specs.Heads.{first_is}
 use Rattle.tree_text.specs.Anew.{Fate, stays, leaves, IsRespelled, AreAtoms, IsFit, AreFit}
 use Rattle.tree_text.specs.Utf8.{AreUtf8, BecomesUtf8, BecomeUtf8}
 use Rattle.read_alike.specs.Alike.{Shift, place_moved}

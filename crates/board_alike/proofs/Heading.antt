@@ -5,7 +5,8 @@ use Rattle.std.specs.Prelude.{nat_eq, bytes_eq}
 use Rattle.sexpr_read.specs.declared.place.Span.{Span}
 use Rattle.sexpr_read.specs.Tree.{Forest, none, atom, list, Tree, leaf, branch, trees, unescaped}
 use Rattle.board_errors.specs.declared.errors.BoardError.{BoardError}
-use Rattle.part_read.specs.Elements.{◌>>=◌, check, has_head}
+use Rattle.list_read.specs.Answers.{◌>>=◌, check}
+use Rattle.list_read.specs.Heads.{has_head}
 use Rattle.tree_text.specs.Anew.{Fate, stays, first_fate, IsThere, FirstIsThere}
 use Rattle.pcb_read.specs.declared.sorts.Sort.{Sort}
 use Rattle.pcb_read.specs.Nets.{with_net_of}

@@ -6,7 +6,9 @@ use Rattle.board_errors.specs.declared.errors.BoardError.{BoardError}
 use Rattle.copper_layers.specs.declared.set.LayerSet.{LayerSet}
 use Rattle.board_items.specs.declared.item.Item.{Item}
 use Rattle.board_items.specs.Boards.{PlainBoard, name_of, with_net}
-use Rattle.part_read.specs.Elements.{◌>>=◌, has_head, atom_of}
+use Rattle.list_read.specs.Answers.{◌>>=◌}
+use Rattle.list_read.specs.Heads.{has_head}
+use Rattle.part_read.specs.Elements.{atom_of}
 use Rattle.part_read.specs.LayersWhere.{layers_of_any}
 use Rattle.part_read.specs.LayersOf.{layer_set, each_set, listed, layers_listed}
 use Rattle.footprint_read.proofs.OneAnswer.{one_answer}

@@ -8,7 +8,7 @@ use Rattle.board_items.specs.Boards.{PlainBoard, with_item}
 use Rattle.board_items.specs.Refusals.{room_of}
 use Rattle.board_errors.specs.declared.errors.BoardError.{BoardError}
 use Rattle.read_alike.specs.Alike.{AlikeTrees}
-use Rattle.part_read.specs.Elements.{◌>>=◌}
+use Rattle.list_read.specs.Answers.{◌>>=◌}
 use Rattle.pcb_read.specs.declared.sorts.Sort.{Sort}
 use Rattle.pcb_read.specs.Sorts.{sort_of}
 use Rattle.pcb_read.specs.ItemsOf.{SaysItems, has_room}

@@ -4,7 +4,7 @@ use Rattle.sexpr_read.specs.Tree.{Tree}
 use Rattle.board_errors.specs.declared.errors.BoardError.{BoardError}
 use Rattle.board_items.specs.declared.item.Item.{Item}
 use Rattle.board_items.specs.Boards.{PlainBoard}
-use Rattle.part_read.specs.Elements.{◌>>=◌}
+use Rattle.list_read.specs.Answers.{◌>>=◌}
 use Rattle.read_alike.specs.Carried.{ItemsOf}
 use Rattle.pcb_read.specs.declared.sorts.Sort.{Sort}
 use Rattle.pcb_read.specs.Sorts.{sort_of}

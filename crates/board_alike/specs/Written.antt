@@ -7,7 +7,7 @@ use Rattle.sexpr_read.specs.Spelling.{Spells}
 use Rattle.sexpr_read.specs.Refusals.{refusal_of_one}
 use Rattle.board_items.specs.declared.item.Item.{Item}
 use Rattle.board_items.specs.Boards.{PlainBoard}
-use Rattle.part_read.specs.Elements.{first_is}
+use Rattle.list_read.specs.Heads.{first_is}
 use Rattle.tree_text.specs.Anew.{Fate, stays, leaves, becomes, edited_whole}
 use Rattle.read_alike.specs.Alike.{Shift, place_moved}
 use Rattle.read_alike.specs.Moving.{put_if, moved}

@@ -1,7 +1,7 @@
 -- What becomes of lists, by marks and by a draft of the changes.
 use Rattle.std.proofs.Common.{◌≡◌, ◌∙◌, refl, ap, ℕ, Bool, true, false, cond, List, [], ◌∷◌, map, codes, Option, None, Some}
 use Rattle.sexpr_read.specs.Tree.{Forest, none, list, Tree, leaf, branch, trees, span}
-use Rattle.part_read.specs.Elements.{first_is}
+use Rattle.list_read.specs.Heads.{first_is}
 use Rattle.tree_text.specs.Anew.{leaves, becomes}
 use Rattle.read_alike.specs.Alike.{Shift}
 use Rattle.read_alike.specs.Moving.{moved}

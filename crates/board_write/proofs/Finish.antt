@@ -13,7 +13,8 @@ use Rattle.board_errors.specs.declared.errors.BoardError.{BoardError}
 use Rattle.board_items.specs.Boards.{PlainBoard}
 use Rattle.edit_script.specs.Commands.{PlainCommand}
 use Rattle.board_errors.specs.declared.errors.BoardError.TheVariants.{Missing}
-use Rattle.part_read.specs.Elements.{◌>>=◌, check, place}
+use Rattle.list_read.specs.Answers.{◌>>=◌, check}
+use Rattle.list_read.specs.Heads.{place}
 use Rattle.pcb_read.specs.BoardOf.{Reading, unread, header_in, board_in, SaysParts, SaysAfter, SaysBoard}
 use Rattle.pcb_read.specs.Spans.{AreSpans}
 use Rattle.tree_text.specs.Anew.{Fate, edited_whole}

@@ -6,7 +6,7 @@ use Rattle.sexpr_read.specs.Refusals.{refusal_of_one}
 use Rattle.board_errors.specs.declared.errors.BoardError.{BoardError}
 use Rattle.board_items.specs.declared.item.Item.{Item}
 use Rattle.board_items.specs.Boards.{PlainBoard}
-use Rattle.part_read.specs.Elements.{◌>>=◌}
+use Rattle.list_read.specs.Answers.{◌>>=◌}
 use Rattle.footprint_read.proofs.OneAnswer.{one_answer}
 use Rattle.tree_text.specs.Anew.{Fate}
 use Rattle.pcb_read.specs.declared.sorts.Sort.{Sort}

@@ -3,7 +3,7 @@ use Rattle.std.proofs.Common.{◌≡◌, ◌∙◌, refl, sym, ap, subst, ℕ, �
 use Rattle.sexpr_read.specs.declared.place.Span.{Span}
 use Rattle.sexpr_read.specs.Tree.{Forest, none, list, Tree, leaf, branch, trees, span, is_list, parts, levels_in}
 use Rattle.sexpr_read.specs.Views.{trees_left}
-use Rattle.part_read.specs.Elements.{first_is}
+use Rattle.list_read.specs.Heads.{first_is}
 use Rattle.read_alike.specs.Alike.{place_moved}
 use Rattle.read_alike.specs.Moving.{put_if}
 use Rattle.board_alike.specs.Written.{first_at}

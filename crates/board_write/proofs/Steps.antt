@@ -8,7 +8,7 @@ use Rattle.std.proofs.lemmas.Bool.{eqb-true, eq-eqb}
 use Rattle.std.proofs.lemmas.List.Elements.{All-append, All-cons, All-nil}
 use Rattle.sexpr_read.specs.declared.place.TextError.{TextError}
 use Rattle.sexpr_read.specs.declared.place.TextError.TheVariants.{ExtraText}
-use Rattle.part_read.specs.Elements.{place}
+use Rattle.list_read.specs.Heads.{place}
 use Rattle.sexpr_read.specs.Tree.{Tree, parts, is_list}
 use Rattle.sexpr_read.specs.Refusals.{refusal_of_all}
 use Rattle.sexpr_read.specs.Spelling.{SpellsAll}

@@ -8,7 +8,9 @@ use Rattle.sexpr_read.specs.Places.{StandBetween}
 use Rattle.board_errors.specs.declared.errors.BoardError.{BoardError}
 use Rattle.board_items.specs.declared.item.Item.{Item}
 use Rattle.board_items.specs.Boards.{PlainBoard, name_of, with_net, with_item}
-use Rattle.part_read.specs.Elements.{◌>>=◌, has_head, atom_of, text_of}
+use Rattle.list_read.specs.Answers.{◌>>=◌}
+use Rattle.list_read.specs.Heads.{has_head, text_of}
+use Rattle.part_read.specs.Elements.{atom_of}
 use Rattle.part_read.specs.Numbers.{number_in}
 use Rattle.copper_layers.specs.declared.set.LayerSet.{LayerSet}
 use Rattle.part_read.specs.LayersOf.{layers_listed}

@@ -2,7 +2,7 @@
 use Rattle.std.specs.Prelude.{ℕ, ◌+◌, ◌-◌, ℤ, Bool, true, false, List, [], ◌∷◌, ◌++◌, codes, Option, None, slice_range, if◌then◌else◌}
 use Rattle.sexpr_read.specs.declared.place.Span.{Span}
 use Rattle.sexpr_read.specs.Tree.{Forest, none, atom, list, Tree, leaf, branch, trees}
-use Rattle.part_read.specs.Elements.{first_is}
+use Rattle.list_read.specs.Heads.{first_is}
 use Rattle.tree_text.specs.Pieces.{written}
 use Rattle.tree_text.specs.Anew.{space_before}
 use Rattle.read_alike.specs.Alike.{place_moved}

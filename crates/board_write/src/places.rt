@@ -10,7 +10,7 @@ ghost use Rattle.board_write.specs.Places.{atom_moved, numbers_of, StandsIn};
 
 use crate::distance::Shift;
 use exact_dec::{Nm, mm_cut};
-use part_read::has_head;
+use list_read::has_head;
 use sexpr_read::{Children, Node};
 
 /// Numbers are at most so far from 0, in nanometres.

@@ -7,7 +7,8 @@ use Rattle.sexpr_read.specs.Tree.{Forest, none, atom, list, Tree, branch, trees,
 use Rattle.board_errors.specs.declared.errors.BoardError.{BoardError}
 use Rattle.board_errors.specs.declared.errors.BoardError.TheVariants.{Missing, Arc}
 use Rattle.part_read.specs.declared.numbers.Spot.{Spot}
-use Rattle.part_read.specs.Elements.{◌>>=◌, place, has_head}
+use Rattle.list_read.specs.Answers.{◌>>=◌}
+use Rattle.list_read.specs.Heads.{place, has_head}
 use Rattle.part_read.specs.Numbers.{spot_at}
 use Rattle.part_read.specs.Drawings.{spots_among, enough, corners_in, corners_of}
 use Rattle.read_alike.specs.Alike.{Shift, Alike, AlikeTrees}

@@ -24,7 +24,10 @@ use Rattle.part_read.specs.declared.figures.Figure.TheVariants.{Line, Rect, Circ
 use Rattle.part_read.specs.declared.figures.Drawing.{Drawing}
 use Rattle.part_read.specs.declared.graphics.Ground.{Ground}
 use Rattle.part_read.specs.declared.graphics.Ground.TheVariants.{Copper, Outlines, Front, Back, Elsewhere}
-use Rattle.part_read.specs.Elements.{◌>>=◌, needed, check, place, is_value, is_text, has_head, element, atom_of, text_in, name_among, name_in}
+use Rattle.list_read.specs.Answers.{◌>>=◌, needed, check}
+use Rattle.list_read.specs.Heads.{place, is_value, is_text, has_head}
+use Rattle.list_read.specs.Elements.{element}
+use Rattle.part_read.specs.Elements.{atom_of, text_in, name_among, name_in}
 use Rattle.part_read.specs.PlainItems.{plain_item}
 use Rattle.part_read.specs.LayersOf.{is_all_copper, is_outer, layer_in, drawn_on}
 use Rattle.part_read.specs.NetsOf.{net_of}

@@ -4,7 +4,7 @@ use Rattle.sexpr_read.specs.declared.place.Span.{Span}
 use Rattle.sexpr_read.specs.Tree.{Forest, none, atom, list, Tree, leaf, branch, trees, parts}
 use Rattle.board_errors.specs.declared.errors.BoardError.{BoardError}
 use Rattle.copper_layers.specs.declared.set.LayerSet.{LayerSet}
-use Rattle.part_read.specs.Elements.{◌>>=◌}
+use Rattle.list_read.specs.Answers.{◌>>=◌}
 use Rattle.part_read.specs.LayersWhere.{layers_of_any}
 use Rattle.part_read.specs.LayersOf.{is_all_copper, is_outer, outer_of, layer_set, layer_in, layers_named, each_set, named}
 use Rattle.read_alike.specs.Alike.{Shift, Alike}

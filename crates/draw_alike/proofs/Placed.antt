@@ -23,7 +23,10 @@ use Rattle.part_read.specs.declared.drawings.Kind.{Kind}
 use Rattle.part_read.specs.declared.drawings.Kind.TheVariants.{Line as LineKind, Rect as RectKind, Circle as CircleKind, Outline as OutlineKind}
 use Rattle.part_read.specs.declared.graphics.Ground.{Ground}
 use Rattle.part_read.specs.declared.graphics.Ground.TheVariants.{Copper, Outlines, Front, Back, Elsewhere}
-use Rattle.part_read.specs.Elements.{◌>>=◌, needed, check, place, element, name_among, name_in}
+use Rattle.list_read.specs.Answers.{◌>>=◌, needed, check}
+use Rattle.list_read.specs.Heads.{place}
+use Rattle.list_read.specs.Elements.{element}
+use Rattle.part_read.specs.Elements.{name_among, name_in}
 use Rattle.part_read.specs.OnBoard.{tested, is_length, fits_board, point_at}
 use Rattle.part_read.specs.NetsOf.{net_of}
 use Rattle.part_read.specs.Numbers.{spot_of}

@@ -2,7 +2,9 @@
 use Rattle.std.proofs.Common.{◌≡◌, refl, sym, subst, ℕ, Bool, true, false, List, Option, None, Some, Result, Ok, Err}
 use Rattle.sexpr_read.specs.Tree.{none, Tree, leaf, branch, trees, parts}
 use Rattle.board_errors.specs.declared.errors.BoardError.{BoardError}
-use Rattle.part_read.specs.Elements.{◌>>=◌, needed, check, has_head, element}
+use Rattle.list_read.specs.Answers.{◌>>=◌, needed, check}
+use Rattle.list_read.specs.Heads.{has_head}
+use Rattle.list_read.specs.Elements.{element}
 use Rattle.read_alike.specs.Alike.{Shift}
 use Rattle.read_alike.specs.Agreeing.{Agrees, Same, AlikeParts, FoundAlike, forest_in}
 use Rattle.read_alike.specs.Carried.{Leads}

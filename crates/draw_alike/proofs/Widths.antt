@@ -5,7 +5,10 @@ use Rattle.sexpr_read.specs.declared.place.Span.{Span}
 use Rattle.sexpr_read.specs.Tree.{Forest, Tree, branch}
 use Rattle.board_errors.specs.declared.errors.BoardError.{BoardError}
 use Rattle.board_errors.specs.declared.errors.BoardError.TheVariants.{BadNumber}
-use Rattle.part_read.specs.Elements.{◌>>=◌, place, is_value, is_text, has_head, element, atom_of}
+use Rattle.list_read.specs.Answers.{◌>>=◌}
+use Rattle.list_read.specs.Heads.{place, is_value, is_text, has_head}
+use Rattle.list_read.specs.Elements.{element}
+use Rattle.part_read.specs.Elements.{atom_of}
 use Rattle.part_read.specs.Numbers.{length_in, size_in, size_at}
 use Rattle.part_read.specs.Drawings.{stroke_width, first_there, width_among, width_of, filled_by, fill_among, fill_of}
 use Rattle.read_alike.specs.Alike.{Shift, Alike}

@@ -7,7 +7,9 @@ use Rattle.sexpr_read.specs.Tree.{Tree, leaf, branch, parts, content, value, quo
 use Rattle.exact_dec.specs.declared.DecError.{DecError}
 use Rattle.exact_dec.specs.Computed.{mm_cut_answer}
 use Rattle.edit_script.specs.declared.error.ScriptError.{ScriptError}
-use Rattle.edit_script.specs.Forms.{◌>>=◌, place, bad, text_of, is_value, first_is, has_head, behind_one, behind_head, no_more, shift_from, shift_in, shift_of}
+use Rattle.list_read.specs.Answers.{◌>>=◌}
+use Rattle.list_read.specs.Heads.{place, text_of, is_value, first_is_word, has_word_head, behind_one, behind_head}
+use Rattle.edit_script.specs.Forms.{bad, no_more, shift_from, shift_in, shift_of}
 use Rattle.edit_script.specs.Commands.{PlainCommand, PlainStep, add, delete, move, again, edit, undo, redo}
 use Rattle.edit_script.specs.CommandsOf.{standing, added_among, added, deleted_among, deleted, moved_among, moved, ruled, alone, command_of, step_of, each_of, commands_of, steps_of}
 use Rattle.edit_script.specs.Grammar.{IsForm, IsShift, IsCommand, adds, deletes, moves, replaces, repeats, IsStep, edits, undoes, redoes}
@@ -18,7 +20,7 @@ value_is : (v : Option (List ℕ)) (word : List ℕ) → is_value v word ≡ tru
 value_is None word e = cc
 value_is (Some v) word e = ap (λ (w : List ℕ). Some w) ((bytes_eq-Decides v word).0 cc)
 
-is_form : (word : List ℕ) (form : Tree) (ts : List Tree) → parts form ≡ ts → first_is ts word ≡ true → IsForm word form (behind_one ts)
+is_form : (word : List ℕ) (form : Tree) (ts : List Tree) → parts form ≡ ts → first_is_word ts word ≡ true → IsForm word form (behind_one ts)
 is_form word form [] p e = cc
 is_form word form (t ∷ ts) p e = by_quotes (quoted t) refl e
   where
@@ -26,13 +28,13 @@ is_form word form (t ∷ ts) p e = by_quotes (quoted t) refl e
     by_quotes true q e = cc
     by_quotes false q e = record { head = t; parts_are = p; unquoted = q; says = value_is (value t) word e }
 
-pub form_of : (word : List ℕ) (form : Tree) → has_head word form ≡ true → IsForm word form (behind_head form)
-unfolding has_head behind_head
+pub form_of : (word : List ℕ) (form : Tree) → has_word_head word form ≡ true → IsForm word form (behind_head form)
+unfolding has_word_head behind_head
 form_of word form e = is_form word form (parts form) refl e
 
 -- a form has no other head
-pub head_of : (word other : List ℕ) (form : Tree) (behind : List Tree) → IsForm word form behind → has_head other form ≡ bytes_eq word other
-unfolding has_head
+pub head_of : (word other : List ℕ) (form : Tree) (behind : List Tree) → IsForm word form behind → has_word_head other form ≡ bytes_eq word other
+unfolding has_word_head
 head_of word other form behind h = rw (h.parts_are, h.unquoted, h.says) refl
 
 behind_of : (word : List ℕ) (form : Tree) (behind : List Tree) → IsForm word form behind → behind_head form ≡ behind
@@ -109,32 +111,32 @@ module _ (script : List ℕ) (form : Tree) where
   nothing_behind a c [] e = (refl, grind (arith, e))
   nothing_behind a c (t ∷ ts) e = absurd (grind (arith, e))
 
-  to_alone : {A : Type 0} (word : List ℕ) (a c : A) → has_head word form ≡ true → alone a form ≡ Ok c → IsForm word form [] × (a ≡ c)
+  to_alone : {A : Type 0} (word : List ℕ) (a c : A) → has_word_head word form ≡ true → alone a form ≡ Ok c → IsForm word form [] × (a ≡ c)
   to_alone word a c h e = let n = nothing_behind a c (behind_head form) e in (subst (IsForm word form) n.0 (form_of word form h), n.1)
 
   to_command : (c : PlainCommand) → command_of script form ≡ Ok c → IsCommand script form c
   unfolding command_of added deleted moved
-  to_command c e = by_add (has_head (codes "add") form) refl e
+  to_command c e = by_add (has_word_head (codes "add") form) refl e
     where
-      by_again : (b : Bool) → has_head (codes "again") form ≡ b → (if b then alone (again (place form)) form else bad form) ≡ Ok c → IsCommand script form c
+      by_again : (b : Bool) → has_word_head (codes "again") form ≡ b → (if b then alone (again (place form)) form else bad form) ≡ Ok c → IsCommand script form c
       by_again true h e = let n = to_alone (codes "again") (again (place form)) c h e in subst (IsCommand script form) n.1 (repeats n.0)
       by_again false h e = absurd (grind (arith, e))
 
-      by_rules : (b : Bool) → has_head (codes "rules") form ≡ b → (if b then Ok (ruled script form) else if has_head (codes "again") form then alone (again (place form)) form else bad form) ≡ Ok c → IsCommand script form c
+      by_rules : (b : Bool) → has_word_head (codes "rules") form ≡ b → (if b then Ok (ruled script form) else if has_word_head (codes "again") form then alone (again (place form)) form else bad form) ≡ Ok c → IsCommand script form c
       by_rules true h e = let same : ruled script form ≡ c = grind (arith, e) in subst (IsCommand script form) same (replaces (behind_head form) (form_of (codes "rules") form h))
-      by_rules false h e = by_again (has_head (codes "again") form) refl e
+      by_rules false h e = by_again (has_word_head (codes "again") form) refl e
 
-      by_move : (b : Bool) → has_head (codes "move") form ≡ b → (if b then moved form else if has_head (codes "rules") form then Ok (ruled script form) else if has_head (codes "again") form then alone (again (place form)) form else bad form) ≡ Ok c → IsCommand script form c
+      by_move : (b : Bool) → has_word_head (codes "move") form ≡ b → (if b then moved form else if has_word_head (codes "rules") form then Ok (ruled script form) else if has_word_head (codes "again") form then alone (again (place form)) form else bad form) ≡ Ok c → IsCommand script form c
       by_move true h e = to_moved (behind_head form) c (form_of (codes "move") form h) e
-      by_move false h e = by_rules (has_head (codes "rules") form) refl e
+      by_move false h e = by_rules (has_word_head (codes "rules") form) refl e
 
-      by_delete : (b : Bool) → has_head (codes "delete") form ≡ b → (if b then deleted form else if has_head (codes "move") form then moved form else if has_head (codes "rules") form then Ok (ruled script form) else if has_head (codes "again") form then alone (again (place form)) form else bad form) ≡ Ok c → IsCommand script form c
+      by_delete : (b : Bool) → has_word_head (codes "delete") form ≡ b → (if b then deleted form else if has_word_head (codes "move") form then moved form else if has_word_head (codes "rules") form then Ok (ruled script form) else if has_word_head (codes "again") form then alone (again (place form)) form else bad form) ≡ Ok c → IsCommand script form c
       by_delete true h e = to_deleted (behind_head form) c (form_of (codes "delete") form h) e
-      by_delete false h e = by_move (has_head (codes "move") form) refl e
+      by_delete false h e = by_move (has_word_head (codes "move") form) refl e
 
-      by_add : (b : Bool) → has_head (codes "add") form ≡ b → (if b then added script form else if has_head (codes "delete") form then deleted form else if has_head (codes "move") form then moved form else if has_head (codes "rules") form then Ok (ruled script form) else if has_head (codes "again") form then alone (again (place form)) form else bad form) ≡ Ok c → IsCommand script form c
+      by_add : (b : Bool) → has_word_head (codes "add") form ≡ b → (if b then added script form else if has_word_head (codes "delete") form then deleted form else if has_word_head (codes "move") form then moved form else if has_word_head (codes "rules") form then Ok (ruled script form) else if has_word_head (codes "again") form then alone (again (place form)) form else bad form) ≡ Ok c → IsCommand script form c
       by_add true h e = to_added (behind_head form) c (form_of (codes "add") form h) e
-      by_add false h e = by_delete (has_head (codes "delete") form) refl e
+      by_add false h e = by_delete (has_word_head (codes "delete") form) refl e
 
   from_command : (c : PlainCommand) → IsCommand script form c → command_of script form ≡ Ok c
   unfolding command_of added deleted moved
@@ -158,18 +160,18 @@ module _ (script : List ℕ) (form : Tree) where
 
   to_step : (s : PlainStep) → step_of script form ≡ Ok s → IsStep script form s
   unfolding step_of
-  to_step s e = by_undo (has_head (codes "undo") form) refl e
+  to_step s e = by_undo (has_word_head (codes "undo") form) refl e
     where
-      by_redo : (b : Bool) → has_head (codes "redo") form ≡ b → (if b then alone (redo (place form)) form else (command_of script form >>= λ command. Ok (edit command))) ≡ Ok s → IsStep script form s
+      by_redo : (b : Bool) → has_word_head (codes "redo") form ≡ b → (if b then alone (redo (place form)) form else (command_of script form >>= λ command. Ok (edit command))) ≡ Ok s → IsStep script form s
       by_redo true h e = let n = to_alone (codes "redo") (redo (place form)) s h e in subst (IsStep script form) n.1 (redoes n.0)
       by_redo false h e = to_edit (command_of script form) s refl e
 
-      by_undo : (b : Bool) → has_head (codes "undo") form ≡ b → (if b then alone (undo (place form)) form else if has_head (codes "redo") form then alone (redo (place form)) form else (command_of script form >>= λ command. Ok (edit command))) ≡ Ok s → IsStep script form s
+      by_undo : (b : Bool) → has_word_head (codes "undo") form ≡ b → (if b then alone (undo (place form)) form else if has_word_head (codes "redo") form then alone (redo (place form)) form else (command_of script form >>= λ command. Ok (edit command))) ≡ Ok s → IsStep script form s
       by_undo true h e = let n = to_alone (codes "undo") (undo (place form)) s h e in subst (IsStep script form) n.1 (undoes n.0)
-      by_undo false h e = by_redo (has_head (codes "redo") form) refl e
+      by_undo false h e = by_redo (has_word_head (codes "redo") form) refl e
 
   -- a command has none of the two heads of steps
-  no_step : (c : PlainCommand) → IsCommand script form c → (has_head (codes "undo") form ≡ false) × (has_head (codes "redo") form ≡ false)
+  no_step : (c : PlainCommand) → IsCommand script form c → (has_word_head (codes "undo") form ≡ false) × (has_word_head (codes "redo") form ≡ false)
   no_step c (adds t h l) = (head_of (codes "add") (codes "undo") form (t ∷ []) h, head_of (codes "add") (codes "redo") form (t ∷ []) h)
   no_step c (deletes t name h v) = (head_of (codes "delete") (codes "undo") form (t ∷ []) h, head_of (codes "delete") (codes "redo") form (t ∷ []) h)
   no_step c (moves t x y name dx dy h v hx hy) = (head_of (codes "move") (codes "undo") form (t ∷ x ∷ y ∷ []) h, head_of (codes "move") (codes "redo") form (t ∷ x ∷ y ∷ []) h)

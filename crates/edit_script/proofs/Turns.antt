@@ -9,7 +9,9 @@ use Rattle.sexpr_read.specs.Refusals.{refusal_of_all}
 use Rattle.edit_script.specs.declared.error.ScriptError.{ScriptError}
 use Rattle.edit_script.specs.declared.error.ScriptError.TheVariants.{Text}
 use Rattle.edit_script.specs.Commands.{PlainCommand, PlainStep, again, edit, undo, redo, as_steps}
-use Rattle.edit_script.specs.Forms.{◌>>=◌, place, bad, has_head}
+use Rattle.list_read.specs.Answers.{◌>>=◌}
+use Rattle.list_read.specs.Heads.{place, has_word_head}
+use Rattle.edit_script.specs.Forms.{bad}
 use Rattle.edit_script.specs.CommandsOf.{is_turn, bad_behind, alone, command_of, step_of, each_of, commands_of, steps_of}
 use Rattle.edit_script.specs.Grammar.{IsCommand, IsStep, edits}
 use Rattle.edit_script.specs.ScriptText.{Says, SaysSteps, SaysAfter}
@@ -18,7 +20,7 @@ use Rattle.edit_script.proofs.Accepting.{form_of, head_of, commands_accepted, st
 -- the step of any other form is its command
 step_is : (script : List ℕ) (form : Tree) → is_turn form ≡ false → step_of script form ≡ (command_of script form >>= λ command. Ok (edit command))
 unfolding step_of
-step_is script form e = by_heads (has_head (codes "undo") form) (has_head (codes "redo") form) e
+step_is script form e = by_heads (has_word_head (codes "undo") form) (has_word_head (codes "redo") form) e
   where
     by_heads : (u r : Bool) → (u || r) ≡ false
         → (if u then alone (undo (place form)) form else if r then alone (redo (place form)) form else (command_of script form >>= λ command. Ok (edit command))) ≡ (command_of script form >>= λ command. Ok (edit command))
@@ -27,22 +29,22 @@ step_is script form e = by_heads (has_head (codes "undo") form) (has_head (codes
     by_heads false false e = refl
 
 -- such a form is no command
-undo_only : (script : List ℕ) (form : Tree) → has_head (codes "undo") form ≡ true → command_of script form ≡ bad form
+undo_only : (script : List ℕ) (form : Tree) → has_word_head (codes "undo") form ≡ true → command_of script form ≡ bad form
 unfolding command_of
 undo_only script form h =
     let f = form_of (codes "undo") form h in
     rw (head_of (codes "undo") (codes "add") form _ f, head_of (codes "undo") (codes "delete") form _ f, head_of (codes "undo") (codes "move") form _ f, head_of (codes "undo") (codes "rules") form _ f, head_of (codes "undo") (codes "again") form _ f) refl
 
-redo_only : (script : List ℕ) (form : Tree) → has_head (codes "redo") form ≡ true → command_of script form ≡ bad form
+redo_only : (script : List ℕ) (form : Tree) → has_word_head (codes "redo") form ≡ true → command_of script form ≡ bad form
 unfolding command_of
 redo_only script form h =
     let f = form_of (codes "redo") form h in
     rw (head_of (codes "redo") (codes "add") form _ f, head_of (codes "redo") (codes "delete") form _ f, head_of (codes "redo") (codes "move") form _ f, head_of (codes "redo") (codes "rules") form _ f, head_of (codes "redo") (codes "again") form _ f) refl
 
 no_command : (script : List ℕ) (form : Tree) → is_turn form ≡ true → command_of script form ≡ bad form
-no_command script form e = by_heads (has_head (codes "undo") form) refl (has_head (codes "redo") form) refl e
+no_command script form e = by_heads (has_word_head (codes "undo") form) refl (has_word_head (codes "redo") form) refl e
   where
-    by_heads : (u : Bool) → has_head (codes "undo") form ≡ u → (r : Bool) → has_head (codes "redo") form ≡ r → (u || r) ≡ true → command_of script form ≡ bad form
+    by_heads : (u : Bool) → has_word_head (codes "undo") form ≡ u → (r : Bool) → has_word_head (codes "redo") form ≡ r → (u || r) ≡ true → command_of script form ≡ bad form
     by_heads true hu r hr e = undo_only script form hu
     by_heads false hu true hr e = redo_only script form hr
     by_heads false hu false hr e = cc

@@ -12,7 +12,9 @@ use Rattle.std.specs.Prelude.{ℕ, Bool, ◌||◌, List, [], ◌∷◌, codes, s
 use Rattle.sexpr_read.specs.Tree.{Tree, span, parts}
 use Rattle.edit_script.specs.declared.error.ScriptError.{ScriptError}
 use Rattle.edit_script.specs.Commands.{PlainCommand, PlainStep, add, delete, move, rules, again, edit, undo, redo}
-use Rattle.edit_script.specs.Forms.{◌>>=◌, place, bad, text_of, has_head, behind_head, as_atom, as_list, no_more, shift_of}
+use Rattle.list_read.specs.Answers.{◌>>=◌}
+use Rattle.list_read.specs.Heads.{place, text_of, has_word_head, behind_head}
+use Rattle.edit_script.specs.Forms.{bad, as_atom, as_list, no_more, shift_of}
 
 -- the part of the script that the tree stands on
 abbrev pub standing : List ℕ → Tree → List ℕ
@@ -66,23 +68,23 @@ alone what form = no_more (behind_head form) >>= λ whole. Ok what
 -- the command of a form
 unfoldable pub command_of : List ℕ → Tree → Result PlainCommand ScriptError
 command_of text form =
-    if has_head (codes "add") form then added text form
-    else if has_head (codes "delete") form then deleted form
-    else if has_head (codes "move") form then moved form
-    else if has_head (codes "rules") form then Ok (ruled text form)
-    else if has_head (codes "again") form then alone (again (place form)) form
+    if has_word_head (codes "add") form then added text form
+    else if has_word_head (codes "delete") form then deleted form
+    else if has_word_head (codes "move") form then moved form
+    else if has_word_head (codes "rules") form then Ok (ruled text form)
+    else if has_word_head (codes "again") form then alone (again (place form)) form
     else bad form
 
 -- the step of a form
 unfoldable pub step_of : List ℕ → Tree → Result PlainStep ScriptError
 step_of text form =
-    if has_head (codes "undo") form then alone (undo (place form)) form
-    else if has_head (codes "redo") form then alone (redo (place form)) form
+    if has_word_head (codes "undo") form then alone (undo (place form)) form
+    else if has_word_head (codes "redo") form then alone (redo (place form)) form
     else (command_of text form >>= λ command. Ok (edit command))
 
 -- a form that only a history has
 abbrev pub is_turn : Tree → Bool
-is_turn form = has_head (codes "undo") form || has_head (codes "redo") form
+is_turn form = has_word_head (codes "undo") form || has_word_head (codes "redo") form
 
 -- what each form gives, in their order, or the first refusal
 unfoldable pub each_of : {A : Type 0} → (Tree → Result A ScriptError) → List Tree → Result (List A) ScriptError

@@ -3,7 +3,7 @@
 use Rattle.std.specs.Prelude.{◌≡◌, ℕ, ℤ, true, false, List, [], ◌∷◌, codes, Some, Ok}
 use Rattle.sexpr_read.specs.Tree.{Tree, parts, content, value, quoted, is_list}
 use Rattle.exact_dec.specs.Computed.{mm_cut_answer}
-use Rattle.edit_script.specs.Forms.{place}
+use Rattle.list_read.specs.Heads.{place}
 use Rattle.edit_script.specs.Commands.{PlainCommand, PlainStep, add, delete, move, rules, again, edit, undo, redo}
 use Rattle.edit_script.specs.CommandsOf.{standing}
 

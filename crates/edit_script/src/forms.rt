@@ -1,52 +1,23 @@
-//! Forms by their heads, and the parts behind them.
+//! The parts of a form behind its head.
 
 ghost use Rattle.std.specs.Prelude.{◌≡◌, IfOk};
 ghost use Rattle.sexpr_read.specs.Views.{tree_of, trees_left};
-ghost use Rattle.edit_script.specs.Forms.{place, text_of, has_head, behind_head, as_atom, as_list, no_more, shift_of};
-ghost use Rattle.edit_script.specs.Views.{tree_in};
+ghost use Rattle.list_read.specs.Heads.{place};
+ghost use Rattle.list_read.specs.Nodes.{tree_in};
+ghost use Rattle.edit_script.specs.Forms.{as_atom, as_list, no_more, shift_of};
 ghost use Rattle.edit_script.specs.Fits.{IsNear};
 
 use crate::command::Nm;
 use crate::error::ScriptError;
-use drc_io::Name;
 use exact_dec::mm_cut;
+use list_read::place;
 use sexpr_read::{Children, Node};
-use std::alloc::{AllocError, Global};
-
-/// Where a node begins in the text.
-pub(crate) fn place(node: Node<'_, '_>) -> u32
-    ensures { result ≡ place (tree_of node.entry) }
-{
-    node.span().at
-}
 
 /// Bad, at this node.
 pub(crate) fn bad(node: Node<'_, '_>) -> ScriptError
     ensures { result ≡ ScriptError.Bad (place (tree_of node.entry)) }
 {
     ScriptError::Bad { at: place(node) }
-}
-
-/// Whether it is a list whose first part is this word.
-#[tactic(auto, unfolding(crate::specs::Forms::has_head))]
-pub(crate) fn has_head(node: Node<'_, '_>, head: &[u8]) -> bool
-    ensures { result ≡ has_head head.now (tree_of node.entry) }
-{
-    let mut parts = node.children();
-    match parts.next() {
-        None => false,
-        Some(first) => !first.quoted() && first.is(head),
-    }
-}
-
-/// What stands behind the head.
-#[tactic(auto, unfolding(crate::specs::Forms::behind_head))]
-pub(crate) fn behind_head<'d, 't>(form: Node<'d, 't>) -> Children<'d, 't>
-    ensures { trees_left result ≡ behind_head (tree_of form.entry) }
-{
-    let mut parts = form.children();
-    parts.next();
-    parts
 }
 
 /// An atom, and no list in its place.
@@ -95,23 +66,4 @@ pub(crate) fn shift_of(node: Node<'_, '_>) -> Result<Nm, ScriptError>
         Ok(nm) => Ok(nm),
         Err(_) => Err(bad(node)),
     }
-}
-
-/// What an atom stands for, as a name.
-pub(crate) fn name_from(alloc: Global, atom: Node<'_, '_>) -> Result<Name, AllocError>
-    ensures { IfOk result (λ name. name ≡ text_of (tree_of atom.entry)) }
-{
-    match atom.word() {
-        Some(word) => Name::from_slice(alloc, word),
-        None => name_decoded(alloc, atom),
-    }
-}
-
-/// The same, with escapes read.
-fn name_decoded(alloc: Global, atom: Node<'_, '_>) -> Result<Name, AllocError>
-    ensures { IfOk result (λ name. name ≡ text_of (tree_of atom.entry)) }
-{
-    let mut bytes = Vec::new(alloc);
-    atom.value(&mut bytes)?;
-    Ok(Name::of(bytes))
 }

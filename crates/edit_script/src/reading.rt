@@ -3,7 +3,7 @@
 ghost use Rattle.std.specs.Prelude.{◌≡◌, ◌≤◌, length, map, sum_by, IfOk, All};
 ghost use Rattle.sexpr_read.specs.Tree.{parts};
 ghost use Rattle.sexpr_read.specs.Views.{tree_of, trees_left};
-ghost use Rattle.edit_script.specs.Forms.{place};
+ghost use Rattle.list_read.specs.Heads.{place};
 ghost use Rattle.edit_script.specs.Commands.{again, plain_command, plain_step};
 ghost use Rattle.edit_script.specs.CommandsOf.{standing, added, deleted, moved, alone, command_of, step_of, each_of};
 ghost use Rattle.edit_script.specs.Fits.{Fits, StepFits, added_by, added_by_step, size_of, StandsIn, FormStandsIn, FormsStandIn, HaveRoom, AllShallow, FormsShallow};
@@ -11,9 +11,8 @@ ghost use Rattle.edit_script.specs.Views.{Gives};
 
 use crate::command::{Command, Step};
 use crate::error::ScriptError;
-use crate::forms::{
-    as_atom, as_list, bad, behind_head, has_head, name_from, no_more, place, shift_of,
-};
+use crate::forms::{as_atom, as_list, bad, no_more, shift_of};
+use list_read::{behind_head, has_word_head, name_from, place};
 use sexpr_read::{Children, Node};
 use std::alloc::Global;
 
@@ -28,7 +27,7 @@ fn standing<'t>(text: &'t [u8], node: Node<'_, '_>) -> &'t [u8]
 }
 
 /// `(add LIST)`.
-#[tactic(auto, unfolding(crate::specs::CommandsOf::added, crate::specs::Forms::behind_head))]
+#[tactic(auto, unfolding(crate::specs::CommandsOf::added, list_read::specs::Heads::behind_head))]
 fn added<'t>(text: &'t [u8], form: Node<'_, '_>) -> Result<Command<'t>, ScriptError>
     requires size { length text.now ≤ 33_554_432 }
     requires form { FormStandsIn (length text.now) (tree_of form) }
@@ -126,18 +125,18 @@ fn command_of<'t>(
     ensures fits { IfOk result (λ command. Fits (plain_command command)) }
     ensures size { IfOk result (λ command. added_by (plain_command command) ≤ size_of (tree_of form.entry)) }
 {
-    if has_head(form, b"add") {
+    if has_word_head(form, b"add") {
         added(text, form)
-    } else if has_head(form, b"delete") {
+    } else if has_word_head(form, b"delete") {
         deleted(alloc, form)
-    } else if has_head(form, b"move") {
+    } else if has_word_head(form, b"move") {
         moved(alloc, form)
-    } else if has_head(form, b"rules") {
+    } else if has_word_head(form, b"rules") {
         Ok(Command::Rules {
             text: standing(text, form),
             at: place(form),
         })
-    } else if has_head(form, b"again") {
+    } else if has_word_head(form, b"again") {
         again(form)
     } else {
         Err(bad(form))
@@ -154,11 +153,11 @@ fn step_of<'t>(alloc: Global, text: &'t [u8], form: Node<'_, '_>) -> Result<Step
     ensures fits { IfOk result (λ step. StepFits (plain_step step)) }
     ensures size { IfOk result (λ step. added_by_step (plain_step step) ≤ size_of (tree_of form.entry)) }
 {
-    if has_head(form, b"undo") {
+    if has_word_head(form, b"undo") {
         no_more(behind_head(form))?;
         return Ok(Step::Undo { at: place(form) });
     }
-    if has_head(form, b"redo") {
+    if has_word_head(form, b"redo") {
         no_more(behind_head(form))?;
         return Ok(Step::Redo { at: place(form) });
     }

@@ -17,7 +17,9 @@ use Rattle.board_items.specs.Boards.{PlainBoard, name_of, is_near}
 use Rattle.board_items.specs.Moves.{AreShifted}
 use Rattle.board_items.specs.Refusals.{room_of}
 use Rattle.part_read.specs.declared.numbers.Spot.{Spot}
-use Rattle.part_read.specs.Elements.{◌>>=◌, check, place, name_in}
+use Rattle.list_read.specs.Answers.{◌>>=◌, check}
+use Rattle.list_read.specs.Heads.{place}
+use Rattle.part_read.specs.Elements.{name_in}
 use Rattle.part_read.specs.OnBoard.{fits_board}
 use Rattle.pad_read.specs.declared.head.Head.{Head}
 use Rattle.footprint_read.specs.declared.sides.Side.{Side}

@@ -14,7 +14,9 @@ use Rattle.board_items.specs.Refusals.{room_of}
 use Rattle.part_read.specs.declared.drawings.Kind.{Kind}
 use Rattle.part_read.specs.declared.graphics.Ground.{Ground}
 use Rattle.part_read.specs.declared.graphics.Ground.TheVariants.{Copper, Outlines, Front, Back, Elsewhere}
-use Rattle.part_read.specs.Elements.{◌>>=◌, check, place, has_head, name_in}
+use Rattle.list_read.specs.Answers.{◌>>=◌, check}
+use Rattle.list_read.specs.Heads.{place, has_head}
+use Rattle.part_read.specs.Elements.{name_in}
 use Rattle.part_read.specs.Graphics.{ground_of, one_item, graphic_by, curve_by, text_by, note_of}
 use Rattle.part_read.proofs.Reach.{both_ok}
 use Rattle.pad_read.specs.declared.head.Head.{Head}

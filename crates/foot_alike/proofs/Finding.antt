@@ -4,7 +4,9 @@ use Rattle.std.specs.Prelude.{bytes_eq}
 use Rattle.std.proofs.lemmas.Slice.Eq.{bytes_eq-Decides}
 use Rattle.sexpr_read.specs.declared.place.Span.{Span}
 use Rattle.sexpr_read.specs.Tree.{Forest, none, atom, list, Tree, leaf, branch, trees, value}
-use Rattle.part_read.specs.Elements.{is_value, first_is, has_head, element, in_needed, is_naming, naming, name_among, name_in}
+use Rattle.list_read.specs.Heads.{is_value, first_is, has_head}
+use Rattle.list_read.specs.Elements.{element, is_naming, naming}
+use Rattle.part_read.specs.Elements.{in_needed, name_among, name_in}
 use Rattle.pad_read.specs.Postures.{posture_at, posture_of}
 use Rattle.read_alike.specs.Alike.{Shift, AlikeTrees}
 use Rattle.read_alike.specs.Agreeing.{Agrees, OptionsAgree, FoundAlike}

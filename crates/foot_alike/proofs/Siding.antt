@@ -11,7 +11,9 @@ use Rattle.part_read.specs.declared.stances.Stance.{Stance}
 use Rattle.part_read.specs.declared.figures.Figure.TheVariants.{Outline as OutlineFigure}
 use Rattle.part_read.specs.declared.drawings.Kind.{Kind}
 use Rattle.part_read.specs.declared.drawings.Kind.TheVariants.{Line, Rect, Circle, Outline}
-use Rattle.part_read.specs.Elements.{◌>>=◌, needed, place, has_head, element}
+use Rattle.list_read.specs.Answers.{◌>>=◌, needed}
+use Rattle.list_read.specs.Heads.{place, has_head}
+use Rattle.list_read.specs.Elements.{element}
 use Rattle.part_read.specs.Numbers.{spot_at, spot_of}
 use Rattle.part_read.specs.Drawings.{spots_among}
 use Rattle.part_read.specs.Stances.{stood}

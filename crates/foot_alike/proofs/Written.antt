@@ -6,7 +6,7 @@ use Rattle.sexpr_read.specs.declared.place.Span.{Span}
 use Rattle.sexpr_read.specs.Tree.{Forest, none, atom, list, Tree, leaf, branch, trees}
 use Rattle.board_errors.specs.declared.errors.BoardError.{BoardError}
 use Rattle.part_read.specs.declared.numbers.Spot.{Spot}
-use Rattle.part_read.specs.Elements.{first_is}
+use Rattle.list_read.specs.Heads.{first_is}
 use Rattle.part_read.specs.Numbers.{spot_at}
 use Rattle.pad_read.specs.Postures.{angle_by, posture_at}
 use Rattle.tree_text.specs.Pieces.{SameTrees}

@@ -2,7 +2,7 @@
 use Rattle.std.specs.Prelude.{◌≡◌, ◌⊎◌, true, false, codes, None, Some, ⊤}
 use Rattle.sexpr_read.specs.declared.place.Span.{Span}
 use Rattle.sexpr_read.specs.Tree.{Forest, none, atom, list, branch, trees}
-use Rattle.part_read.specs.Elements.{first_is}
+use Rattle.list_read.specs.Heads.{first_is}
 use Rattle.pad_read.specs.declared.postures.Posture.{Posture}
 use Rattle.pad_read.specs.Postures.{posture_at}
 use Rattle.read_alike.specs.Alike.{Shift, Alike}

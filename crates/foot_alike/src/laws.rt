@@ -7,7 +7,7 @@ ghost use Rattle.sexpr_read.specs.Tree.{Forest, Tree, branch, trees};
 ghost use Rattle.board_items.specs.declared.item.Item.{Item};
 ghost use Rattle.board_items.specs.Boards.{PlainBoard, name_of};
 ghost use Rattle.board_items.specs.Refusals.{room_of};
-ghost use Rattle.part_read.specs.Elements.{first_is};
+ghost use Rattle.list_read.specs.Heads.{first_is};
 ghost use Rattle.footprint_read.specs.FootprintOf.{Says};
 ghost use Rattle.tree_text.specs.Pieces.{SameTrees};
 ghost use Rattle.read_alike.specs.Alike.{Shift, place_moved, Alike};

@@ -14,7 +14,9 @@ use Rattle.copper_layers.specs.Layers.{is_within}
 use Rattle.board_items.specs.Boards.{PlainBoard, name_of}
 use Rattle.board_items.specs.Refusals.{room_of}
 use Rattle.part_read.specs.declared.numbers.Spot.{Spot}
-use Rattle.part_read.specs.Elements.{◌>>=◌, place, name_in}
+use Rattle.list_read.specs.Answers.{◌>>=◌}
+use Rattle.list_read.specs.Heads.{place}
+use Rattle.part_read.specs.Elements.{name_in}
 use Rattle.part_read.specs.OnBoard.{fits_board}
 use Rattle.part_read.specs.Stances.{IsWithin}
 use Rattle.part_read.specs.Ready.{IsReady, AreReady}

@@ -17,7 +17,9 @@ use Rattle.part_read.specs.declared.drawings.Kind.{Kind}
 use Rattle.part_read.specs.declared.drawings.Kind.TheVariants.{Line, Rect, Circle, Outline}
 use Rattle.part_read.specs.declared.figures.Figure.{Figure}
 use Rattle.part_read.specs.declared.figures.Figure.TheVariants.{Line as LineFigure, Rect as RectFigure, Circle as CircleFigure, Outline as OutlineFigure}
-use Rattle.part_read.specs.Elements.{◌>>=◌, needed, place, has_head, element}
+use Rattle.list_read.specs.Answers.{◌>>=◌, needed}
+use Rattle.list_read.specs.Heads.{place, has_head}
+use Rattle.list_read.specs.Elements.{element}
 use Rattle.part_read.specs.Numbers.{spot_of}
 use Rattle.part_read.specs.OnBoard.{tested, fits_board, point_at}
 use Rattle.part_read.specs.Stances.{stood, point_stood, points_stood}

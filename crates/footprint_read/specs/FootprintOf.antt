@@ -15,7 +15,9 @@ use Rattle.part_read.specs.declared.drawings.Kind.{Kind}
 use Rattle.part_read.specs.declared.drawings.Kind.TheVariants.{Line, Rect, Circle, Outline}
 use Rattle.part_read.specs.declared.graphics.Ground.{Ground}
 use Rattle.part_read.specs.declared.graphics.Ground.TheVariants.{Front, Back}
-use Rattle.part_read.specs.Elements.{◌>>=◌, check, place, has_head, name_in}
+use Rattle.list_read.specs.Answers.{◌>>=◌, check}
+use Rattle.list_read.specs.Heads.{place, has_head}
+use Rattle.part_read.specs.Elements.{name_in}
 use Rattle.part_read.specs.OnBoard.{fits_board}
 use Rattle.part_read.specs.PlainItems.{plain_item}
 use Rattle.part_read.specs.Graphics.{ground_of, graphic_by, curve_by, text_by, note_of}

@@ -16,8 +16,9 @@ use crate::contents::Contents;
 use crate::court_lists::with_graphic;
 use crate::notes::{note_on, one_item};
 use board_items::{About, Board, BoardError, Item};
+use list_read::{has_head, place};
 use pad_read::{Head, pad_of};
-use part_read::{Ground, Kind, curve_by, ground_of, has_head, place, read_graphic, read_text};
+use part_read::{Ground, Kind, curve_by, ground_of, read_graphic, read_text};
 use sexpr_read::Node;
 use std::alloc::{AllocError, Global};
 
@@ -148,8 +149,7 @@ fn zone_notes(
     ensures notes { IfOk result (λ notes. notes.items ≡ note_of (name_in (tree_of node.entry)) unit FootZone [] ∷ []) }
     ensures ready { IfOk result (λ notes. All (IsReady board.now unit) notes.items) }
 {
-    // Net 0 is there on each board.
-    let _ = board.left();
+    board.soundness();
     let notes = one_item(alloc, note_on(alloc, unit, About::FootZone, "", node)?)?;
     Ok(notes)
 }

@@ -2,7 +2,9 @@
 
 ghost use Rattle.std.specs.Prelude.{◌≡◌, ◌<◌, ◌++◌, ◌∷◌, [], IfOk};
 ghost use Rattle.sexpr_read.specs.Views.{tree_of};
-ghost use Rattle.part_read.specs.Elements.{element, in_needed, has_head};
+ghost use Rattle.list_read.specs.Heads.{has_head};
+ghost use Rattle.list_read.specs.Elements.{element};
+ghost use Rattle.part_read.specs.Elements.{in_needed};
 ghost use Rattle.part_read.specs.Nodes.{Gives};
 ghost use Rattle.part_read.specs.Numbers.{spot_at};
 ghost use Rattle.part_read.specs.Stances.{IsWithin};
@@ -11,9 +13,9 @@ ghost use Rattle.footprint_read.specs.Courtyards.{with_figure, with_line, with_r
 
 use crate::sides::{Course, Side};
 use board_items::BoardError;
+use list_read::{element, has_head};
 use part_read::{
-    Corners, Figure, Kind, Spot, Stance, element, has_head, missing, radius_between, spot_in,
-    spots_in, stand,
+    Corners, Figure, Kind, Spot, Stance, missing, radius_between, spot_in, spots_in, stand,
 };
 use sexpr_read::Node;
 use std::alloc::{AllocError, Global};

@@ -16,8 +16,9 @@ use crate::courts::{Court, court_of};
 use crate::head::head_of;
 use crate::notes::{note_on, one_item};
 use board_items::{About, Board, BoardError, Boxed, Item, Parts, What};
+use list_read::place;
 use pad_read::Head;
-use part_read::{fits_board, name_of_list, no_parts, place, plain_item};
+use part_read::{fits_board, name_of_list, no_parts, plain_item};
 use sexpr_read::Node;
 use std::alloc::{AllocError, Global};
 
@@ -198,8 +199,7 @@ pub fn read_footprint(
     ensures says { SaysItems result board.now unit (tree_of node.entry) }
     ensures ready { IfOk result (λ items. AreReady board.now unit items.items) }
 {
-    // What holds of each board holds of this one.
-    let _ = board.left();
+    board.soundness();
     let head = head_of(alloc, board.copper(), node)?;
     let contents = contents_of(alloc, board, unit, &head, node)?;
     let front = court_of(alloc, head.stance, &contents.front)?;

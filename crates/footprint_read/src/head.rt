@@ -10,10 +10,9 @@ ghost use Rattle.footprint_read.specs.FootHead.{side_of, says, second_text, refe
 use board_items::BoardError;
 use copper_layers::LayerSet;
 use drc_io::Name;
+use list_read::{element, has_head, name_from, place};
 use pad_read::{Head, clearance_of, posture_of, quarters_of};
-use part_read::{
-    Stance, copper_in, element, first_atom, has_head, missing, name_from, place, second_atom,
-};
+use part_read::{Stance, copper_in, first_atom, missing, second_atom};
 use sexpr_read::Node;
 use std::alloc::Global;
 

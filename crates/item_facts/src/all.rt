@@ -83,8 +83,7 @@ fn all_marks(board: &Board) -> &[u32]
     ensures marks { result.now ≡ marks_of board.now.items }
     ensures sound { IsSound board.now }
 {
-    // the board says here that its ids rise
-    let _ = board.left();
+    board.soundness();
     board.marks()
 }
 

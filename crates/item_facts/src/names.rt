@@ -36,8 +36,7 @@ pub(crate) fn areas_near(
     ensures { IfOk result (λ names. AreNamesOf (MeetsArea item.now) board.now.items names) }
 {
     let mut names = Vec::new(alloc);
-    // the board says here that its ids rise
-    let _ = board.left();
+    board.soundness();
     for id in ids {
         if let Some(other) = board.get(*id) {
             push_if(&mut names, area_met(item, other))?;
@@ -57,8 +56,7 @@ pub(crate) fn courtyards_near(
     ensures { IfOk result (λ names. AreNamesOf (MeetsCourtyard item.now) board.now.items names) }
 {
     let mut names = Vec::new(alloc);
-    // the board says here that its ids rise
-    let _ = board.left();
+    board.soundness();
     for id in ids {
         if let Some(other) = board.get(*id) {
             push_if(&mut names, courtyard_met(item, other))?;

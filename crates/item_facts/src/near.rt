@@ -134,8 +134,7 @@ fn push_marks(board: &Board, ids: &mut Vec<u32>) -> Result<(), AllocError>
     ensures marks { OnOk result (ids.new.items ≡ marks_of board.now.items) }
     ensures sound { IsSound board.now }
 {
-    // the board says here that its ids rise
-    let _ = board.left();
+    board.soundness();
     ids.extend_from_slice(board.marks())?;
     Ok(())
 }

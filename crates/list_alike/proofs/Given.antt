@@ -6,7 +6,10 @@ use Rattle.sexpr_read.specs.Tree.{Forest, none, atom, list, Tree, leaf, branch, 
 use Rattle.board_errors.specs.declared.errors.BoardError.{BoardError}
 use Rattle.copper_layers.specs.declared.set.LayerSet.{LayerSet}
 use Rattle.copper_layers.specs.Layers.{layers_between}
-use Rattle.part_read.specs.Elements.{◌>>=◌, is_text, has_head, has_word, element, in_given, atom_of}
+use Rattle.list_read.specs.Answers.{◌>>=◌}
+use Rattle.list_read.specs.Heads.{is_text, has_head, has_word}
+use Rattle.list_read.specs.Elements.{element}
+use Rattle.part_read.specs.Elements.{in_given, atom_of}
 use Rattle.part_read.specs.Numbers.{size_at}
 use Rattle.part_read.specs.LayersOf.{copper_in, layers_through}
 use Rattle.read_alike.specs.Alike.{Shift, is_place_word, Alike, AlikeTrees}

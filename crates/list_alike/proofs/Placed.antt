@@ -11,7 +11,10 @@ use Rattle.copper_layers.specs.Layers.{single_layer}
 use Rattle.board_items.specs.Boards.{PlainBoard}
 use Rattle.part_read.specs.declared.on_board.Strip.{Strip}
 use Rattle.part_read.specs.declared.graphics.Ground.{Ground}
-use Rattle.part_read.specs.Elements.{◌>>=◌, needed, check, place, has_head, has_word, element, in_needed, in_given, name_in}
+use Rattle.list_read.specs.Answers.{◌>>=◌, needed, check}
+use Rattle.list_read.specs.Heads.{place, has_head, has_word}
+use Rattle.list_read.specs.Elements.{element}
+use Rattle.part_read.specs.Elements.{in_needed, in_given, name_in}
 use Rattle.part_read.specs.Numbers.{spot_of, size_at, size_of}
 use Rattle.part_read.specs.LayersOf.{layer_of, layers_through}
 use Rattle.part_read.specs.NetsOf.{net_of}

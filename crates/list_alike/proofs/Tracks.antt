@@ -20,7 +20,9 @@ use Rattle.copper_layers.specs.Layers.{single_layer}
 use Rattle.board_items.specs.Boards.{PlainBoard, name_of, is_near}
 use Rattle.part_read.specs.declared.numbers.Spot.{Spot}
 use Rattle.part_read.specs.declared.on_board.Strip.{Strip}
-use Rattle.part_read.specs.Elements.{needed, place, name_in}
+use Rattle.list_read.specs.Answers.{needed}
+use Rattle.list_read.specs.Heads.{place}
+use Rattle.part_read.specs.Elements.{name_in}
 use Rattle.part_read.specs.Numbers.{spot_of, size_of}
 use Rattle.part_read.specs.LayersOf.{layer_of}
 use Rattle.part_read.specs.NetsOf.{net_of}

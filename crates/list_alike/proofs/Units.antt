@@ -7,7 +7,8 @@ use Rattle.board_errors.specs.declared.errors.BoardError.{BoardError}
 use Rattle.board_errors.specs.declared.errors.BoardError.TheVariants.{TooMany}
 use Rattle.board_items.specs.declared.item.Item.{Item}
 use Rattle.board_items.specs.Boards.{PlainBoard, name_of}
-use Rattle.part_read.specs.Elements.{◌>>=◌, check, place}
+use Rattle.list_read.specs.Answers.{◌>>=◌, check}
+use Rattle.list_read.specs.Heads.{place}
 use Rattle.part_read.specs.Graphics.{one_item, graphic_by, curve_by, text_by}
 use Rattle.read_alike.specs.Alike.{Shift, Alike}
 use Rattle.read_alike.specs.Carried.{shift_of, Becomes, of_unit, Leads, ReadsItems}

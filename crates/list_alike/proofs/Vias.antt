@@ -15,7 +15,10 @@ use Rattle.board_items.specs.declared.item.Item.{Item}
 use Rattle.board_items.specs.Moves.{AreShifted, HoleIsShifted}
 use Rattle.board_items.specs.Boards.{PlainBoard, name_of}
 use Rattle.part_read.specs.declared.numbers.Spot.{Spot}
-use Rattle.part_read.specs.Elements.{needed, place, element, name_in, has_word, in_needed, in_given}
+use Rattle.list_read.specs.Answers.{needed}
+use Rattle.list_read.specs.Heads.{place, has_word}
+use Rattle.list_read.specs.Elements.{element}
+use Rattle.part_read.specs.Elements.{name_in, in_needed, in_given}
 use Rattle.part_read.specs.Numbers.{spot_of, size_at, size_of}
 use Rattle.part_read.specs.LayersOf.{layers_through}
 use Rattle.part_read.specs.NetsOf.{net_of}

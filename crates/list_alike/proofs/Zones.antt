@@ -25,7 +25,10 @@ use Rattle.board_items.specs.Boards.{PlainBoard, name_of, is_near, is_on_board}
 use Rattle.board_items.specs.Refusals.{room_of}
 use Rattle.board_items.specs.Moves.{AreShifted, HoleIsShifted, is_note}
 use Rattle.part_read.specs.declared.numbers.Spot.{Spot}
-use Rattle.part_read.specs.Elements.{◌>>=◌, needed, check, place, has_head, element, atom_of, in_needed, name_in}
+use Rattle.list_read.specs.Answers.{◌>>=◌, needed, check}
+use Rattle.list_read.specs.Heads.{place, has_head}
+use Rattle.list_read.specs.Elements.{element}
+use Rattle.part_read.specs.Elements.{atom_of, in_needed, name_in}
 use Rattle.part_read.specs.LayersOf.{layer_in, named}
 use Rattle.part_read.specs.NetsOf.{net_of}
 use Rattle.part_read.specs.LayersWhere.{layers_of_any}

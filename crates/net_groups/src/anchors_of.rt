@@ -79,8 +79,7 @@ fn ids_of(board: &Board, net: u32) -> &[u32]
     ensures ids { result.now ≡ ids_of_net net board.now.items }
     ensures sound { IsSound board.now }
 {
-    // the board says here that its ids rise
-    let _ = board.left();
+    board.soundness();
     board.of_net(net)
 }
 

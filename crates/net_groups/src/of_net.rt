@@ -31,8 +31,7 @@ fn conductors(alloc: Global, board: &Board, net: u32) -> Result<Vec<u32>, AllocE
     ensures few { IfOk result (λ ids. length ids.items < 2 ^ 32) }
 {
     let mut ids = Vec::new(alloc);
-    // the board says here that its ids rise
-    let _ = board.left();
+    board.soundness();
     if net == 0 {
         return Ok(ids);
     }

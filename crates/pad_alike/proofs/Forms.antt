@@ -13,7 +13,9 @@ use Rattle.part_read.specs.declared.figures.Figure.TheVariants.{Line, Rect, Circ
 use Rattle.part_read.specs.declared.figures.Drawing.{Drawing}
 use Rattle.part_read.specs.declared.drawings.Kind.{Kind}
 use Rattle.part_read.specs.declared.drawings.Kind.TheVariants.{Line as LineKind, Rect as RectKind, Circle as CircleKind, Outline as OutlineKind}
-use Rattle.part_read.specs.Elements.{◌>>=◌, needed, place, is_value, is_text, has_head, element}
+use Rattle.list_read.specs.Answers.{◌>>=◌, needed}
+use Rattle.list_read.specs.Heads.{place, is_value, is_text, has_head}
+use Rattle.list_read.specs.Elements.{element}
 use Rattle.part_read.specs.Numbers.{read_as}
 use Rattle.part_read.specs.Circles.{radius_between}
 use Rattle.part_read.specs.Figures.{is_ring}

@@ -6,7 +6,9 @@ use Rattle.board_errors.specs.declared.errors.BoardError.{BoardError}
 use Rattle.board_errors.specs.declared.errors.BoardError.TheVariants.{Missing, Turned, PadShape}
 use Rattle.part_read.specs.declared.numbers.Spot.{Spot}
 use Rattle.part_read.specs.declared.stances.Stance.{Stance}
-use Rattle.part_read.specs.Elements.{◌>>=◌, needed, place, is_value, is_text, has_head, element}
+use Rattle.list_read.specs.Answers.{◌>>=◌, needed}
+use Rattle.list_read.specs.Heads.{place, is_value, is_text, has_head}
+use Rattle.list_read.specs.Elements.{element}
 use Rattle.part_read.specs.Numbers.{length_in, size_in, spot_at}
 use Rattle.part_read.specs.Stances.{stood}
 use Rattle.pad_read.specs.declared.sizes.Sizes.{Sizes}

@@ -9,7 +9,10 @@ use Rattle.copper_layers.specs.declared.set.LayerSet.{LayerSet}
 use Rattle.board_items.specs.declared.item.Item.{Item}
 use Rattle.board_items.specs.Boards.{PlainBoard, name_of}
 use Rattle.part_read.specs.declared.numbers.Spot.{Spot}
-use Rattle.part_read.specs.Elements.{◌>>=◌, needed, place, element, atom_of, in_needed}
+use Rattle.list_read.specs.Answers.{◌>>=◌, needed}
+use Rattle.list_read.specs.Heads.{place}
+use Rattle.list_read.specs.Elements.{element}
+use Rattle.part_read.specs.Elements.{atom_of, in_needed}
 use Rattle.part_read.specs.LayersOf.{layers_named}
 use Rattle.part_read.specs.NetsOf.{net_of}
 use Rattle.part_read.proofs.Reach.{both_ok}

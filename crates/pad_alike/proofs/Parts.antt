@@ -3,7 +3,10 @@ use Rattle.std.proofs.Common.{◌≡◌, refl, sym, subst, ℕ, zero, suc, List,
 use Rattle.std.specs.Prelude.{slice_get, if◌then◌else◌}
 use Rattle.sexpr_read.specs.Tree.{Forest, none, atom, list, Tree, leaf, branch, trees, parts, is_list}
 use Rattle.board_errors.specs.declared.errors.BoardError.{BoardError}
-use Rattle.part_read.specs.Elements.{◌>>=◌, has_head, element, in_needed, atom_of}
+use Rattle.list_read.specs.Answers.{◌>>=◌}
+use Rattle.list_read.specs.Heads.{has_head}
+use Rattle.list_read.specs.Elements.{element}
+use Rattle.part_read.specs.Elements.{in_needed, atom_of}
 use Rattle.part_read.specs.Numbers.{length_in, spot_at}
 use Rattle.read_alike.specs.Alike.{Alike, AlikeTrees}
 use Rattle.read_alike.specs.Agreeing.{Agrees, OptionsAgree, Same, SameAtom, AlikeParts, FoundAlike, forest_in}

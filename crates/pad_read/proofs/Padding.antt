@@ -18,7 +18,10 @@ use Rattle.part_read.specs.declared.stances.Stance.{Stance}
 use Rattle.part_read.specs.declared.radii.Radius.{Radius}
 use Rattle.part_read.specs.declared.figures.Drawing.{Drawing}
 use Rattle.board_errors.specs.declared.errors.BoardError.TheVariants.{OutOfBoard}
-use Rattle.part_read.specs.Elements.{needed, place, element, atom_of, in_needed}
+use Rattle.list_read.specs.Answers.{needed}
+use Rattle.list_read.specs.Heads.{place}
+use Rattle.list_read.specs.Elements.{element}
+use Rattle.part_read.specs.Elements.{atom_of, in_needed}
 use Rattle.part_read.specs.LayersOf.{layers_named}
 use Rattle.part_read.specs.NetsOf.{net_of}
 use Rattle.part_read.specs.OnBoard.{tested, is_length, fits_board}

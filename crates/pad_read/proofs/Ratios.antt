@@ -8,7 +8,7 @@ use Rattle.exact_dec.specs.Decimal.{Parts, times, value}
 use Rattle.exact_dec.specs.Computed.{near, ratio_near_answer, answer_of, parts_of}
 use Rattle.board_errors.specs.declared.errors.BoardError.{BoardError}
 use Rattle.sexpr_read.specs.Tree.{Tree, content}
-use Rattle.part_read.specs.Elements.{◌>>=◌, needed}
+use Rattle.list_read.specs.Answers.{◌>>=◌, needed}
 use Rattle.part_read.specs.Numbers.{read_as}
 use Rattle.pad_read.specs.PadShapes.{share_of}
 

@@ -7,7 +7,10 @@ use Rattle.board_errors.specs.declared.errors.BoardError.TheVariants.{PadShape, 
 use Rattle.part_read.specs.declared.drawings.Kind.{Kind}
 use Rattle.part_read.specs.declared.drawings.Kind.TheVariants.{Line, Rect, Circle, Outline}
 use Rattle.part_read.specs.declared.figures.Drawing.{Drawing}
-use Rattle.part_read.specs.Elements.{◌>>=◌, check, place, is_text, has_head, element, atom_of}
+use Rattle.list_read.specs.Answers.{◌>>=◌, check}
+use Rattle.list_read.specs.Heads.{place, is_text, has_head}
+use Rattle.list_read.specs.Elements.{element}
+use Rattle.part_read.specs.Elements.{atom_of}
 use Rattle.part_read.specs.OnBoard.{is_length}
 use Rattle.part_read.specs.Figures.{is_ring, radius_with}
 use Rattle.part_read.specs.Drawings.{drawing_of}

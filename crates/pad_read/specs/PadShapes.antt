@@ -8,7 +8,10 @@ use Rattle.geo_seg.specs.declared.shapes.Shape.{Shape}
 use Rattle.board_errors.specs.declared.errors.BoardError.{BoardError}
 use Rattle.board_errors.specs.declared.errors.BoardError.TheVariants.{BadNumber}
 use Rattle.part_read.specs.declared.numbers.Spot.{Spot}
-use Rattle.part_read.specs.Elements.{◌>>=◌, needed, place, element, atom_of}
+use Rattle.list_read.specs.Answers.{◌>>=◌, needed}
+use Rattle.list_read.specs.Heads.{place}
+use Rattle.list_read.specs.Elements.{element}
+use Rattle.part_read.specs.Elements.{atom_of}
 use Rattle.part_read.specs.Numbers.{read_as}
 use Rattle.part_read.specs.declared.radii.Radius.{Radius}
 use Rattle.pad_read.specs.Halves.{half_point}

@@ -4,7 +4,9 @@ use Rattle.std.specs.Prelude.{ℕ, ℤ, pos, ◌/◌, ◌%◌, ◌==◌, unsigne
 use Rattle.std.specs.Int.{int_rem_euclid}
 use Rattle.sexpr_read.specs.Tree.{Tree, parts, is_list}
 use Rattle.board_errors.specs.declared.errors.BoardError.{BoardError}
-use Rattle.part_read.specs.Elements.{◌>>=◌, element, atom_of, in_needed}
+use Rattle.list_read.specs.Answers.{◌>>=◌}
+use Rattle.list_read.specs.Elements.{element}
+use Rattle.part_read.specs.Elements.{atom_of, in_needed}
 use Rattle.part_read.specs.Numbers.{length_in, spot_at}
 use Rattle.pad_read.specs.declared.postures.Posture.{Posture}
 

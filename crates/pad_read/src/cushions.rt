@@ -11,7 +11,8 @@ use crate::sizes::{Cushion, Sizes, least_of};
 use board_items::{BoardError, Nm};
 use exact_dec::ratio_near;
 use geo_seg::{Point, Shape};
-use part_read::{Spot, around, bad_number, box_core, element, first_atom, radius_of};
+use list_read::element;
+use part_read::{Spot, around, bad_number, box_core, first_atom, radius_of};
 use sexpr_read::Node;
 use std::alloc::{AllocError, Global};
 

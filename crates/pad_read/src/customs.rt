@@ -15,7 +15,8 @@ use crate::cushions::{circle_cushion, rect_cushion};
 use crate::primitives::Primitives;
 use crate::sizes::{Cushion, Sizes};
 use board_items::BoardError;
-use part_read::{Drawing, Kind, drawing_of, element, first_atom, has_head, is_ring, place};
+use list_read::{element, has_head, place};
+use part_read::{Drawing, Kind, drawing_of, first_atom, is_ring};
 use sexpr_read::Node;
 use std::alloc::{AllocError, Global};
 

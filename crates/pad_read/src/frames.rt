@@ -11,7 +11,8 @@ use crate::sizes::{drilling_of, sizes_of};
 use crate::turning::quarter_of;
 use crate::words::{type_of, word_of};
 use board_items::BoardError;
-use part_read::{Spot, Stance, place, stand};
+use list_read::place;
+use part_read::{Spot, Stance, stand};
 use sexpr_read::Node;
 
 /// Where a spot of a footprint that stands so is on the board, or off it.

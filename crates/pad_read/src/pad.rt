@@ -4,7 +4,9 @@ ghost use Rattle.std.specs.Prelude.{◌≡◌, ◌<◌, true, codes, is_some, If
 ghost use Rattle.sexpr_read.specs.Views.{tree_of};
 ghost use Rattle.board_items.specs.Boards.{name_of};
 ghost use Rattle.copper_layers.specs.Layers.{is_within};
-ghost use Rattle.part_read.specs.Elements.{element, in_needed, needed};
+ghost use Rattle.list_read.specs.Answers.{needed};
+ghost use Rattle.list_read.specs.Elements.{element};
+ghost use Rattle.part_read.specs.Elements.{in_needed};
 ghost use Rattle.part_read.specs.LayersOf.{layers_named};
 ghost use Rattle.part_read.specs.Nodes.{Gives};
 ghost use Rattle.part_read.specs.OnBoard.{tested};
@@ -30,9 +32,9 @@ use crate::turning::{Clearances, local_of, sizes_fit, some_fit};
 use board_items::{Board, BoardError, Boxed, Hole, Item, Nm, Parts, What};
 use copper_layers::LayerSet;
 use drc_io::Name;
+use list_read::{element, name_from, place};
 use part_read::{
-    Spot, element, first_atom, fits_board, is_length, layers_named, missing, name_from,
-    name_of_list, net_of, place,
+    Spot, first_atom, fits_board, is_length, layers_named, missing, name_of_list, net_of,
 };
 use sexpr_read::Node;
 use std::alloc::{AllocError, Global};
@@ -171,8 +173,7 @@ fn declared_net(board: &Board, node: Node<'_, '_>) -> Result<u32, BoardError>
     ensures net { result ≡ net_of board.now (tree_of node.entry) }
     ensures declared { IfOk result (λ net. is_some (name_of board.now net) ≡ true) }
 {
-    // What holds of each board holds of this one.
-    let _ = board.left();
+    board.soundness();
     net_of(board, element(node, b"net"))
 }
 

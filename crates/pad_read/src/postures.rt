@@ -7,7 +7,8 @@ ghost use Rattle.pad_read.specs.Postures.{angle_by, posture_at, posture_of, quar
 
 use crate::places::third_part;
 use board_items::{BoardError, Nm};
-use part_read::{Spot, element, first_atom, length_in, missing, spot_in};
+use list_read::element;
+use part_read::{Spot, first_atom, length_in, missing, spot_in};
 use sexpr_read::Node;
 
 /// Where something stands, and how it is turned.

@@ -2,14 +2,15 @@
 
 ghost use Rattle.std.specs.Prelude.{◌≡◌, ◌≤ℤ◌, pos, codes, option_map, IfOk, IfSome};
 ghost use Rattle.sexpr_read.specs.Views.{tree_of};
-ghost use Rattle.part_read.specs.Elements.{element};
+ghost use Rattle.list_read.specs.Elements.{element};
 ghost use Rattle.part_read.specs.Numbers.{size_in};
 ghost use Rattle.part_read.specs.Stances.{IsWithin};
 ghost use Rattle.pad_read.specs.PadSizes.{AreRead, sizes_at, sizes_of, least_of, are_equal, other_size, oval_sizes, drilled_by, offset_by, drilling_at, drilling_of};
 
 use crate::places::{first_part, third_part};
 use board_items::{BoardError, Nm};
-use part_read::{Spot, element, first_atom, missing, second_atom, size_in, spot_in};
+use list_read::element;
+use part_read::{Spot, first_atom, missing, second_atom, size_in, spot_in};
 use sexpr_read::Node;
 
 /// Two sizes in nanometres.

@@ -3,12 +3,13 @@
 ghost use Rattle.std.specs.Prelude.{◌≡◌};
 ghost use Rattle.sexpr_read.specs.Views.{tree_of};
 ghost use Rattle.part_read.specs.Elements.{atom_of};
-ghost use Rattle.part_read.specs.Nodes.{tree_in};
+ghost use Rattle.list_read.specs.Nodes.{tree_in};
 ghost use Rattle.pad_read.specs.PadFrames.{type_by, type_of, word_by, word_of, has_hole};
 
 use crate::pads::{PadType, PadWord};
 use board_items::BoardError;
-use part_read::{element, missing, place, second_atom};
+use list_read::{element, place};
+use part_read::{missing, second_atom};
 use sexpr_read::Node;
 
 /// What a pad is made for, by its word.

@@ -25,7 +25,10 @@ use Rattle.part_read.specs.declared.drawings.Kind.{Kind}
 use Rattle.part_read.specs.declared.drawings.Kind.TheVariants.{Line as LineKind, Rect as RectKind, Circle as CircleKind, Outline as OutlineKind}
 use Rattle.part_read.specs.declared.graphics.Ground.{Ground}
 use Rattle.part_read.specs.declared.graphics.Ground.TheVariants.{Copper, Outlines, Front, Back, Elsewhere}
-use Rattle.part_read.specs.Elements.{◌>>=◌, needed, check, place, element, atom_of, name_among, name_in}
+use Rattle.list_read.specs.Answers.{◌>>=◌, needed, check}
+use Rattle.list_read.specs.Heads.{place}
+use Rattle.list_read.specs.Elements.{element}
+use Rattle.part_read.specs.Elements.{atom_of, name_among, name_in}
 use Rattle.board_errors.specs.declared.errors.BoardError.TheVariants.{Missing, OutOfBoard, Ring}
 use Rattle.part_read.specs.OnBoard.{tested, is_length, fits_board, point_at}
 use Rattle.part_read.specs.NetsOf.{declared_in, net_among, net_of}

@@ -1,4 +1,3 @@
-pub mod Walks
 pub mod Shapes
 pub mod LayerNames
 pub mod Layering

@@ -1,5 +1,5 @@
 -- What is read of a text is at most 10^12 nanometres from 0.
-use Rattle.std.proofs.Common.{◌≡◌, ◌∙◌, refl, ap, sym, subst, ℕ, ℤ, pos, negsuc, ◌≤◌, unsigned_abs, ◌≤ℤ◌, List, Option, None, Some, Result, Ok, Err, Bool, true, false, cond, ◌||◌, ltb, arith}
+use Rattle.std.proofs.Common.{◌≡◌, ◌∙◌, refl, ap, sym, subst, ℕ, ℤ, pos, ◌≤◌, unsigned_abs, ◌≤ℤ◌, List, Option, None, Some, Result, Ok, Err, Bool, true, false, cond, ◌||◌, ltb, arith}
 use Rattle.std.specs.Prelude.{int_le}
 use Rattle.std.proofs.lemmas.Int.{ints}
 use Rattle.int_algebra.proofs.Tested.{le_by_test}
@@ -12,7 +12,9 @@ use Rattle.exact_dec.specs.Decimal.{Parts, Fraction, cut, times, value}
 use Rattle.exact_dec.specs.Computed.{mm_cut_answer, answer_of, parts_of}
 use Rattle.board_errors.specs.declared.errors.BoardError.{BoardError}
 use Rattle.sexpr_read.specs.Tree.{Tree, content}
-use Rattle.part_read.specs.Elements.{◌>>=◌, needed, place, atom_of}
+use Rattle.list_read.specs.Answers.{◌>>=◌, needed}
+use Rattle.list_read.specs.Heads.{place}
+use Rattle.part_read.specs.Elements.{atom_of}
 use Rattle.part_read.specs.Numbers.{read_as, length_in, size_in, size_at, spot_at}
 use Rattle.part_read.specs.declared.numbers.Spot.{Spot}
 use Rattle.part_read.specs.Stances.{IsWithin}

@@ -9,7 +9,10 @@ use Rattle.part_read.specs.declared.figures.Figure.TheVariants.{Line, Rect, Circ
 use Rattle.part_read.specs.declared.figures.Drawing.{Drawing}
 use Rattle.part_read.specs.declared.drawings.Kind.{Kind}
 use Rattle.part_read.specs.declared.drawings.Kind.TheVariants.{Line as LineKind, Rect as RectKind, Circle as CircleKind, Outline as OutlineKind}
-use Rattle.part_read.specs.Elements.{◌>>=◌, check, place, is_text, has_head, element, atom_of, in_needed}
+use Rattle.list_read.specs.Answers.{◌>>=◌, check}
+use Rattle.list_read.specs.Heads.{place, is_text, has_head}
+use Rattle.list_read.specs.Elements.{element}
+use Rattle.part_read.specs.Elements.{atom_of, in_needed}
 use Rattle.part_read.specs.Numbers.{spot_at, spot_of, size_at}
 use Rattle.part_read.specs.Circles.{radius_between}
 

@@ -14,7 +14,10 @@ use Rattle.part_read.specs.declared.stances.Stance.{Stance}
 use Rattle.part_read.specs.declared.drawings.Kind.{Kind}
 use Rattle.part_read.specs.declared.graphics.Ground.{Ground}
 use Rattle.part_read.specs.declared.graphics.Ground.TheVariants.{Copper, Outlines, Front, Back, Elsewhere}
-use Rattle.part_read.specs.Elements.{◌>>=◌, needed, check, place, is_text, element, atom_of, name_among, name_in}
+use Rattle.list_read.specs.Answers.{◌>>=◌, needed, check}
+use Rattle.list_read.specs.Heads.{place, is_text}
+use Rattle.list_read.specs.Elements.{element}
+use Rattle.part_read.specs.Elements.{atom_of, name_among, name_in}
 use Rattle.part_read.specs.PlainItems.{plain_item}
 use Rattle.part_read.specs.LayersOf.{drawn_on}
 use Rattle.part_read.specs.NetsOf.{net_of}

@@ -8,7 +8,10 @@ use Rattle.copper_layers.specs.declared.set.LayerSet.{LayerSet}
 use Rattle.board_errors.specs.declared.errors.BoardError.{BoardError}
 use Rattle.board_errors.specs.declared.errors.BoardError.TheVariants.{UnknownLayer}
 use Rattle.copper_layers.specs.Layers.{has_layer, layer_names, single_layer, layers_between}
-use Rattle.part_read.specs.Elements.{◌>>=◌, place, text_of, is_text, element, atom_of, in_needed}
+use Rattle.list_read.specs.Answers.{◌>>=◌}
+use Rattle.list_read.specs.Heads.{place, text_of, is_text}
+use Rattle.list_read.specs.Elements.{element}
+use Rattle.part_read.specs.Elements.{atom_of, in_needed}
 use Rattle.part_read.specs.LayersWhere.{layers_of_any}
 
 -- the layer that an atom names, if it is one of copper: the place of its name

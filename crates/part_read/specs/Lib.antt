@@ -6,8 +6,6 @@ pub mod LayerSets
 pub mod NetsOf
 pub mod OnBoard
 pub mod Nodes
-pub mod Wanted
-pub mod Walk
 pub mod Lists
 pub mod Stances
 pub mod Circles

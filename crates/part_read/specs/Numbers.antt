@@ -6,7 +6,10 @@ use Rattle.exact_dec.specs.declared.DecError.{DecError}
 use Rattle.board_errors.specs.declared.errors.BoardError.{BoardError}
 use Rattle.board_errors.specs.declared.errors.BoardError.TheVariants.{BadNumber}
 use Rattle.part_read.specs.declared.numbers.Spot.{Spot}
-use Rattle.part_read.specs.Elements.{◌>>=◌, needed, place, element, atom_of, in_needed}
+use Rattle.list_read.specs.Answers.{◌>>=◌, needed}
+use Rattle.list_read.specs.Heads.{place}
+use Rattle.list_read.specs.Elements.{element}
+use Rattle.part_read.specs.Elements.{atom_of, in_needed}
 
 abbrev pub read_as : {A : Type 0} → BoardError → Result A DecError → Result A BoardError
 read_as e (Ok n) = Ok n

@@ -2,7 +2,8 @@
 
 ghost use Rattle.std.specs.Prelude.{◌≡◌, ◌≤◌, ◌≤ℤ◌, pos, option_map, ◌++◌, ◌∷◌, [], IfOk, OnOk, All};
 ghost use Rattle.sexpr_read.specs.Views.{tree_of};
-ghost use Rattle.part_read.specs.Elements.{element, in_needed};
+ghost use Rattle.list_read.specs.Elements.{element};
+ghost use Rattle.part_read.specs.Elements.{in_needed};
 ghost use Rattle.part_read.specs.Numbers.{spot_at, size_at};
 ghost use Rattle.part_read.specs.Nodes.{Gives};
 ghost use Rattle.part_read.specs.Lists.{GivesItems};
@@ -11,12 +12,13 @@ ghost use Rattle.part_read.specs.Stances.{IsWithin};
 ghost use Rattle.part_read.specs.Figures.{IsDrawable};
 ghost use Rattle.part_read.specs.Drawings.{spots_among, corners_in, corners_of, stroke_width, width_among, width_of, filled_by, fill_of, line_drawing, rect_drawing, circle_drawing, outline_drawing, drawing_of};
 
-use crate::atoms::{first_atom, has_head, missing, place};
+use crate::atoms::{first_atom, missing};
 use crate::circles::radius_between;
 use crate::corners::Corners;
 use crate::figures::{Drawing, Figure};
 use crate::numbers::{Spot, size_at, spot_at};
 use board_items::{BoardError, Nm};
+use list_read::{element, has_head, place};
 use sexpr_read::Node;
 use std::alloc::{AllocError, Global};
 
@@ -27,19 +29,6 @@ pub enum Kind {
     Rect,
     Circle,
     Outline,
-}
-
-/// The first list in the list that has this head.
-#[tactic(auto, unfolding(crate::specs::Elements::element))]
-pub fn element<'d, 't>(node: Node<'d, 't>, head: &[u8]) -> Option<Node<'d, 't>>
-    ensures { option_map tree_of result ≡ element head.now (tree_of node.entry) }
-{
-    for part in node.children() {
-        if has_head(part, head) {
-            return Some(part);
-        }
-    }
-    None
 }
 
 /// The spot of `(HEAD X Y)`. Each number is at most 10^12 nanometres from 0.

@@ -4,7 +4,8 @@ ghost use Rattle.std.specs.Prelude.{◌≡◌, ◌<◌, ◌∷◌, [], false, So
 ghost use Rattle.board_items.specs.declared.item.Item.{Item};
 ghost use Rattle.sexpr_read.specs.Views.{tree_of};
 ghost use Rattle.part_read.specs.Nodes.{Gives};
-ghost use Rattle.part_read.specs.Elements.{element, name_among, name_in, naming, is_naming};
+ghost use Rattle.list_read.specs.Elements.{element};
+ghost use Rattle.part_read.specs.Elements.{name_among, name_in};
 ghost use Rattle.part_read.specs.Lists.{GivesItems};
 ghost use Rattle.part_read.specs.Stances.{IsWithin};
 ghost use Rattle.part_read.specs.Grounds.{IsOn};
@@ -12,8 +13,8 @@ ghost use Rattle.part_read.specs.Ready.{IsReady};
 ghost use Rattle.part_read.specs.PlainItems.{is_measured, plain_item};
 ghost use Rattle.part_read.specs.Graphics.{ground_by, ground_of, copper_graphic, edge_graphic, note_of, graphic_by, curve_by, text_by};
 
-use crate::atoms::{first_atom, has_head, place};
-use crate::drawings::{Kind, drawing_of, element};
+use crate::atoms::first_atom;
+use crate::drawings::{Kind, drawing_of};
 use crate::figures::{draw, draw_edge, first_spot, is_circle, is_ring};
 use crate::layers::drawn_on;
 use crate::names::name_in;
@@ -24,6 +25,7 @@ use board_items::{About, Board, BoardError, Boxed, Item, Part, Parts, What};
 use copper_layers::LayerSet;
 use drc_io::Name;
 use geo_seg::Shape;
+use list_read::{element, naming, place};
 use sexpr_read::Node;
 use smallvec::SmallVec;
 use std::alloc::{AllocError, Global};
@@ -195,26 +197,6 @@ pub fn note_of(
     ))
 }
 
-/// The list that gives an item its name.
-#[tactic(auto, unfolding(crate::specs::Elements::naming))]
-fn naming<'d, 't>(node: Node<'d, 't>) -> Option<Node<'d, 't>>
-    ensures { option_map tree_of result ≡ naming (tree_of node.entry) }
-{
-    for part in node.children() {
-        if is_naming(part) {
-            return Some(part);
-        }
-    }
-    None
-}
-
-#[tactic(auto, unfolding(crate::specs::Elements::is_naming))]
-fn is_naming(node: Node<'_, '_>) -> bool
-    ensures { result ≡ is_naming (tree_of node.entry) }
-{
-    has_head(node, b"tstamp") || has_head(node, b"uuid")
-}
-
 /// The list of one part.
 pub fn one_part(alloc: Global, layers: LayerSet, shape: Shape) -> Parts
     ensures { result ≡ record { layers = layers; shape = shape } ∷ [] }
@@ -317,8 +299,7 @@ pub fn read_graphic(
     ensures items { GivesItems result (graphic_by board.now unit stance kind (tree_of node.entry) lies) }
     ensures ready { IfOk result (λ items. All (IsReady board.now unit) items.items) }
 {
-    // Net 0 is there on each board.
-    let _ = board.left();
+    board.soundness();
     let items = graphic_by(alloc, board, unit, stance, kind, node, lies)?;
     Ok(items)
 }
@@ -335,8 +316,7 @@ pub fn read_text(
     ensures items { GivesItems result (text_by unit about (tree_of node.entry) lies) }
     ensures ready { IfOk result (λ items. All (IsReady board.now unit) items.items) }
 {
-    // Net 0 is there on each board.
-    let _ = board.left();
+    board.soundness();
     let items = text_by(alloc, unit, about, node, lies)?;
     Ok(items)
 }

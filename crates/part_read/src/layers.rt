@@ -1,6 +1,7 @@
 //! Copper layers by their names.
 
-ghost use Rattle.std.specs.Prelude.{◌≡◌, ◌<◌, IfOk, IfSome, IsTrue, option_map};
+ghost use Rattle.std.specs.Prelude.{◌≡◌, ◌<◌, ℕ, List, ◌∷◌, Some, IfOk, IfSome, IsTrue, option_map};
+ghost use Rattle.sexpr_read.specs.Tree.{value};
 ghost use Rattle.copper_layers.specs.Layers.{has_layer, is_within};
 ghost use Rattle.sexpr_read.specs.Views.{tree_of};
 ghost use Rattle.part_read.specs.Elements.{in_needed};
@@ -8,9 +9,10 @@ ghost use Rattle.part_read.specs.LayersOf.{layer_number, listed, layers_listed, 
 ghost use Rattle.part_read.specs.LayersWhere.{layers_of_any};
 ghost use Rattle.part_read.specs.LayerSets.{GivesSet};
 
-use crate::atoms::{first_atom, missing, place, second_atom};
+use crate::atoms::{first_atom, missing, second_atom};
 use board_items::BoardError;
 use copper_layers::{LayerSet, layer_name};
+use list_read::place;
 use sexpr_read::Node;
 
 /// The layer that an atom names, if it is one of copper: all names are tried.
@@ -27,16 +29,35 @@ fn seek_layer(atom: Node<'_, '_>) -> Option<u32>
     None
 }
 
+/// Whether what an atom stands for may begin with this byte; an escape may stand for any.
+fn may_begin(atom: Node<'_, '_>, byte: u8) -> bool
+    ensures { (rest : List ℕ) → value (tree_of atom.entry) ≡ Some (byte ∷ rest) → IsTrue result }
+{
+    let Some(content) = atom.atom() else {
+        return false;
+    };
+    let Some(first) = content.first() else {
+        return false;
+    };
+    *first == byte || *first == b'\\'
+}
+
 /// The layer that an atom names, if it is one of copper.
 pub fn layer_number(atom: Node<'_, '_>) -> Option<u32>
     ensures number { result ≡ layer_number (tree_of atom.entry) }
     ensures below { IfSome result (λ layer. layer < 32) }
 {
-    // Most vias end at the back, whose name is the last.
+    // The 30 inner layers alone begin with this byte.
+    if may_begin(atom, b'I') {
+        return seek_layer(atom);
+    }
+    if atom.is(b"F.Cu") {
+        return Some(0);
+    }
     if atom.is(b"B.Cu") {
         return Some(31);
     }
-    seek_layer(atom)
+    None
 }
 
 // ---- the list of layers of a board

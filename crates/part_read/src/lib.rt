@@ -1,4 +1,4 @@
-//! What all readers of boards share: the elements of a list, atoms, numbers, names, layers, nets, points on a
+//! What all readers of boards share: what the elements of a list say, as numbers, names, layers, nets, points on a
 //! board, and graphics.
 #![tactic(auto)]
 
@@ -6,7 +6,6 @@ mod atoms;
 mod circles;
 mod corners;
 mod drawings;
-mod elements;
 mod figures;
 mod graphics;
 mod layers;
@@ -18,11 +17,10 @@ mod radii;
 mod rounding;
 mod stances;
 
-pub use atoms::{bad_number, first_atom, has_head, has_word, missing, place, second_atom};
+pub use atoms::{bad_number, first_atom, missing, second_atom};
 pub use circles::radius_between;
 pub use corners::Corners;
-pub use drawings::{Kind, corners_of, drawing_of, element, fill_of, spot_in, spots_in, width_of};
-pub use elements::{Wanted, find_elements, pick};
+pub use drawings::{Kind, corners_of, drawing_of, fill_of, spot_in, spots_in, width_of};
 pub use figures::{
     Drawing, Figure, box_core, box_corners, draw, draw_edge, draw_into, first_spot, is_circle,
     is_ring,
@@ -35,7 +33,7 @@ pub use layers::{
     copper_in, drawn_on, layer_at, layer_in, layer_number, layer_of, layers_listed, layers_named,
     layers_through, named,
 };
-pub use names::{name_from, name_in};
+pub use names::name_in;
 pub use nets::{declared_in, net_of};
 pub use numbers::{
     Spot, length_in, number_in, size_at, size_given, size_in, size_of, spot_at, spot_of,

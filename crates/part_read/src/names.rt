@@ -2,31 +2,13 @@
 
 ghost use Rattle.std.specs.Prelude.{◌≡◌, IfOk, option_map};
 ghost use Rattle.sexpr_read.specs.Views.{tree_of};
-ghost use Rattle.part_read.specs.Elements.{text_of, name_among};
+ghost use Rattle.part_read.specs.Elements.{name_among};
 
 use crate::atoms::first_atom;
 use drc_io::Name;
+use list_read::name_from;
 use sexpr_read::Node;
 use std::alloc::{AllocError, Global};
-
-/// What an atom stands for, as a name.
-pub fn name_from(alloc: Global, atom: Node<'_, '_>) -> Result<Name, AllocError>
-    ensures { IfOk result (λ name. name ≡ text_of (tree_of atom.entry)) }
-{
-    match atom.word() {
-        Some(word) => Name::from_slice(alloc, word),
-        None => name_decoded(alloc, atom),
-    }
-}
-
-/// The same, with escapes read.
-fn name_decoded(alloc: Global, atom: Node<'_, '_>) -> Result<Name, AllocError>
-    ensures { IfOk result (λ name. name ≡ text_of (tree_of atom.entry)) }
-{
-    let mut bytes = Vec::new(alloc);
-    atom.value(&mut bytes)?;
-    Ok(Name::of(bytes))
-}
 
 /// The name in a list that gives one, or the empty one where there is no list or no atom in it.
 pub fn name_in(alloc: Global, found: Option<Node<'_, '_>>) -> Result<Name, AllocError>

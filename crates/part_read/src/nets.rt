@@ -5,9 +5,10 @@ ghost use Rattle.board_items.specs.Boards.{name_of};
 ghost use Rattle.sexpr_read.specs.Views.{tree_of};
 ghost use Rattle.part_read.specs.NetsOf.{declared_in, net_among};
 
-use crate::atoms::{first_atom, place};
+use crate::atoms::first_atom;
 use crate::numbers::number_in;
 use board_items::{Board, BoardError};
+use list_read::place;
 use sexpr_read::Node;
 
 /// The number of `(net NUMBER)`, which was declared before.

@@ -9,7 +9,8 @@ use Rattle.board_errors.specs.declared.errors.BoardError.TheVariants.{TooMany}
 use Rattle.board_items.specs.declared.item.Item.{Item}
 use Rattle.board_items.specs.Boards.{PlainBoard}
 use Rattle.part_read.specs.declared.graphics.Ground.{Ground}
-use Rattle.part_read.specs.Elements.{check, place}
+use Rattle.list_read.specs.Answers.{check}
+use Rattle.list_read.specs.Heads.{place}
 use Rattle.part_read.specs.Graphics.{ground_of, one_item, graphic_by, curve_by, text_by}
 use Rattle.zone_read.specs.ZoneOf.{as_it_is}
 use Rattle.pcb_read.specs.declared.sorts.Sort.{Sort}

@@ -8,7 +8,10 @@ use Rattle.board_errors.specs.declared.errors.BoardError.TheVariants.{Missing, B
 use Rattle.board_items.specs.Boards.{PlainBoard}
 use Rattle.part_read.specs.declared.stances.Stance.{Stance}
 use Rattle.part_read.specs.declared.drawings.Kind.{Kind}
-use Rattle.part_read.specs.Elements.{needed, check, place, is_text, has_head, element, in_needed}
+use Rattle.list_read.specs.Answers.{needed, check}
+use Rattle.list_read.specs.Heads.{place, is_text, has_head}
+use Rattle.list_read.specs.Elements.{element}
+use Rattle.part_read.specs.Elements.{in_needed}
 use Rattle.part_read.specs.Numbers.{length_in, size_in, spot_at}
 use Rattle.part_read.specs.LayersOf.{layers_named}
 use Rattle.part_read.specs.NetsOf.{net_of}

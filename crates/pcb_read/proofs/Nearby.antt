@@ -13,7 +13,10 @@ use Rattle.part_read.specs.declared.stances.Stance.{Stance}
 use Rattle.part_read.specs.declared.drawings.Kind.{Kind}
 use Rattle.part_read.specs.declared.graphics.Ground.{Ground}
 use Rattle.part_read.specs.declared.graphics.Ground.TheVariants.{Copper, Outlines, Front, Back, Elsewhere}
-use Rattle.part_read.specs.Elements.{needed, check, place, has_head, element, in_needed, in_given}
+use Rattle.list_read.specs.Answers.{needed, check}
+use Rattle.list_read.specs.Heads.{place, has_head}
+use Rattle.list_read.specs.Elements.{element}
+use Rattle.part_read.specs.Elements.{in_needed, in_given}
 use Rattle.part_read.specs.Numbers.{size_at, spot_of, size_of}
 use Rattle.part_read.specs.LayersOf.{layer_in, layer_of, layers_through, named, drawn_on}
 use Rattle.part_read.specs.NetsOf.{net_of}

@@ -13,7 +13,10 @@ use Rattle.copper_layers.specs.Layers.{has_layer}
 use Rattle.part_read.specs.declared.numbers.Spot.{Spot}
 use Rattle.part_read.specs.declared.drawings.Kind.{Kind}
 use Rattle.part_read.specs.declared.drawings.Kind.TheVariants.{Line, Rect, Circle, Outline}
-use Rattle.part_read.specs.Elements.{◌>>=◌, needed, check, place, has_head, element, in_needed, in_given, atom_among, atom_of}
+use Rattle.list_read.specs.Answers.{◌>>=◌, needed, check}
+use Rattle.list_read.specs.Heads.{place, has_head}
+use Rattle.list_read.specs.Elements.{element}
+use Rattle.part_read.specs.Elements.{in_needed, in_given, atom_among, atom_of}
 use Rattle.part_read.specs.Numbers.{read_as, length_in, size_in, number_in, spot_at, spot_of, size_at, size_of}
 use Rattle.part_read.specs.LayersOf.{each_set, layer_number, ends_in_cu, layer_by, layer_in, copper_by, copper_in, layer_at, layer_of, layers_through, is_all_copper, is_outer, named, layers_named, drawn_on}
 use Rattle.part_read.specs.NetsOf.{declared_in, net_among, net_of}

@@ -8,7 +8,8 @@ use Rattle.board_items.specs.declared.item.Item.{Item}
 use Rattle.board_items.specs.Boards.{PlainBoard}
 use Rattle.board_items.specs.Refusals.{room_of}
 use Rattle.part_read.specs.declared.graphics.Ground.{Ground}
-use Rattle.part_read.specs.Elements.{◌>>=◌, check, place}
+use Rattle.list_read.specs.Answers.{◌>>=◌, check}
+use Rattle.list_read.specs.Heads.{place}
 use Rattle.part_read.specs.Graphics.{ground_of, one_item, graphic_by, curve_by, text_by}
 use Rattle.zone_read.specs.ZoneOf.{as_it_is, zone_of}
 use Rattle.footprint_read.specs.FootprintOf.{Says as FootprintSays}

@@ -3,7 +3,9 @@ use Rattle.std.specs.Prelude.{Result, Ok}
 use Rattle.sexpr_read.specs.Tree.{Tree}
 use Rattle.board_errors.specs.declared.errors.BoardError.{BoardError}
 use Rattle.board_items.specs.Boards.{PlainBoard, with_net}
-use Rattle.part_read.specs.Elements.{◌>>=◌, text_of, atom_of}
+use Rattle.list_read.specs.Answers.{◌>>=◌}
+use Rattle.list_read.specs.Heads.{text_of}
+use Rattle.part_read.specs.Elements.{atom_of}
 use Rattle.part_read.specs.Numbers.{number_in}
 
 -- (net NUMBER NAME)

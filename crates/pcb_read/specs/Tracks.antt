@@ -16,7 +16,10 @@ use Rattle.board_items.proofs.MeasureLemmas.{track_lengths, via_lengths}
 use Rattle.part_read.specs.declared.on_board.Strip.{Strip}
 use Rattle.pcb_read.specs.declared.items.Origin.{Origin}
 use Rattle.pcb_read.specs.declared.items.ViaForm.{ViaForm}
-use Rattle.part_read.specs.Elements.{◌>>=◌, needed, place, element, name_in, has_word, in_needed, in_given}
+use Rattle.list_read.specs.Answers.{◌>>=◌, needed}
+use Rattle.list_read.specs.Heads.{place, has_word}
+use Rattle.list_read.specs.Elements.{element}
+use Rattle.part_read.specs.Elements.{name_in, in_needed, in_given}
 use Rattle.part_read.specs.Numbers.{spot_of, size_at, size_of}
 use Rattle.part_read.specs.LayersOf.{layer_of, layers_through}
 use Rattle.part_read.specs.NetsOf.{net_of}

@@ -14,7 +14,7 @@ ghost use Rattle.pcb_read.specs.ItemsOf.{in_room};
 ghost use Rattle.pcb_read.specs.BoardOf.{with_items, with_found};
 
 use board_items::{Board, BoardError, Item, ItemError};
-use part_read::place;
+use list_read::place;
 use sexpr_read::Node;
 
 /// Appends an item that the board takes.

@@ -6,7 +6,8 @@ ghost use Rattle.part_read.specs.Nodes.{Leaves};
 ghost use Rattle.pcb_read.specs.Nets.{with_net_of};
 
 use board_items::{Board, BoardError};
-use part_read::{first_atom, name_from, number_in, second_atom};
+use list_read::name_from;
+use part_read::{first_atom, number_in, second_atom};
 use sexpr_read::Node;
 use std::alloc::Global;
 

@@ -17,7 +17,8 @@ use crate::spans::Spans;
 use crate::tracks::{track_of, via_of};
 use board_items::{Board, BoardError};
 use copper_layers::LayerSet;
-use part_read::{first_atom, has_head, layers_listed, place};
+use list_read::{has_head, place};
+use part_read::{first_atom, layers_listed};
 use sexpr_read::{Node, Span};
 use std::alloc::{AllocError, Global};
 

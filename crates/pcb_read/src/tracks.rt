@@ -9,10 +9,8 @@ ghost use Rattle.pcb_read.specs.Tracks.{track_of, via_of};
 use crate::items::{Origin, ViaForm, track_along, via_of_form};
 use board_items::{Board, BoardError, Item};
 use copper_layers::LayerSet;
-use part_read::{
-    Strip, Wanted, find_elements, has_word, layer_of, layers_through, name_in, net_of, pick, place,
-    size_given, size_of, spot_of,
-};
+use list_read::{Wanted, find_elements, has_word, pick, place};
+use part_read::{Strip, layer_of, layers_through, name_in, net_of, size_given, size_of, spot_of};
 use sexpr_read::Node;
 use std::alloc::Global;
 
@@ -38,8 +36,7 @@ pub(crate) fn track_of(
     ensures read { Gives result (track_of board.now unit (tree_of node.entry)) }
     ensures ready { IfOk result (IsReady board.now unit) }
 {
-    // Net 0 is there on each board.
-    let _ = board.left();
+    board.soundness();
     let mut found = [None; 6];
     find_elements(node, &SEGMENT, &mut found);
     let a = spot_of(node, pick(&found, 0))?;
@@ -82,8 +79,7 @@ pub(crate) fn via_of(
     ensures read { Gives result (via_of board.now unit (tree_of node.entry)) }
     ensures ready { IfOk result (IsReady board.now unit) }
 {
-    // Net 0 is there on each board.
-    let _ = board.left();
+    board.soundness();
     let mut found = [None; 6];
     find_elements(node, &VIA, &mut found);
     let at = spot_of(node, pick(&found, 0))?;

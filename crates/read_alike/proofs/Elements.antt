@@ -6,7 +6,10 @@ use Rattle.sexpr_read.specs.declared.place.Span.{Span}
 use Rattle.sexpr_read.specs.Tree.{Forest, none, atom, list, Tree, leaf, branch, trees, value, content}
 use Rattle.board_errors.specs.declared.errors.BoardError.{BoardError}
 use Rattle.board_errors.specs.declared.errors.BoardError.TheVariants.{Missing}
-use Rattle.part_read.specs.Elements.{◌>>=◌, place, is_value, is_text, first_is, has_head, element, atom_among, atom_of}
+use Rattle.list_read.specs.Answers.{◌>>=◌}
+use Rattle.list_read.specs.Heads.{place, is_value, is_text, first_is, has_head}
+use Rattle.list_read.specs.Elements.{element}
+use Rattle.part_read.specs.Elements.{atom_among, atom_of}
 use Rattle.read_alike.specs.Alike.{Shift, is_place_word, is_place_head, IsPlaceMoved, AlikeInside, Alike, AlikeTrees}
 use Rattle.read_alike.specs.Agreeing.{Agrees, BothAgree, AlikeParts, FoundAlike, SameAtom}
 

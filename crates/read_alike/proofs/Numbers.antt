@@ -12,7 +12,10 @@ use Rattle.board_errors.specs.declared.errors.BoardError.TheVariants.{BadNumber,
 use Rattle.copper_layers.specs.declared.set.LayerSet.{LayerSet}
 use Rattle.board_items.specs.Boards.{PlainBoard, name_of}
 use Rattle.copper_layers.specs.Layers.{has_layer, layer_names}
-use Rattle.part_read.specs.Elements.{◌>>=◌, needed, place, is_value, has_head, element, in_needed, atom_of, is_naming, naming, text_in, name_among, name_in}
+use Rattle.list_read.specs.Answers.{◌>>=◌, needed}
+use Rattle.list_read.specs.Heads.{place, is_value, has_head}
+use Rattle.list_read.specs.Elements.{element, is_naming, naming}
+use Rattle.part_read.specs.Elements.{in_needed, atom_of, text_in, name_among, name_in}
 use Rattle.part_read.specs.Numbers.{read_as, length_in, size_in, number_in, size_at, size_of}
 use Rattle.part_read.specs.LayersOf.{layer_number, ends_in_cu, layer_by, layer_in, copper_by, copper_in, layer_at, layer_of}
 use Rattle.part_read.specs.NetsOf.{declared_in, net_among, net_of}

@@ -16,7 +16,7 @@ use Rattle.board_items.specs.declared.item.Item.{Item}
 use Rattle.board_items.specs.Measures.{HasLengths}
 use Rattle.board_items.specs.Boards.{is_near}
 use Rattle.part_read.specs.declared.numbers.Spot.{Spot}
-use Rattle.part_read.specs.Elements.{◌>>=◌, needed}
+use Rattle.list_read.specs.Answers.{◌>>=◌, needed}
 use Rattle.part_read.specs.OnBoard.{tested, fits_board}
 use Rattle.read_alike.specs.Alike.{Shift}
 use Rattle.read_alike.specs.Agreeing.{Agrees}

@@ -8,7 +8,9 @@ use Rattle.sexpr_read.specs.Tree.{Forest, none, atom, list, Tree, leaf, branch, 
 use Rattle.board_errors.specs.declared.errors.BoardError.{BoardError}
 use Rattle.board_errors.specs.declared.errors.BoardError.TheVariants.{Missing, BadNumber}
 use Rattle.part_read.specs.declared.numbers.Spot.{Spot}
-use Rattle.part_read.specs.Elements.{◌>>=◌, place, first_is, has_head, atom_of}
+use Rattle.list_read.specs.Answers.{◌>>=◌}
+use Rattle.list_read.specs.Heads.{place, first_is, has_head}
+use Rattle.part_read.specs.Elements.{atom_of}
 use Rattle.part_read.specs.Numbers.{read_as, length_in, spot_at, spot_of}
 use Rattle.read_alike.specs.Alike.{Shift, is_place_word, is_place_head, moved_by, both, place_moved, IsPlaceMoved, Alike, AlikeTrees}
 use Rattle.read_alike.specs.Agreeing.{Agrees, AlikeParts, SameAtom, Same}

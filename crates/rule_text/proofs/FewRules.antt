@@ -8,11 +8,13 @@ use Rattle.sexpr_read.specs.Places.{PartsStandBetween}
 use Rattle.rule_text.specs.declared.error.RuleError.{RuleError}
 use Rattle.rule_text.specs.declared.error.RuleError.TheVariants.{Version, Bad}
 use Rattle.rule_text.specs.Short.{AllShort}
-use Rattle.rule_text.specs.Forms.{◌>>=◌, check, place, text_of, has_head, has_word_head, name_at, clauses}
+use Rattle.list_read.specs.Answers.{◌>>=◌, check}
+use Rattle.list_read.specs.Heads.{place, text_of, has_head, has_word_head, behind_head}
+use Rattle.rule_text.specs.Forms.{name_at, clauses}
 use Rattle.rule_text.specs.RulesOf.{PlainRules, PlainDraft, rule_by, blank, is_asked, is_version, no_rules, with_clauses, with_rule, with_rules, rules_of, file_of}
 use Rattle.rule_text.specs.RuleText.{Says, SaysAfter}
-use Rattle.rule_text.specs.ListText.{behind_one, no_form, nothing_more, list_among, list_of, moved, SaysListAfter, SaysList}
-use Rattle.rule_text.proofs.Shortness.{forms_few, forms_short, behind_one_few}
+use Rattle.rule_text.specs.ListText.{no_form, nothing_more, list_among, list_of, moved, SaysListAfter, SaysList}
+use Rattle.rule_text.proofs.Shortness.{forms_few, forms_short, behind_head_few}
 
 -- where both steps give a value, so does the first
 both_give : {A B : Type 0} (x : Result A RuleError) (f : A → Result B RuleError) (b : B) → (x >>= f) ≡ Ok b → (a : A) × (x ≡ Ok a) × (f a ≡ Ok b)
@@ -69,17 +71,17 @@ abbrev alone : List Tree → PlainRules → Result PlainRules RuleError
 alone ts rules = nothing_more ts >>= λ alone. given rules
 
 abbrev of_list : ℕ → Tree → List Tree → Result PlainRules RuleError
-of_list size t ts = rules_of (no_form size ts) (behind_one (parts t)) >>= λ rules. alone ts rules
+of_list size t ts = rules_of (no_form size ts) (behind_head t) >>= λ rules. alone ts rules
 
 among : (size : ℕ) (ts : List Tree) (rules : PlainRules) → AllShort ts → list_among size ts ≡ Ok rules → length rules.rules ≤ 33554432
 among size [] rules short h = absurd (cc)
 among size (t ∷ ts) rules short h =
     let named = both_give (check (Bad 0) (has_word_head (codes "rules") t)) (λ named. of_list size t ts) rules h in
-    let found = both_give (rules_of (no_form size ts) (behind_one (parts t))) (alone ts) rules named.2 in
+    let found = both_give (rules_of (no_form size ts) (behind_head t)) (alone ts) rules named.2 in
     let last = both_give (nothing_more ts) (λ alone. given found.0) rules found.2 in
     let is = ap (λ (r : PlainRules). length r.rules) (same_value found.0 rules last.2) in
-    let many = of_forms (no_form size ts) (behind_one (parts t)) found.0 found.1 in
-    let few = behind_one_few t short.0 in
+    let many = of_forms (no_form size ts) (behind_head t) found.0 found.1 in
+    let few = behind_head_few t short.0 in
     omega (arith, is, many, few)
 
 here_few : (size : ℕ) (root : Tree) (rules : PlainRules) → AllShort (parts root) → list_of size root ≡ Ok rules → length rules.rules ≤ 33554432

@@ -14,14 +14,16 @@ use Rattle.cond_lang.specs.Conditions.{reading}
 use Rattle.cond_lang.specs.Trees.{Tree as CondTree}
 use Rattle.rule_text.specs.declared.error.RuleError.{RuleError}
 use Rattle.rule_text.specs.declared.error.RuleError.TheVariants.{Version, Bad, BadNumber}
-use Rattle.rule_text.specs.Forms.{◌>>=◌, needed, check, place, bad, text_of, is_text, has_head, has_word_head, as_atom, second_among, name_at, single_among, atom_at, clauses}
+use Rattle.list_read.specs.Answers.{◌>>=◌, needed, check}
+use Rattle.list_read.specs.Heads.{place, text_of, is_text, has_head, has_word_head, behind_head}
+use Rattle.rule_text.specs.Forms.{bad, as_atom, second_among, name_at, single_among, atom_at, clauses}
 use Rattle.rule_text.specs.LayersOf.{layer_named, layer_in}
 use Rattle.rule_text.specs.Limits.{kind_named, is_length, length_from, length_in, PlainLimits, with_least, with_wished, with_most, with_limit, with_limits, unlimited, bans_nothing, with_ban, with_bans, cond_from, cond_in}
 use Rattle.rule_text.specs.RulesOf.{PlainRules, PlainDraft, severity_named, severity_in, limited, banned, claim_among, claimed, constraint_by, constraint_in, has_kind, with_layer, with_severity, with_cond, with_kind, with_constraint, with_clause, with_clauses, is_asked, blank, with_rule, with_rules, is_version, no_rules, rules_of}
-use Rattle.rule_text.specs.ListText.{behind_one, no_form, nothing_more, list_among, list_of}
+use Rattle.rule_text.specs.ListText.{no_form, nothing_more, list_among, list_of}
 use Rattle.rule_text.specs.Short.{AllShort, IsShort}
 use Rattle.rule_text.specs.Near.{IsNear, NearIfErr}
-use Rattle.rule_text.proofs.Shortness.{head_short, tail_short, parts_short, behind_one_short, clauses_short, atom_short, claim_short}
+use Rattle.rule_text.proofs.Shortness.{head_short, tail_short, parts_short, behind_head_short, clauses_short, atom_short, claim_short}
 
 -- ---- one after another
 
@@ -238,7 +240,7 @@ near_among : (size : ℕ) (ts : List Tree) → size ≤ 33554432 → AllShort ts
 near_among size [] n h = omega arith
 near_among size (t ∷ ts) n h =
     near_then (check (Bad 0) (has_word_head (codes "rules") t)) _ (near_check (Bad 0) (has_word_head (codes "rules") t) (omega arith)) (λ u e.
-    near_then (rules_of (no_form size ts) (behind_one (parts t))) _ (near_rules_of (no_form size ts) (behind_one (parts t)) (near_no_form size ts n h.1) (behind_one_short t h.0)) (λ r k.
+    near_then (rules_of (no_form size ts) (behind_head t)) _ (near_rules_of (no_form size ts) (behind_head t) (near_no_form size ts n h.1) (behind_head_short t h.0)) (λ r k.
     near_then (nothing_more ts) _ (near_more ts h.1) (λ v m. tt)))
 
 pub near_list : (size : ℕ) (root : Tree) → size ≤ 33554432 → AllShort (parts root) → NearIfErr (list_of size root)

@@ -4,9 +4,10 @@ use Rattle.std.specs.Prelude.{Ok, slice_range}
 use Rattle.std.proofs.lemmas.List.{length-take, length-drop}
 use Rattle.sexpr_read.specs.Tree.{Forest, none, atom, list, Tree, leaf, branch, trees, parts, is_list, unescaped}
 use Rattle.sexpr_read.specs.Places.{IsSlice, StandBetween, PartsStandBetween}
-use Rattle.rule_text.specs.Forms.{text_of, single_among, as_atom, atom_at, behind_two, clauses, ◌>>=◌}
+use Rattle.list_read.specs.Answers.{◌>>=◌}
+use Rattle.list_read.specs.Heads.{text_of, behind_one}
+use Rattle.rule_text.specs.Forms.{single_among, as_atom, atom_at, behind_two, clauses}
 use Rattle.rule_text.specs.RulesOf.{claim_among}
-use Rattle.rule_text.specs.ListText.{behind_one}
 use Rattle.rule_text.specs.Short.{AreShort, AllShort, IsShort}
 
 -- ---- parts of short trees
@@ -40,15 +41,17 @@ pub parts_few : (t : Tree) → IsShort t → length (parts t) ≤ 33554432
 parts_few (leaf s q c) h = omega arith
 parts_few (branch s f) h = h.1.0
 
-pub behind_one_short : (t : Tree) → IsShort t → AllShort (behind_one (parts t))
-behind_one_short t h = by_list (parts t) (parts_short t h)
+pub behind_head_short : (t : Tree) → IsShort t → AllShort (behind_head t)
+unfolding behind_head
+behind_head_short t h = by_list (parts t) (parts_short t h)
   where
     by_list : (ts : List Tree) → AllShort ts → AllShort (behind_one ts)
     by_list [] k = tt
     by_list (x ∷ ts) k = k.1
 
-pub behind_one_few : (t : Tree) → IsShort t → length (behind_one (parts t)) ≤ 33554432
-behind_one_few t h = by_list (parts t) (parts_few t h)
+pub behind_head_few : (t : Tree) → IsShort t → length (behind_head t) ≤ 33554432
+unfolding behind_head
+behind_head_few t h = by_list (parts t) (parts_few t h)
   where
     by_list : (ts : List Tree) → length ts ≤ 33554432 → length (behind_one ts) ≤ 33554432
     by_list [] k = omega arith

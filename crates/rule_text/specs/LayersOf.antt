@@ -1,5 +1,5 @@
 -- The layers that a rule acts on, by their names.
-use Rattle.std.specs.Prelude.{ℕ, List, [], ◌∷◌, codes, Option, Some, Result, if◌then◌else◌}
+use Rattle.std.specs.Prelude.{ℕ, ◌∷◌, codes, Option, Some, Result, if◌then◌else◌}
 use Rattle.std.specs.List.{position_from}
 use Rattle.std.specs.Option.{option_map}
 use Rattle.sexpr_read.specs.Tree.{Tree}
@@ -8,7 +8,9 @@ use Rattle.cond_lang.specs.declared.rule.RuleLayer.{RuleLayer}
 use Rattle.cond_lang.specs.declared.rule.RuleLayer.TheVariants.{Outer, Inner, One}
 use Rattle.rule_text.specs.declared.error.RuleError.{RuleError}
 use Rattle.rule_text.specs.declared.error.RuleError.TheVariants.{Bad}
-use Rattle.rule_text.specs.Forms.{◌>>=◌, needed, place, is_text, atom_at}
+use Rattle.list_read.specs.Answers.{◌>>=◌, needed}
+use Rattle.list_read.specs.Heads.{place, is_text}
+use Rattle.rule_text.specs.Forms.{atom_at}
 
 -- the copper layer that an atom names: the place of its name
 unfoldable pub layer_number : Tree → Option ℕ

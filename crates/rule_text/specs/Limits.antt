@@ -11,7 +11,9 @@ use Rattle.cond_lang.specs.Trees.{Tree as CondTree}
 use Rattle.cond_lang.specs.Conditions.{reading}
 use Rattle.rule_text.specs.declared.error.RuleError.{RuleError}
 use Rattle.rule_text.specs.declared.error.RuleError.TheVariants.{Cond, BadNumber}
-use Rattle.rule_text.specs.Forms.{◌>>=◌, needed, place, bad, text_of, is_text, has_head, atom_at}
+use Rattle.list_read.specs.Answers.{◌>>=◌, needed}
+use Rattle.list_read.specs.Heads.{place, text_of, is_text, has_head}
+use Rattle.rule_text.specs.Forms.{bad, atom_at}
 
 -- ---- kinds
 

@@ -8,12 +8,10 @@ use Rattle.sexpr_read.specs.Spelling.{SpellsAll}
 use Rattle.sexpr_read.specs.Refusals.{refusal_of_all}
 use Rattle.rule_text.specs.declared.error.RuleError.{RuleError}
 use Rattle.rule_text.specs.declared.error.RuleError.TheVariants.{Text, Version, Bad, Cond, BadNumber, OutOfMemory}
-use Rattle.rule_text.specs.Forms.{◌>>=◌, check, place, bad, has_word_head}
+use Rattle.list_read.specs.Answers.{◌>>=◌, check}
+use Rattle.list_read.specs.Heads.{place, has_word_head, behind_head}
+use Rattle.rule_text.specs.Forms.{bad}
 use Rattle.rule_text.specs.RulesOf.{PlainRules, rules_of}
-
-abbrev pub behind_one : List Tree → List Tree
-behind_one [] = []
-behind_one (t ∷ ts) = ts
 
 -- the refusal where the list has no form: what stands behind the list comes before the end of the text
 abbrev pub no_form : ℕ → List Tree → RuleError
@@ -29,7 +27,7 @@ abbrev pub list_among : ℕ → List Tree → Result PlainRules RuleError
 list_among size [] = Err (Bad 0)
 list_among size (t ∷ ts) = do
   named ← check (Bad 0) (has_word_head (codes "rules") t)
-  rules ← rules_of (no_form size ts) (behind_one (parts t))
+  rules ← rules_of (no_form size ts) (behind_head t)
   alone ← nothing_more ts
   Ok rules
 

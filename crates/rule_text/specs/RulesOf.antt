@@ -16,7 +16,9 @@ use Rattle.cond_lang.specs.Rules.{PlainRule, PlainConstraint}
 use Rattle.cond_lang.specs.Trees.{Tree as CondTree}
 use Rattle.rule_text.specs.declared.error.RuleError.{RuleError}
 use Rattle.rule_text.specs.declared.error.RuleError.TheVariants.{Version, Bad}
-use Rattle.rule_text.specs.Forms.{◌>>=◌, needed, check, place, bad, text_of, is_text, has_head, name_at, atom_at, clauses}
+use Rattle.list_read.specs.Answers.{◌>>=◌, needed, check}
+use Rattle.list_read.specs.Heads.{place, text_of, is_text, has_head}
+use Rattle.rule_text.specs.Forms.{bad, name_at, atom_at, clauses}
 use Rattle.rule_text.specs.LayersOf.{layer_in}
 use Rattle.rule_text.specs.Limits.{kind_named, PlainLimits, with_limits, unlimited, bans_nothing, with_bans, cond_in}
 

@@ -2,7 +2,7 @@
 -- parts.
 use Rattle.std.specs.Prelude.{◌≤◌, List, [], ◌∷◌, length}
 use Rattle.sexpr_read.specs.Tree.{Forest, none, atom, list, Tree, leaf, branch, trees}
-use Rattle.rule_text.specs.Forms.{text_of}
+use Rattle.list_read.specs.Heads.{text_of}
 
 abbrev pub AreShort : Forest → Type 0
 AreShort none = Unit {0}

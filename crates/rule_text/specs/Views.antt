@@ -1,9 +1,7 @@
 -- What the reader's values stand for.
-use Rattle.std.specs.Prelude.{◌≡◌, ◌⊎◌, ℤ, map, Option, Some, None, Result, Ok, Err}
+use Rattle.std.specs.Prelude.{ℤ, map, Option, Some, None, Result, Ok, Err}
 use Rattle.std.specs.Option.{option_map}
-use Rattle.sexpr_read.specs.declared.view.Node.{Node}
-use Rattle.sexpr_read.specs.Tree.{Tree}
-use Rattle.sexpr_read.specs.Views.{tree_of}
+use Rattle.list_read.specs.Nodes.{GivesUnless}
 use Rattle.cond_lang.specs.Rules.{plain_rule, plain_constraint}
 use Rattle.cond_lang.specs.Trees.{tree_of as cond_tree_of}
 use Rattle.rule_text.specs.declared.error.RuleError.{RuleError}
@@ -40,12 +38,6 @@ plain_limits l = record { least = nm_if l.least; wished = l.wished; most = nm_if
 abbrev pub plain_draft : Draft → PlainDraft
 plain_draft d = record { number = d.number; layer = d.layer; severity = d.severity; cond = option_map cond_tree_of d.cond; constraints = map plain_constraint d.constraints.items; notes = map plain_note d.notes.items }
 
--- the tree of a node that was found
-abbrev pub tree_in : Result Node RuleError → Result Tree RuleError
-tree_in (Ok node) = Ok (tree_of node)
-tree_in (Err e) = Err e
-
 -- the call gives a value that stands for this answer, unless memory ran out
 abbrev pub Gives : {T A : Type 0} → (T → A) → Result T RuleError → Result A RuleError → Type 0
-Gives view (Ok x) answer = answer ≡ Ok (view x)
-Gives view (Err e) answer = (e ≡ OutOfMemory) ⊎ (answer ≡ Err e)
+Gives view result answer = GivesUnless OutOfMemory view result answer

@@ -8,11 +8,13 @@ ghost use Rattle.rule_text.specs.Forms.{clauses};
 ghost use Rattle.rule_text.specs.Limits.{cond_from, cond_in};
 ghost use Rattle.rule_text.specs.RulesOf.{claim_among};
 ghost use Rattle.rule_text.specs.Short.{IsShort};
-ghost use Rattle.rule_text.specs.Views.{tree_in, Gives};
+ghost use Rattle.list_read.specs.Nodes.{tree_in};
+ghost use Rattle.rule_text.specs.Views.{Gives};
 
 use crate::error::RuleError;
-use crate::forms::{as_atom, bad, clauses, place};
+use crate::forms::{as_atom, bad, clauses};
 use cond_lang::{Cond, CondError, parse_cond};
+use list_read::place;
 use sexpr_read::Node;
 use std::alloc::Global;
 

@@ -13,9 +13,10 @@ ghost use Rattle.rule_text.specs.Views.{Gives};
 use crate::bans::{NOTHING, bans_in};
 use crate::conds::{claim_at, cond_in};
 use crate::error::RuleError;
-use crate::forms::{clauses, has_head, name_at};
+use crate::forms::{clauses, name_at};
 use crate::lengths::{limits_in, nm_of};
 use cond_lang::{Constraint, Family, Kind};
+use list_read::has_head;
 use sexpr_read::Node;
 use std::alloc::Global;
 

@@ -1,51 +1,20 @@
-//! Lists by their heads, and the parts behind them.
+//! The parts of a list behind its head.
 
-ghost use Rattle.std.specs.Prelude.{◌≡◌, IfOk};
+ghost use Rattle.std.specs.Prelude.{◌≡◌};
 ghost use Rattle.sexpr_read.specs.Views.{tree_of, trees_left};
-ghost use Rattle.rule_text.specs.Forms.{place, text_of, has_head, has_word_head, as_atom, name_at, atom_at, clauses};
-ghost use Rattle.rule_text.specs.Views.{tree_in};
+ghost use Rattle.list_read.specs.Heads.{place};
+ghost use Rattle.list_read.specs.Nodes.{tree_in};
+ghost use Rattle.rule_text.specs.Forms.{as_atom, name_at, atom_at, clauses};
 
 use crate::error::RuleError;
-use drc_io::Name;
+use list_read::place;
 use sexpr_read::{Children, Node};
-use std::alloc::{AllocError, Global};
-
-/// Where a node begins in the text.
-pub(crate) fn place(node: Node<'_, '_>) -> u32
-    ensures { result ≡ place (tree_of node.entry) }
-{
-    node.span().at
-}
 
 /// Bad, at this node.
 pub(crate) fn bad(node: Node<'_, '_>) -> RuleError
     ensures { result ≡ RuleError.Bad (place (tree_of node.entry)) }
 {
     RuleError::Bad { at: place(node) }
-}
-
-/// Whether it is a list whose first part stands for this text.
-#[tactic(auto, unfolding(crate::specs::Forms::has_head))]
-pub(crate) fn has_head(node: Node<'_, '_>, head: &[u8]) -> bool
-    ensures { result ≡ has_head head.now (tree_of node.entry) }
-{
-    let mut parts = node.children();
-    match parts.next() {
-        None => false,
-        Some(first) => first.is(head),
-    }
-}
-
-/// The same, where the first part does not stand in quotes.
-#[tactic(auto, unfolding(crate::specs::Forms::has_word_head))]
-pub(crate) fn has_word_head(node: Node<'_, '_>, head: &[u8]) -> bool
-    ensures { result ≡ has_word_head head.now (tree_of node.entry) }
-{
-    let mut parts = node.children();
-    match parts.next() {
-        None => false,
-        Some(first) => first.is(head) && !first.quoted(),
-    }
 }
 
 /// An atom, and no list in its place.
@@ -97,23 +66,4 @@ pub(crate) fn clauses<'d, 't>(list: Node<'d, 't>) -> Children<'d, 't>
     parts.next();
     parts.next();
     parts
-}
-
-/// What an atom stands for, as a name.
-pub(crate) fn name_from(alloc: Global, atom: Node<'_, '_>) -> Result<Name, AllocError>
-    ensures { IfOk result (λ name. name ≡ text_of (tree_of atom.entry)) }
-{
-    match atom.word() {
-        Some(word) => Name::from_slice(alloc, word),
-        None => name_decoded(alloc, atom),
-    }
-}
-
-/// The same, with escapes read.
-fn name_decoded(alloc: Global, atom: Node<'_, '_>) -> Result<Name, AllocError>
-    ensures { IfOk result (λ name. name ≡ text_of (tree_of atom.entry)) }
-{
-    let mut bytes = Vec::new(alloc);
-    atom.value(&mut bytes)?;
-    Ok(Name::of(bytes))
 }

@@ -3,14 +3,16 @@
 ghost use Rattle.std.specs.Prelude.{◌≡◌};
 ghost use Rattle.drc_io.specs.Lengths.{IsLengthIfSome};
 ghost use Rattle.sexpr_read.specs.Views.{tree_of, trees_left};
-ghost use Rattle.rule_text.specs.Forms.{clauses, place};
+ghost use Rattle.list_read.specs.Heads.{place};
+ghost use Rattle.rule_text.specs.Forms.{clauses};
 ghost use Rattle.rule_text.specs.Limits.{length_in, with_least, with_wished, with_most, with_limit, with_limits, unlimited};
 ghost use Rattle.rule_text.specs.Views.{nm_in, nm_if, plain_limits, Gives};
 
 use crate::error::RuleError;
-use crate::forms::{atom_at, bad, clauses, has_head, place};
+use crate::forms::{atom_at, bad, clauses};
 use crate::limits::{Length, Limits};
 use exact_dec::{Nm, with_unit};
+use list_read::{has_head, place};
 use sexpr_read::Node;
 
 /// 500 mm.

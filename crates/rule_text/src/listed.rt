@@ -2,30 +2,22 @@
 
 ghost use Rattle.std.specs.Prelude.{◌≡◌, ◌≤◌};
 ghost use Rattle.sexpr_read.specs.Tree.{parts};
-ghost use Rattle.sexpr_read.specs.Views.{tree_of, trees_left};
-ghost use Rattle.rule_text.specs.ListText.{behind_one, list_of, moved_text, moved_error};
+ghost use Rattle.sexpr_read.specs.Views.{tree_of};
+ghost use Rattle.rule_text.specs.ListText.{list_of, moved_text, moved_error};
 ghost use Rattle.rule_text.specs.Near.{IsNear, IsNearText};
 ghost use Rattle.rule_text.specs.Short.{AllShort, IsShort};
 ghost use Rattle.rule_text.specs.Views.{plain_rules, Gives};
 
 use crate::error::RuleError;
-use crate::forms::{bad, has_word_head};
+use crate::forms::bad;
 use crate::reading::rules_of;
 use crate::rules::Rules;
-use sexpr_read::{Children, Node, TextError};
+use list_read::{behind_head, has_word_head};
+use sexpr_read::{Node, TextError};
 use std::alloc::Global;
 
-/// What stands behind the head.
-fn behind_head<'d, 't>(list: Node<'d, 't>) -> Children<'d, 't>
-    ensures { trees_left result ≡ behind_one (parts (tree_of list.entry)) }
-{
-    let mut parts = list.children();
-    parts.next();
-    parts
-}
-
 /// The rules of a text of this length that is one list `(rules ..)`, its head a word, by its own places.
-#[tactic(auto, using(crate::proofs::Shortness::behind_one_few, crate::proofs::Shortness::behind_one_short, crate::proofs::Shortness::first_short), unfolding(crate::specs::ListText::list_of))]
+#[tactic(auto, using(crate::proofs::Shortness::behind_head_few, crate::proofs::Shortness::behind_head_short, crate::proofs::Shortness::first_short), unfolding(crate::specs::ListText::list_of))]
 pub(crate) fn list_of(alloc: Global, size: u32, root: Node<'_, '_>) -> Result<Rules, RuleError>
     requires { AllShort (parts (tree_of root)) }
     ensures { Gives plain_rules result (list_of size (tree_of root.entry)) }

@@ -3,7 +3,8 @@
 ghost use Rattle.std.specs.Prelude.{◌≡◌, ◌<◌, ◌≤◌, ◌+◌, length, IfOk, Ok};
 ghost use Rattle.sexpr_read.specs.Views.{tree_of, trees_left};
 ghost use Rattle.cond_lang.specs.Rules.{plain_rule};
-ghost use Rattle.rule_text.specs.Forms.{clauses, place};
+ghost use Rattle.list_read.specs.Heads.{place};
+ghost use Rattle.rule_text.specs.Forms.{clauses};
 ghost use Rattle.rule_text.specs.RulesOf.{severity_in, severity_named, with_layer, with_severity, with_cond, noted, with_constraint, with_clause, with_clauses, is_asked, rule_by, with_rule, with_rules, is_version, no_rules, rules_of};
 ghost use Rattle.rule_text.specs.Short.{AllShort, IsShort};
 ghost use Rattle.rule_text.specs.Views.{plain_draft, plain_lists, plain_rules, Gives};
@@ -12,13 +13,14 @@ use crate::conds::cond_in;
 use crate::constraints::{constraint_in, has_kind, is_asked, kind_named};
 use crate::draft::Draft;
 use crate::error::RuleError;
-use crate::forms::{atom_at, bad, clauses, has_head, name_at, name_from, place};
+use crate::forms::{atom_at, bad, clauses, name_at};
 use crate::layers::layer_in;
 use crate::lists::Lists;
 use crate::notes::{RuleNote, RuleNotes};
 use crate::rules::{RuleList, Rules};
 use cond_lang::{Constraints, Rule, RuleLayer, Severity};
 use drc_io::Name;
+use list_read::{has_head, name_from, place};
 use sexpr_read::{Children, Node};
 use std::alloc::Global;
 

@@ -4,7 +4,8 @@ use Rattle.sexpr_read.specs.Tree.{Tree}
 use Rattle.board_errors.specs.declared.errors.BoardError.{BoardError}
 use Rattle.board_items.specs.declared.item.Item.{Item}
 use Rattle.board_items.specs.Boards.{PlainBoard}
-use Rattle.part_read.specs.Elements.{◌>>=◌, has_head}
+use Rattle.list_read.specs.Answers.{◌>>=◌}
+use Rattle.list_read.specs.Heads.{has_head}
 use Rattle.part_read.specs.Lists.{before}
 use Rattle.geo_seg.specs.declared.shapes.Shape.{Shape}
 use Rattle.copper_layers.specs.declared.set.LayerSet.{LayerSet}

@@ -16,7 +16,10 @@ use Rattle.board_items.specs.Boards.{PlainBoard}
 use Rattle.board_items.specs.Refusals.{room_of}
 use Rattle.part_read.specs.declared.numbers.Spot.{Spot}
 use Rattle.part_read.specs.declared.stances.Stance.{Stance}
-use Rattle.part_read.specs.Elements.{◌>>=◌, needed, check, place, text_of, is_text, has_head, element, atom_of, in_needed, name_in}
+use Rattle.list_read.specs.Answers.{◌>>=◌, needed, check}
+use Rattle.list_read.specs.Heads.{place, text_of, is_text, has_head}
+use Rattle.list_read.specs.Elements.{element}
+use Rattle.part_read.specs.Elements.{atom_of, in_needed, name_in}
 use Rattle.part_read.specs.LayersOf.{layer_in, layers_named, named}
 use Rattle.part_read.specs.LayersWhere.{layers_of_any}
 use Rattle.part_read.specs.NetsOf.{net_of}

@@ -9,7 +9,7 @@ ghost use Rattle.sexpr_read.specs.Tree.{parts};
 ghost use Rattle.sexpr_read.specs.Views.{tree_of};
 ghost use Rattle.part_read.specs.Nodes.{Gives};
 ghost use Rattle.part_read.specs.Lists.{GivesItems};
-ghost use Rattle.part_read.specs.Elements.{element};
+ghost use Rattle.list_read.specs.Elements.{element};
 ghost use Rattle.part_read.specs.NetsOf.{net_of};
 ghost use Rattle.part_read.specs.Figures.{first_of};
 ghost use Rattle.zone_read.specs.Taking.{TakesFill};
@@ -19,10 +19,10 @@ use board_items::{Bans, Board, BoardError, Boxed, Item, Part, What};
 use copper_layers::LayerSet;
 use drc_io::Name;
 use geo_seg::{Core, Poly, Shape};
+use list_read::{element, has_head, name_from, place};
 use part_read::{
-    Corners, Spot, Stance, around, corners_of, element, first_atom, has_head, layer_in,
-    layers_named, missing, name_from, name_of_list, named, net_of, no_parts, no_radius, one_part,
-    place, plain_item, points_stood,
+    Corners, Spot, Stance, around, corners_of, first_atom, layer_in, layers_named, missing,
+    name_of_list, named, net_of, no_parts, no_radius, one_part, plain_item, points_stood,
 };
 use sexpr_read::Node;
 use std::alloc::{AllocError, Global};
@@ -42,8 +42,7 @@ fn declared_net(board: &Board, node: Node<'_, '_>) -> Result<u32, BoardError>
     ensures net { result ≡ net_of board.now (tree_of node.entry) }
     ensures declared { IfOk result (λ net. is_some (name_of board.now net) ≡ true) }
 {
-    // What holds of each board holds of this one.
-    let _ = board.left();
+    board.soundness();
     net_of(board, element(node, b"net"))
 }
 

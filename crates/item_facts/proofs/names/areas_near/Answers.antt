@@ -13,6 +13,6 @@ returns c =
     let ids = c.args.ids.now in
     let names = c.loop-id.names.items in
     subst (λ (list : List (List ℕ)). AreNamesOf (MeetsArea c.args.item.now) items list) (sym c.of.ensures)
-    (names_of_picked (MeetsArea c.args.item.now) 0 c.args.board.now.next_id items c.left.ensures.sound.ids 0 ids c.requires.rises c.requires.areas names
+    (names_of_picked (MeetsArea c.args.item.now) 0 c.args.board.now.next_id items c.soundness.ensures.sound.ids 0 ids c.requires.rises c.requires.areas names
     (at_end (MeetsArea c.args.item.now) (picked items ids) names
     (subst (λ (left : List (ℕ × Item)). AreFront (MeetsArea c.args.item.now) (picked items ids) left names) (picked_past items ids c.loop-id.id-index c.loop-id-test.false) c.loop-id.invariant)))

@@ -4,7 +4,8 @@ use Rattle.sexpr_read.specs.Views.{tree_of}
 use Rattle.board_errors.specs.declared.errors.BoardError.{BoardError}
 use Rattle.copper_layers.specs.declared.set.LayerSet.{LayerSet}
 use Rattle.board_items.specs.declared.item.Item.{Item}
-use Rattle.part_read.specs.Elements.{element, in_needed}
+use Rattle.list_read.specs.Elements.{element}
+use Rattle.part_read.specs.Elements.{in_needed}
 use Rattle.part_read.specs.LayersOf.{layers_named}
 use Rattle.part_read.specs.Nodes.{Gives}
 use Rattle.part_read.proofs.Shapes.{clean}

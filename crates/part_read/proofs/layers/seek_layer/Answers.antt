@@ -3,8 +3,9 @@ use Rattle.sexpr_read.specs.Views.{tree_of}
 use Rattle.copper_layers.specs.Layers.{layer_names}
 use Rattle.part_read.specs.LayersOf.{layer_number}
 use Rattle.std.specs.List.{position_from}
-use Rattle.part_read.specs.Elements.{is_text}
-use Rattle.part_read.proofs.LayerNames.{number_step, none_left, text_is}
+use Rattle.list_read.specs.Heads.{is_text}
+use Rattle.list_read.proofs.Words.{name_step, text_is}
+use Rattle.part_read.proofs.LayerNames.{none_left}
 use Rattle.part_read.proofs.layers.seek_layer.Goals as goal
 
 pub returns-then-is-clause-number : goal.returns-then-is-clause-number
@@ -12,7 +13,7 @@ unfolding layer_number
 returns-then-is-clause-number c =
     let atom = tree_of c.args.atom in
     let layer = c.loop-layer.layer in
-    let step = number_step layer layer layer_names atom c.layer_name.result.now c.layer_name.ensures in
+    let step = name_step layer layer layer_names atom c.layer_name.result.now c.layer_name.ensures in
     let named = text_is atom c.layer_name.result.now c.is.result c.is.ensures ∙ c.if-is.true in
     sym (ap (λ (b : Bool). cond b (Some layer) (position_from (is_text atom) (layer + 1) (drop (layer + 1) layer_names))) named) ∙ sym step ∙ c.loop-layer.invariant
 
@@ -20,7 +21,7 @@ pub loop-layer-preserved : goal.loop-layer-preserved
 loop-layer-preserved c =
     let atom = tree_of c.args.atom in
     let layer = c.loop-layer.layer in
-    let step = number_step layer layer layer_names atom c.layer_name.result.now c.layer_name.ensures in
+    let step = name_step layer layer layer_names atom c.layer_name.result.now c.layer_name.ensures in
     let named = text_is atom c.layer_name.result.now c.is.result c.is.ensures ∙ c.if-is.false in
     sym (ap (λ (b : Bool). cond b (Some layer) (position_from (is_text atom) (layer + 1) (drop (layer + 1) layer_names))) named) ∙ sym step ∙ c.loop-layer.invariant
 

@@ -1,7 +1,7 @@
 use Rattle.std.proofs.Common.{◌≡◌, ◌∙◌, sym, ap, subst, ℕ, List, length, codes, true, Some, Ok}
 use Rattle.sexpr_read.specs.Views.{tree_of}
 use Rattle.board_items.specs.declared.item.Item.{Item}
-use Rattle.part_read.specs.Elements.{has_head}
+use Rattle.list_read.specs.Heads.{has_head}
 use Rattle.part_read.specs.Lists.{before}
 use Rattle.zone_read.specs.ZoneOf.{fill_layer, fill_in_room, fills_after}
 use Rattle.part_read.specs.Ready.{AreReady}

@@ -1,4 +1,4 @@
-use Rattle.std.proofs.Common.{List, pos, sym, subst}
+use Rattle.std.proofs.Common.{pos, sym, subst}
 use Rattle.std.specs.List.{All}
 use Rattle.std.proofs.lemmas.List.Elements.{All-filter}
 use Rattle.geo_seg.specs.Boxes.{FitsWithin}

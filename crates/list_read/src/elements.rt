@@ -1,11 +1,49 @@
-//! The elements of a list, found in one walk over its parts.
+//! The elements of a list: one by its head, or several in one walk over its parts.
 
 ghost use Rattle.std.specs.Prelude.{◌≡◌, ◌<◌, length, EachIndex, slice_index_or, None, map, option_map};
 ghost use Rattle.sexpr_read.specs.Views.{tree_of};
-ghost use Rattle.part_read.specs.Wanted.{found_in};
-ghost use Rattle.part_read.specs.Walk.{is_wanted_first, is_new, noted};
+ghost use Rattle.list_read.specs.Elements.{element, is_naming, naming};
+ghost use Rattle.list_read.specs.Wanted.{found_in};
+ghost use Rattle.list_read.specs.Walk.{is_wanted_first, is_new, noted};
 
+use crate::heads::has_head;
 use sexpr_read::Node;
+
+/// The first list in the list that has this head.
+#[tactic(auto, unfolding(crate::specs::Elements::element))]
+pub fn element<'d, 't>(node: Node<'d, 't>, head: &[u8]) -> Option<Node<'d, 't>>
+    ensures { option_map tree_of result ≡ element head.now (tree_of node.entry) }
+{
+    for part in node.children() {
+        if has_head(part, head) {
+            return Some(part);
+        }
+    }
+    None
+}
+
+/// Whether the list gives an item its name.
+#[tactic(auto, unfolding(crate::specs::Elements::is_naming))]
+fn is_naming(node: Node<'_, '_>) -> bool
+    ensures { result ≡ is_naming (tree_of node.entry) }
+{
+    has_head(node, b"tstamp") || has_head(node, b"uuid")
+}
+
+/// The first list in the list that gives its item a name.
+#[tactic(auto, unfolding(crate::specs::Elements::naming))]
+pub fn naming<'d, 't>(node: Node<'d, 't>) -> Option<Node<'d, 't>>
+    ensures { option_map tree_of result ≡ naming (tree_of node.entry) }
+{
+    for part in node.children() {
+        if is_naming(part) {
+            return Some(part);
+        }
+    }
+    None
+}
+
+// ---- several at once
 
 /// What is looked for among the parts of a list.
 #[derive(Clone, Copy)]
@@ -17,6 +55,7 @@ pub enum Wanted {
 }
 
 /// Whether a list that begins with this atom is the one.
+#[inline(always)]
 fn is_wanted(first: Node<'_, '_>, wanted: Wanted) -> bool
     ensures { result ≡ is_wanted_first wanted (tree_of first.entry) }
 {
@@ -27,6 +66,7 @@ fn is_wanted(first: Node<'_, '_>, wanted: Wanted) -> bool
 }
 
 /// Whether a list that begins with this atom is the first one.
+#[inline(always)]
 fn is_new(found: &Option<Node<'_, '_>>, first: Node<'_, '_>, wanted: Wanted) -> bool
     ensures { result ≡ is_new (option_map tree_of found.now) wanted (tree_of first.entry) }
 {

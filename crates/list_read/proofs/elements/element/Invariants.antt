@@ -2,8 +2,8 @@ use Rattle.std.proofs.Common.{◌≡◌}
 use Rattle.std.specs.Prelude.{find}
 use Rattle.sexpr_read.specs.Tree.{parts}
 use Rattle.sexpr_read.specs.Views.{tree_of, trees_left}
-use Rattle.part_read.specs.Elements.{has_head}
-use Rattle.part_read.proofs.drawings.element.Given as goal
+use Rattle.list_read.specs.Heads.{has_head}
+use Rattle.list_read.proofs.elements.element.Given as goal
 
 -- the first among those that are left is the first of all
 abbrev pub invariant-loop-part : goal.invariant-loop-part

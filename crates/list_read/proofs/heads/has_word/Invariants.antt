@@ -2,8 +2,8 @@ use Rattle.std.proofs.Common.{◌≡◌}
 use Rattle.std.specs.List.{list_any}
 use Rattle.sexpr_read.specs.Tree.{parts}
 use Rattle.sexpr_read.specs.Views.{tree_of, trees_left}
-use Rattle.part_read.specs.Elements.{is_text}
-use Rattle.part_read.proofs.atoms.has_word.Given as goal
+use Rattle.list_read.specs.Heads.{is_text}
+use Rattle.list_read.proofs.heads.has_word.Given as goal
 
 -- the word stands among those that are left exactly where it stands in the list
 abbrev pub invariant-loop-part : goal.invariant-loop-part

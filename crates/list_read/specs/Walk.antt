@@ -1,9 +1,9 @@
 -- One step of the walk over the parts of a list.
 use Rattle.std.specs.Prelude.{Bool, false, ◌||◌, List, [], ◌∷◌, codes, Option, None, Some, if◌then◌else◌}
 use Rattle.sexpr_read.specs.Tree.{Tree}
-use Rattle.part_read.specs.declared.elements.Wanted.{Wanted}
-use Rattle.part_read.specs.declared.elements.Wanted.TheVariants.{Head, Name}
-use Rattle.part_read.specs.Elements.{is_text}
+use Rattle.list_read.specs.declared.elements.Wanted.{Wanted}
+use Rattle.list_read.specs.declared.elements.Wanted.TheVariants.{Head, Name}
+use Rattle.list_read.specs.Heads.{is_text}
 
 -- whether a list that begins with this part is the one
 abbrev pub is_wanted_first : Wanted → Tree → Bool

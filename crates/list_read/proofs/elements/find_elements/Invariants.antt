@@ -1,8 +1,8 @@
 use Rattle.std.proofs.Common.{◌≡◌, map, option_map}
 use Rattle.sexpr_read.specs.Views.{tree_of, trees_left}
-use Rattle.part_read.specs.Wanted.{found_in}
-use Rattle.part_read.proofs.Walks.{completed}
-use Rattle.part_read.proofs.elements.find_elements.Given as goal
+use Rattle.list_read.specs.Wanted.{found_in}
+use Rattle.list_read.proofs.Walks.{completed}
+use Rattle.list_read.proofs.elements.find_elements.Given as goal
 
 -- what is found so far, completed by what is left, is what all gives
 abbrev pub invariant-loop-part : goal.invariant-loop-part

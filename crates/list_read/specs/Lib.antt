@@ -1,0 +1,6 @@
+pub mod Answers
+pub mod Heads
+pub mod Elements
+pub mod Nodes
+pub mod Wanted
+pub mod Walk

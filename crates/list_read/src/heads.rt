@@ -1,0 +1,64 @@
+//! Lists by their heads, and what stands in them.
+
+ghost use Rattle.std.specs.Prelude.{◌≡◌};
+ghost use Rattle.sexpr_read.specs.Views.{tree_of, trees_left};
+ghost use Rattle.list_read.specs.Heads.{place, has_head, has_word_head, behind_head, has_word};
+
+use sexpr_read::{Children, Node};
+
+/// Where a node begins in the text.
+#[inline]
+pub fn place(node: Node<'_, '_>) -> u32
+    ensures { result ≡ place (tree_of node.entry) }
+{
+    node.span().at
+}
+
+/// Whether it is a list whose first part stands for this text.
+#[inline]
+#[tactic(auto, unfolding(crate::specs::Heads::has_head))]
+pub fn has_head(node: Node<'_, '_>, head: &[u8]) -> bool
+    ensures { result ≡ has_head head.now (tree_of node.entry) }
+{
+    let mut parts = node.children();
+    match parts.next() {
+        None => false,
+        Some(first) => first.is(head),
+    }
+}
+
+/// The same, where the first part does not stand in quotes.
+#[inline]
+#[tactic(auto, unfolding(crate::specs::Heads::has_word_head))]
+pub fn has_word_head(node: Node<'_, '_>, head: &[u8]) -> bool
+    ensures { result ≡ has_word_head head.now (tree_of node.entry) }
+{
+    let mut parts = node.children();
+    match parts.next() {
+        None => false,
+        Some(first) => !first.quoted() && first.is(head),
+    }
+}
+
+/// What stands behind the head.
+#[tactic(auto, unfolding(crate::specs::Heads::behind_head))]
+pub fn behind_head<'d, 't>(list: Node<'d, 't>) -> Children<'d, 't>
+    ensures { trees_left result ≡ behind_head (tree_of list.entry) }
+{
+    let mut parts = list.children();
+    parts.next();
+    parts
+}
+
+/// Whether the word stands in the list.
+#[tactic(auto, unfolding(crate::specs::Heads::has_word))]
+pub fn has_word(list: Node<'_, '_>, word: &[u8]) -> bool
+    ensures { result ≡ has_word word.now (tree_of list.entry) }
+{
+    for part in list.children() {
+        if part.is(word) {
+            return true;
+        }
+    }
+    false
+}
