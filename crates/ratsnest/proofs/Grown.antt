@@ -2,16 +2,17 @@
 use Rattle.std.proofs.Common.{◌≡◌, ◌≢◌, ℕ, zero, suc, ◌+◌, ◌*◌, ◌≤◌, ◌<◌, ◌⊎◌, Bool, true, false, cond, List, [], ◌∷◌, length, get_or, set, replicate, count_by, inl, inr, refl, sym, ◌∙◌, ap, subst, arith, true≢false, Contains}
 use Rattle.std.proofs.lemmas.Bool.{cases_lt, cases_Bool}
 use Rattle.std.proofs.lemmas.List.{get_or-set_same, get_or-replicate, length-set, length-replicate, same_lists, get_or_default, get_or_past}
-use Rattle.std.proofs.lemmas.List.Elements.{All-contains, Contains-get_or}
+use Rattle.std.proofs.lemmas.List.Elements.{All-contains}
 use Rattle.std.proofs.lemmas.List.Sums.{sum_by-set}
 use Rattle.std.proofs.lemmas.List.Folds.{sum_by-replicate}
 use Rattle.ratsnest.specs.declared.anchor.Anchor.{Anchor}
 use Rattle.ratsnest.specs.declared.link.Link.{Link}
 use Rattle.ratsnest.specs.Mem.{Mem, Climbs}
-use Rattle.ratsnest.specs.NestOf.{anchor_at, group_at, group_count, Rise, GroupsOccur, IsLink, InNest, Precedes}
+use Rattle.ratsnest.specs.NestOf.{group_at, group_count, Rise, GroupsOccur, IsLink, InNest, Precedes}
 use Rattle.ratsnest.specs.declared.waiting.Waiting.{Waiting}
-use Rattle.ratsnest.specs.Grow.{rank, link_at, rank_at, is_reached, IsFirst, IsReach, IsHeld, IsGrown, AreChosen}
-use Rattle.ratsnest.proofs.Waits.{IsPlaced, Near, nobody, group_is, set_reached, set_reached_back, held_after, whole_after}
+use Rattle.ratsnest.specs.Grow.{rank, link_at, rank_at, is_reached, StandsFor, IsFirst, AreFirst, IsReach, IsHeld, IsGrown, AreChosen}
+use Rattle.ratsnest.proofs.Stands.{no_less_to}
+use Rattle.ratsnest.proofs.Waits.{IsPlaced, Near, group_is, set_reached, set_reached_back, held_after, whole_after}
 use Rattle.ratsnest.proofs.Theory.{chain_keeps}
 use Rattle.ratsnest.proofs.Order.{IsLink-at, ends_of, rank_from_first, rank_from_second, same_rank, precedes_rank}
 
@@ -172,10 +173,10 @@ module _ (anchors : List Anchor) (rise : Rise anchors) (few : length anchors < 4
     least_leaving : (a b : ℕ) → a < length anchors → b < length anchors → is_reached anchors reached a ≡ true → is_reached anchors reached b ≡ false →
         rank e.link ≤ rank_at anchors a b
     least_leaving a b ha hb ra ub =
-        let w : (w : Waiting) × Contains waiting w × (w.place ≡ b) = g.whole b hb ub in
+        let w : (w : Waiting) × Contains waiting w × StandsFor anchors w.place b = g.whole b hb ub in
         let le : rank e.link ≤ rank w.0.link = subst (λ (z : Waiting). rank e.link ≤ rank z.link) w.1.2 (n w.1.0 w.0 w.1.1) in
         let far : rank w.0.link ≤ rank_at anchors a w.0.place = (held_at g w.0 w.1).least a ha ra in
-        subst (λ z. rank e.link ≤ rank_at anchors a z) w.2 (omega (arith, le, far))
+        omega (arith, le, far, no_less_to anchors w.0.place b a w.2)
 
     pub next_is_new : (l : Link) → Mem l links → rank l ≢ rank e.link
     next_is_new =
@@ -217,10 +218,9 @@ none_reached m q = elim (cases_lt q m) [
 ]
 
 module _ (anchors : List Anchor) where
-  pub grown_start : 0 < length anchors → group_at anchors 0 < group_count anchors → (old new : List Waiting) → length old ≡ length anchors →
-      ((k : ℕ) (d : Waiting) → k < length old → IsFirst anchors k (get_or old k d)) → IsReach (group_at anchors 0) old new →
+  pub grown_start : 0 < length anchors → group_at anchors 0 < group_count anchors → (old new : List Waiting) → AreFirst anchors (length anchors) old → IsReach (group_at anchors 0) old new →
       IsGrown anchors (set (replicate (group_count anchors) false) (group_at anchors 0) true) new []
-  grown_start some fits old new len first r =
+  grown_start some fits old new first r =
       let m : ℕ = group_count anchors in
       let flags : length (replicate m false) ≡ m = length-replicate m false in
       let in_flags : group_at anchors 0 < length (replicate m false) = omega arith in
@@ -231,18 +231,16 @@ module _ (anchors : List Anchor) where
         | inl o ↦ absurd (true≢false (sym o ∙ none_reached m q))
         | inr e ↦ e
       ] in
-      let first_of : (w : Waiting) → Contains old w → (k : ℕ) × (k < length anchors) × IsFirst anchors k w =
-      λ w c. (c.0, omega (arith, c.1), subst (IsFirst anchors c.0) c.2 (first c.0 w c.1)) in
+      let first_of : (w : Waiting) → Contains old w → (w.place < length anchors) × IsFirst anchors w.place w =
+      λ w c. All-contains (λ (w : Waiting). (w.place < length anchors) × IsFirst anchors w.place w) old w first.each c in
       let placed : (w : Waiting) → Contains old w → IsPlaced anchors (replicate m false) w =
-      λ w c. let f : (k : ℕ) × (k < length anchors) × IsFirst anchors k w = first_of w c in
-      (subst (λ z. z < length anchors) (sym f.2.place) f.1, f.2.anchor ∙ sym (ap (anchor_at anchors) f.2.place), none_reached m (group_at anchors w.place)) in
+      λ w c. ((first_of w c).0, (first_of w c).1.anchor, none_reached m (group_at anchors w.place)) in
       let near : (w : Waiting) → Contains old w → Near anchors (set (replicate m false) (group_at anchors 0) true) w =
-      λ w c. let f : (k : ℕ) × (k < length anchors) × IsFirst anchors k w = first_of w c in
-      (0, some, here, f.2.link ∙ sym (ap (link_at anchors 0) f.2.place)) in
+      λ w c. (0, some, here, (first_of w c).1.link) in
       let least : (w : Waiting) → Contains old w → (i : ℕ) → i < length anchors → is_reached anchors (replicate m false) i ≡ true → rank w.link ≤ rank_at anchors i w.place =
       λ w c i hi re. absurd (true≢false (sym re ∙ none_reached m (group_at anchors i))) in
-      let whole : (j : ℕ) → j < length anchors → is_reached anchors (replicate m false) j ≡ false → (w : Waiting) × Contains old w × (w.place ≡ j) =
-      λ j hj un. (get_or old j nobody, Contains-get_or old j nobody (omega arith), (first j nobody (omega arith)).place) in
+      let whole : (j : ℕ) → j < length anchors → is_reached anchors (replicate m false) j ≡ false → (w : Waiting) × Contains old w × StandsFor anchors w.place j =
+      λ j hj un. first.whole j hj in
       record {
         flags = length-set (replicate m false) (group_at anchors 0) true ∙ flags;
         counted = counted_one m (group_at anchors 0) fits ∙ omega arith;
@@ -260,7 +258,7 @@ module _ (anchors : List Anchor) where
       let all : (k : ℕ) → k < length anchors → is_reached anchors reached k ≡ true =
       λ k hk. elim (cases_Bool (is_reached anchors reached k)) [
         | inl y ↦ y
-        | inr u ↦ let w : (w : Waiting) × Contains waiting w × (w.place ≡ k) = g.whole k hk u in absurd (omega (arith, w.1.1))
+        | inr u ↦ let w : (w : Waiting) × Contains waiting w × StandsFor anchors w.place k = g.whole k hk u in absurd (omega (arith, w.1.1))
       ] in
       let each : (q : ℕ) → q < group_count anchors → get_or reached q false ≡ true =
       λ q h. let i : (i : ℕ) × (i < length anchors) × (group_at anchors i ≡ q) = occur q h in

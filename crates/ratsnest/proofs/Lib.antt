@@ -3,6 +3,7 @@ pub mod Climbing
 pub mod Theory
 pub mod Squares
 pub mod Order
+pub mod Stands
 pub mod Waits
 pub mod Doubled
 pub mod Grown

@@ -1,7 +1,6 @@
 -- What waits keeps its least link from what is reached.
-use Rattle.std.proofs.Common.{◌≡◌, ◌≢◌, ℕ, ◌*◌, ◌≤◌, ◌<◌, ◌⊎◌, Bool, true, false, min, max, List, ◌++◌, length, get_or, set, unsigned_abs, ◌-ℤ◌, ℤ, inl, inr, refl, sym, ◌∙◌, ap, ap₂, subst, All, Contains, arith, true≢false}
+use Rattle.std.proofs.Common.{◌≡◌, ◌≢◌, ℕ, ◌*◌, ◌≤◌, ◌<◌, ◌⊎◌, Bool, true, false, min, max, List, ◌++◌, length, get_or, set, inl, inr, refl, sym, ◌∙◌, ap, ap₂, subst, All, Contains, arith, true≢false}
 use Rattle.std.proofs.lemmas.Bool.{cases_lt, cases_eq}
-use Rattle.std.proofs.lemmas.Int.{ints}
 use Rattle.std.proofs.lemmas.List.{get_or-set_same, get_or-set_other, get_or_read}
 use Rattle.std.proofs.lemmas.List.Elements.{All-contains, Contains-get_or, Contains-append_left, Contains-append_right, Contains-append_cases}
 use Rattle.std.proofs.lemmas.List.Sorted.{Contains-permutation, IsPermutation-sym}
@@ -9,23 +8,14 @@ use Rattle.std.specs.List.Sorted.{IsPermutation}
 use Rattle.ratsnest.specs.declared.anchor.Anchor.{Anchor}
 use Rattle.ratsnest.specs.declared.link.Link.{Link}
 use Rattle.ratsnest.specs.declared.waiting.Waiting.{Waiting}
-use Rattle.ratsnest.specs.NestOf.{nowhere, anchor_at, group_at, square_of, square_between}
-use Rattle.ratsnest.specs.Grow.{rank, link_at, rank_at, link_between, is_reached, IsDrawnToAll, IsNearest, IsReach, IsHeld}
-
--- what stands past the end of the list
-abbrev pub nobody : Waiting
-nobody = record { anchor = nowhere; place = 0; link = record { first = 0; second = 0; square = 0 } }
+use Rattle.ratsnest.specs.NestOf.{anchor_at, group_at, square_of, square_between}
+use Rattle.ratsnest.specs.Grow.{rank, link_at, rank_at, link_between, is_reached, StandsFor, IsDrawnToAll, IsNearest, IsReach, IsHeld}
+use Rattle.ratsnest.proofs.Stands.{square_back, no_less_from}
 
 -- the link depends on the place and the anchor alone
 pub same_between : (m a b : Waiting) → b.place ≡ a.place → b.anchor ≡ a.anchor → link_between m b ≡ link_between m a
 unfolding link_between
 same_between m a b p q = rw (p, q) refl
-
-gap_back : (a b : ℤ) → unsigned_abs (b -ℤ a) ≡ unsigned_abs (a -ℤ b)
-gap_back a b = omega (arith, ints)
-
-square_back : (a b : Anchor) → square_of b a ≡ square_of a b
-square_back a b = rw (gap_back a.x b.x, gap_back a.y b.y) refl
 
 pub between_at : (anchors : List Anchor) (m w : Waiting) → m.anchor ≡ anchor_at anchors m.place → w.anchor ≡ anchor_at anchors w.place →
     link_between m w ≡ link_at anchors m.place w.place
@@ -114,7 +104,7 @@ module _ (anchors : List Anchor) (reached : List Bool) (group : ℕ) (fits : gro
     (placed : (w : Waiting) → Contains old w → IsPlaced anchors reached w)
     (near : (w : Waiting) → Contains old w → Near anchors (set reached group true) w)
     (least : (w : Waiting) → Contains old w → (i : ℕ) → i < length anchors → is_reached anchors reached i ≡ true → rank w.link ≤ rank_at anchors i w.place)
-    (whole : (j : ℕ) → j < length anchors → is_reached anchors reached j ≡ false → (w : Waiting) × Contains old w × (w.place ≡ j)) where
+    (whole : (j : ℕ) → j < length anchors → is_reached anchors reached j ≡ false → (w : Waiting) × Contains old w × StandsFor anchors w.place j) where
   here : get_or (set reached group true) group false ≡ true
   here = get_or-set_same reached group true false fits
 
@@ -144,12 +134,11 @@ module _ (anchors : List Anchor) (reached : List Bool) (group : ℕ) (fits : gro
         least = λ i hi re. elim (set_reached_back reached group (group_at anchors i) re) [
           | inl was ↦ subst (λ z. rank w.link ≤ rank_at anchors i z) (sym n.place) (omega (arith, n.not_old, least o c i hi was))
           | inr is ↦
-              let m : (m : Waiting) × Contains old m × (m.place ≡ i) = whole i hi (ap (λ z. get_or reached z false) is ∙ outside) in
-              let of : m.0.anchor.group ≡ group = group_is anchors m.0 (placed m.0 m.1).1 ∙ ap (group_at anchors) m.2 ∙ is in
-              let le : rank w.link ≤ rank (link_between m.0 o) = n.not_others m.0 m.1 of in
-              let e : link_between m.0 o ≡ link_at anchors i w.place =
-              between m.0 o m.1 c ∙ ap (λ z. link_at anchors z o.place) m.2 ∙ sym (ap (link_at anchors i) n.place) in
-              subst (λ (z : Link). rank w.link ≤ rank z) e le
+              let m : (m : Waiting) × Contains old m × StandsFor anchors m.place i = whole i hi (ap (λ z. get_or reached z false) is ∙ outside) in
+              let of : m.0.anchor.group ≡ group = group_is anchors m.0 (placed m.0 m.1).1 ∙ m.2.group ∙ is in
+              let e : link_between m.0 o ≡ link_at anchors m.0.place w.place = between m.0 o m.1 c ∙ sym (ap (link_at anchors m.0.place) n.place) in
+              let le : rank w.link ≤ rank_at anchors m.0.place w.place = subst (λ (z : Link). rank w.link ≤ rank z) e (n.not_others m.0 m.1 of) in
+              omega (arith, le, no_less_from anchors m.0.place i w.place m.2)
         ];
       }
 
@@ -158,13 +147,13 @@ module _ (anchors : List Anchor) (reached : List Bool) (group : ℕ) (fits : gro
       let f : (o : Waiting) × Contains old o × IsNearest group old o (get_or new k d) = r.from k d h in
       held_one f.0 (get_or new k d) f.1 f.2 (r.rest k d h)
 
-  pub whole_after : (j : ℕ) → j < length anchors → is_reached anchors (set reached group true) j ≡ false → (w : Waiting) × Contains new w × (w.place ≡ j)
+  pub whole_after : (j : ℕ) → j < length anchors → is_reached anchors (set reached group true) j ≡ false → (w : Waiting) × Contains new w × StandsFor anchors w.place j
   whole_after j hj un =
       let other : group_at anchors j ≢ group = λ e. true≢false (sym here ∙ sym (ap (λ z. get_or (set reached group true) z false) e) ∙ un) in
-      let o : (o : Waiting) × Contains old o × (o.place ≡ j) = whole j hj (sym (get_or-set_other reached group (group_at anchors j) true false other) ∙ un) in
+      let o : (o : Waiting) × Contains old o × StandsFor anchors o.place j = whole j hj (sym (get_or-set_other reached group (group_at anchors j) true false other) ∙ un) in
       elim (r.whole o.0 o.1) [
-        | inl e ↦ absurd (other (sym (ap (group_at anchors) o.2) ∙ sym (group_is anchors o.0 (placed o.0 o.1).1) ∙ e))
-        | inr w ↦ (w.0, w.1, w.2 ∙ o.2)
+        | inl e ↦ absurd (other (sym o.2.group ∙ sym (group_is anchors o.0 (placed o.0 o.1).1) ∙ e))
+        | inr w ↦ (w.0, w.1, subst (λ z. StandsFor anchors z j) (sym w.2) o.2)
       ]
 
 -- a link that is longer

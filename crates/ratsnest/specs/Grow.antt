@@ -28,6 +28,26 @@ pub record IsFirst (anchors : List Anchor) (j : ℕ) (w : Waiting) : Type 0 wher
   pub anchor : w.anchor ≡ anchor_at anchors j
   pub link : w.link ≡ link_at anchors 0 j
 
+-- the anchor at the first place is of the group of the other and at its spot, no later in the list: its links are never more
+pub record StandsFor (anchors : List Anchor) (i j : ℕ) : Type 0 where
+  pub lower : i ≤ j
+  pub group : group_at anchors i ≡ group_at anchors j
+  pub x : (anchor_at anchors i).x ≡ (anchor_at anchors j).x
+  pub y : (anchor_at anchors i).y ≡ (anchor_at anchors j).y
+
+-- one that waits is of the group of the anchor and at its spot
+pub record IsLed (waiting : List Waiting) (anchor : Anchor) : Type 0 where
+  pub lead : Waiting
+  pub there : Contains waiting lead
+  pub group : lead.anchor.group ≡ anchor.group
+  pub x : lead.anchor.x ≡ anchor.x
+  pub y : lead.anchor.y ≡ anchor.y
+
+-- of the first n anchors some wait with their links from the first one, and for each one stands that does
+pub record AreFirst (anchors : List Anchor) (n : ℕ) (waiting : List Waiting) : Type 0 where
+  pub each : All (λ (w : Waiting). (w.place < n) × IsFirst anchors w.place w) waiting
+  pub whole : (j : ℕ) → j < n → (w : Waiting) × Contains waiting w × StandsFor anchors w.place j
+
 -- what waited keeps the link that it had, or that from m, whichever is less
 pub record IsDrawn (m old new : Waiting) : Type 0 where
   pub place : new.place ≡ old.place
@@ -104,7 +124,7 @@ pub record IsGrown (anchors : List Anchor) (reached : List Bool) (waiting : List
   pub joined : (c : ℕ → ℕ) → ((l : Link) → Mem l links → c (group_at anchors l.first) ≡ c (group_at anchors l.second)) →
       (g h : ℕ) → slice_index_or reached g false ≡ true → slice_index_or reached h false ≡ true → c g ≡ c h
   pub held : All (IsHeld anchors reached) waiting
-  pub whole : (j : ℕ) → j < length anchors → is_reached anchors reached j ≡ false → (w : Waiting) × Contains waiting w × (w.place ≡ j)
+  pub whole : (j : ℕ) → j < length anchors → is_reached anchors reached j ≡ false → (w : Waiting) × Contains waiting w × StandsFor anchors w.place j
 
 -- what the search leaves: links of the nest that join all groups
 pub record AreChosen (anchors : List Anchor) (links : List Link) : Type 0 where

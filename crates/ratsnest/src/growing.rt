@@ -6,7 +6,7 @@
 ghost use Rattle.std.specs.Prelude.{◌≡◌, ◌<◌, ◌≤◌, ◌^◌, ◌+◌, ◌-◌, ◌≢◌, ℕ, length, OnOk, slice_index_or, ◌⊎◌, false, IfOk, All, replicate, []};
 ghost use Rattle.ratsnest.specs.declared.link.Link.{Link};
 ghost use Rattle.ratsnest.specs.NestOf.{group_at, group_count, Rise, GroupsOccur, IsNest, HasPlaces, IsLeast, JoinAll};
-ghost use Rattle.ratsnest.specs.Grow.{rank, AreChosen, IsGrown, IsFirst};
+ghost use Rattle.ratsnest.specs.Grow.{rank, AreChosen, AreFirst, IsGrown};
 ghost use Rattle.ratsnest.specs.declared.waiting.Waiting.{Waiting};
 ghost use Rattle.ratsnest.specs.Mem.{Mem, Climbs};
 
@@ -107,8 +107,7 @@ fn start(
     requires few { length anchors.now < 2 ^ 32 }
     requires some { 0 < length anchors.now }
     requires reached { reached.old ≡ replicate (group_count anchors.now) false }
-    requires len { length waiting.old.items ≡ length anchors.now }
-    requires each { (k : ℕ) (d : Waiting) → k < length waiting.old.items → IsFirst anchors.now k (slice_index_or waiting.old.items k d) }
+    requires first { AreFirst anchors.now (length anchors.now) waiting.old.items }
     ensures { OnOk result (IsGrown anchors.now reached.new waiting.new.items []) }
 {
     let group = group_of(anchors, 0);

@@ -3,12 +3,15 @@
 ghost use Rattle.std.specs.Prelude.{◌≡◌, ◌≢◌, ◌<◌, ◌≤◌, ◌^◌, ◌++◌, IsTrue, ℕ, length, OnOk, IfOk, All, [], slice_index_or};
 ghost use Rattle.std.specs.List.Sorted.{IsPermutation};
 ghost use Rattle.ratsnest.specs.declared.waiting.Waiting.{Waiting};
-ghost use Rattle.ratsnest.specs.Grow.{rank, link_between, IsDrawn, IsDrawnToAll, IsDoubled, IsTold, IsReach, IsFirst};
+ghost use Rattle.ratsnest.specs.Grow.{rank, link_between, IsDrawn, IsDrawnToAll, IsDoubled, IsTold, IsReach, IsFirst, IsLed, AreFirst};
 
 use crate::anchor::Anchor;
 use crate::link::Link;
 use crate::places::{is_below, link_of, precedes, square};
 use std::alloc::{AllocError, Global};
+
+// Among so many that wait an anchor is looked for at the spot of the next: an end of a track mostly stands at one of the last before it.
+const LAST: usize = 4;
 
 /// An anchor that is not reached, its place in the list of anchors, and its least link from an anchor that is reached.
 #[derive(Clone, Copy, Drop)]
@@ -150,19 +153,48 @@ pub(crate) fn least(waiting: &[Waiting]) -> usize
     least
 }
 
-// Each anchor, with its link from the first.
+// Whether the one that waits is of the group of the anchor and at its spot.
+fn leads(held: &Waiting, anchor: Anchor) -> bool
+    ensures { IsTrue result → (held.now.anchor.group ≡ anchor.group) × (held.now.anchor.x ≡ anchor.x) × (held.now.anchor.y ≡ anchor.y) }
+{
+    held.anchor.x == anchor.x && held.anchor.y == anchor.y && held.anchor.group == anchor.group
+}
+
+// Whether one of the last that wait leads the anchor.
+fn is_led(waiting: &[Waiting], anchor: Anchor) -> bool
+    ensures { IsTrue result → IsLed waiting.now anchor }
+{
+    for k in waiting.len().saturating_sub(LAST)..waiting.len() {
+        if leads(&waiting[k], anchor) {
+            return true;
+        }
+    }
+    false
+}
+
+// The anchor with its link from the first.
+fn first_of(anchors: &[Anchor], j: usize) -> Waiting
+    requires few { length anchors.now < 2 ^ 32 }
+    requires j { j < length anchors.now }
+    ensures { IsFirst anchors.now j result }
+{
+    Waiting {
+        anchor: anchors[j],
+        place: j as u32,
+        link: link_of(anchors, 0, j),
+    }
+}
+
+/// The anchors with their links from the first, but for those that others just before them lead.
 pub(crate) fn all_waiting(alloc: Global, anchors: &[Anchor]) -> Result<Vec<Waiting>, AllocError>
     requires few { length anchors.now < 2 ^ 32 }
-    ensures len { IfOk result (λ v. length v.items ≡ length anchors.now) }
-    ensures each { IfOk result (λ v. (k : ℕ) (d : Waiting) → k < length v.items → IsFirst anchors.now k (slice_index_or v.items k d)) }
+    ensures { IfOk result (λ v. AreFirst anchors.now (length anchors.now) v.items) }
 {
     let mut waiting = Vec::new(alloc);
     for j in 0..anchors.len() {
-        waiting.push(Waiting {
-            anchor: anchors[j],
-            place: j as u32,
-            link: link_of(anchors, 0, j),
-        })?;
+        if !is_led(&waiting, anchors[j]) {
+            waiting.push(first_of(anchors, j))?;
+        }
     }
     Ok(waiting)
 }

@@ -20,4 +20,4 @@ returns c =
     let e : c.group_of-group.result ≡ group_at c.args.anchors.now 0 = c.group_of-group.ensures in
     let r : IsReach (group_at c.args.anchors.now 0) c.args.waiting.now.items c.reach.new.waiting.items = rw e at c.in_ok-reach.ensures in
     rw (e, c.requires.reached) (grown_start c.args.anchors.now c.requires.some
-    (group_below c.args.anchors.now 0 c.requires.some) c.args.waiting.now.items c.reach.new.waiting.items c.requires.len c.requires.each r)
+    (group_below c.args.anchors.now 0 c.requires.some) c.args.waiting.now.items c.reach.new.waiting.items c.requires.first r)
