@@ -41,10 +41,19 @@ module _ (board : PlainBoard) (net : ℕ) (sound : IsSound board) (groups : List
   found_some : (id : ℕ) (item : Item) → item_at board.items id ≡ Some item → IsOnBoard board id
   found_some id item found = subst IsSome (sym found) refl
 
+  listed : (id : ℕ) → HasCopper (items_of net board.items) id → Contains (ids_of_net net board.items) id
+  listed id own = ids_has (λ item. nat_eq item.net net) board.items id own.item (its_item board net sound id own) (eq-eqb own.item.net net (its_net board net sound id own))
+
   pub members_placed : All (All (IsOnBoard board)) groups
   members_placed =
       All-weaker (λ list. All (HasCopper (items_of net board.items)) list) (All (IsOnBoard board))
       (λ list all. All-weaker (HasCopper (items_of net board.items)) (IsOnBoard board) (λ id has. let is = conductor board net sound id has in found_some id is.item is.found) list all)
+      groups are.only
+
+  pub members_listed : All (All (Contains (ids_of_net net board.items))) groups
+  members_listed =
+      All-weaker (λ list. All (HasCopper (items_of net board.items)) list) (All (Contains (ids_of_net net board.items)))
+      (λ list all. All-weaker (HasCopper (items_of net board.items)) (Contains (ids_of_net net board.items)) listed list all)
       groups are.only
 
   -- ---- how many there are
@@ -92,7 +101,7 @@ module _ (board : PlainBoard) (net : ℕ) (sound : IsSound board) (groups : List
             among.every a (record {
               item = is.own.item;
               found = found;
-              listed = ids_has (λ item. nat_eq item.net net) board.items a.id is.own.item found (eq-eqb is.own.item.net net (its_net board net sound a.id is.own));
+              listed = listed a.id is.own;
               numbered = numbered.every a.id a.group is.member;
               place = is.place;
             })

@@ -14,6 +14,7 @@ pub mod Once
 pub mod Nets
 pub mod AnchorLists
 pub mod NetIds
+pub mod Beside
 pub mod Numbers
 pub mod Anchoring
 pub mod AnchorsOf

@@ -1,27 +1,23 @@
 -- The numbers of groups by the ids of their members.
-use Rattle.std.proofs.Common.{◌≡◌, ◌⊎◌, ℕ, zero, suc, ◌+◌, ◌<◌, ◌≤◌, cond, nat_eq, List, [], ◌∷◌, ◌++◌, length, get_or, Contains, Option, None, Some, inl, inr, refl, sym, subst, ap, ◌∙◌, arith, eq-eqb, nat_cmp, is_eq}
+use Rattle.std.proofs.Common.{◌≡◌, ◌⊎◌, ℕ, zero, suc, ◌+◌, ◌<◌, ◌≤◌, cond, nat_eq, List, [], ◌∷◌, ◌++◌, length, get_or, Contains, Option, None, Some, inl, inr, refl, sym, subst, ap, ◌∙◌, arith, eq-eqb}
 use Rattle.std.specs.List.{AllPairs}
 use Rattle.std.proofs.lemmas.Bool.{cases_eq, cases_order, ne_eqb}
-use Rattle.std.proofs.lemmas.Bool.Decides.{nat_tests}
 use Rattle.std.proofs.lemmas.List.Elements.{Contains-push_cases, Contains-append_left, Contains-push}
 use Rattle.net_groups.specs.Classes.{AreDisjoint}
 use Rattle.net_groups.specs.Numbering.{IsEntered, AreNumbered}
 use Rattle.net_groups.proofs.AnchorLists.{nothing}
-
-is_eq_nat : (a b : ℕ) → is_eq (nat_cmp a b) ≡ nat_eq a b
-is_eq_nat a b = grind (arith, nat_tests)
 
 -- ---- one group
 pub entered_none : (number : ℕ) (numbers : ℕ → Option ℕ) → IsEntered [] number numbers numbers
 entered_none number numbers = record { put = λ id c. absurd (nothing id c); others = λ id. inr refl }
 
 module _ (group : List ℕ) (number : ℕ) (old mid new : ℕ → Option ℕ) (k : ℕ) (so_far : IsEntered group number old mid)
-    (step : (q : ℕ) → new q ≡ cond (is_eq (nat_cmp k q)) (Some number) (mid q)) where
+    (step : (q : ℕ) → new q ≡ cond (nat_eq k q) (Some number) (mid q)) where
   at_k : (q : ℕ) → k ≡ q → new q ≡ Some number
-  at_k q e = step q ∙ ap (λ b. cond b (Some number) (mid q)) (is_eq_nat k q ∙ eq-eqb k q e)
+  at_k q e = step q ∙ ap (λ b. cond b (Some number) (mid q)) (eq-eqb k q e)
 
   at_other : (q : ℕ) → (k ≡ q → ⊥) → new q ≡ mid q
-  at_other q ne = step q ∙ ap (λ b. cond b (Some number) (mid q)) (is_eq_nat k q ∙ ne_eqb k q ne)
+  at_other q ne = step q ∙ ap (λ b. cond b (Some number) (mid q)) (ne_eqb k q ne)
 
   entered_more : IsEntered (group ++ k ∷ []) number old new
   entered_more = record { put = put; others = others }
@@ -45,7 +41,7 @@ module _ (group : List ℕ) (number : ℕ) (old mid new : ℕ → Option ℕ) (k
       ]
 
 pub entered_next : (group next : List ℕ) (number : ℕ) (old mid new : ℕ → Option ℕ) (k : ℕ) → next ≡ group ++ k ∷ [] → IsEntered group number old mid
-    → ((q : ℕ) → new q ≡ cond (is_eq (nat_cmp k q)) (Some number) (mid q)) → IsEntered next number old new
+    → ((q : ℕ) → new q ≡ cond (nat_eq k q) (Some number) (mid q)) → IsEntered next number old new
 entered_next group next number old mid new k e so_far step = subst (λ (g : List ℕ). IsEntered g number old new) (sym e) (entered_more group number old mid new k so_far step)
 
 -- ---- all groups

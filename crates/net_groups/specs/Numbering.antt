@@ -1,10 +1,16 @@
 -- Private words of the search for anchors: the number of each member's group.
-use Rattle.std.specs.Prelude.{◌≡◌, ℕ, ◌*◌, ◌≤◌, ◌⊎◌, List, [], ◌∷◌, ◌++◌, length, Option, Some, Contains, slice_index_or}
+use Rattle.std.specs.Prelude.{◌≡◌, ℕ, ◌==◌, ◌*◌, ◌≤◌, ◌⊎◌, if◌then◌else◌, List, [], ◌∷◌, ◌++◌, length, Option, None, Some, Contains, slice_index_or}
 use Rattle.board_items.specs.declared.item.Item.{Item}
 use Rattle.board_items.specs.Boards.{item_at}
 use Rattle.ratsnest.specs.declared.anchor.Anchor.{Anchor}
 use Rattle.ratsnest.specs.NestOf.{Rise}
 use Rattle.net_groups.specs.Anchors.{HasAnchor}
+
+-- the number that stands beside the id
+abbrev pub number_of : List ℕ → List (Option ℕ) → ℕ → Option ℕ
+number_of [] numbers id = None
+number_of (own ∷ ids) [] id = None
+number_of (own ∷ ids) (number ∷ numbers) id = if own == id then number else number_of ids numbers id
 
 -- the members of one group have its number now, and all others what they had
 pub record IsEntered (group : List ℕ) (number : ℕ) (old new : ℕ → Option ℕ) : Type 0 where

@@ -1,14 +1,12 @@
 //! The anchors of a net.
 
-ghost use Rattle.std.specs.Prelude.{◌≡◌, ◌<◌, ◌^◌, true, IfOk, OnOk, All, length};
-ghost use Rattle.std.specs.Ordering.{nat_cmp};
-ghost use Rattle.std.specs.BTreeMap as tree;
+ghost use Rattle.std.specs.Prelude.{◌≡◌, ◌<◌, ◌^◌, ℕ, true, Option, IfOk, OnOk, All, length};
 ghost use Rattle.board_items.specs.Boards.{IsSound, ids_of_net, is_on_board};
 ghost use Rattle.ratsnest.specs.NestOf.{Rise, GroupsOccur};
 ghost use Rattle.net_groups.specs.Groups.{AreGroups, IsOnBoard};
 ghost use Rattle.net_groups.specs.Classes.{Rises};
 ghost use Rattle.net_groups.specs.Anchors.{AreAnchors};
-ghost use Rattle.net_groups.specs.Numbering.{AreOwnAdded, AreAdded, AreAnchorsAmong};
+ghost use Rattle.net_groups.specs.Numbering.{number_of, AreOwnAdded, AreAdded, AreAnchorsAmong};
 
 use crate::ends::far_end;
 use crate::group::Group;
@@ -16,7 +14,6 @@ use crate::numbering::number_groups;
 use board_items::{Board, Item};
 use ratsnest::Anchor;
 use std::alloc::{AllocError, Global};
-use std::collections::BTreeMap;
 
 // Appends the anchors of an item.
 fn push_own(anchors: &mut Vec<Anchor>, item: &Item, id: u32, group: u32) -> Result<(), AllocError>
@@ -46,13 +43,13 @@ fn push_own(anchors: &mut Vec<Anchor>, item: &Item, id: u32, group: u32) -> Resu
 fn push_numbered(
     anchors: &mut Vec<Anchor>,
     board: &Board,
-    numbers: &BTreeMap<u32, u32>,
+    number: Option<u32>,
     id: u32,
 ) -> Result<(), AllocError>
-    ensures { OnOk result (AreAdded board.now.items (λ i. tree.get nat_cmp numbers.now i) id anchors.old.items anchors.new.items) }
+    ensures { OnOk result ((numbers : ℕ → Option ℕ) → numbers id ≡ number → AreAdded board.now.items numbers id anchors.old.items anchors.new.items) }
 {
-    match (numbers.get(&id), board.get(id)) {
-        (Some(group), Some(item)) => push_own(anchors, item, id, *group),
+    match (number, board.get(id)) {
+        (Some(group), Some(item)) => push_own(anchors, item, id, group),
         _ => Ok(()),
     }
 }
@@ -61,15 +58,16 @@ fn push_numbered(
 fn anchors_among(
     alloc: Global,
     board: &Board,
-    numbers: &BTreeMap<u32, u32>,
+    numbers: &[Option<u32>],
     ids: &[u32],
 ) -> Result<Vec<Anchor>, AllocError>
-    requires { Rises ids.now }
-    ensures { IfOk result (λ anchors. AreAnchorsAmong board.now.items (λ i. tree.get nat_cmp numbers.now i) ids.now anchors.items) }
+    requires rises { Rises ids.now }
+    requires many { length numbers.now ≡ length ids.now }
+    ensures { IfOk result (λ anchors. AreAnchorsAmong board.now.items (number_of ids.now numbers.now) ids.now anchors.items) }
 {
-    let mut anchors = Vec::new(alloc);
-    for id in ids {
-        push_numbered(&mut anchors, board, numbers, *id)?;
+    let mut anchors = Vec::with_capacity(alloc, ids.len())?;
+    for place in 0..ids.len() {
+        push_numbered(&mut anchors, board, numbers[place], ids[place])?;
     }
     Ok(anchors)
 }
@@ -101,6 +99,6 @@ pub fn anchors(
     ensures placed { IfOk result (λ anchors. All (λ anchor. IsOnBoard board.now anchor.id) anchors.items) }
 {
     let ids = ids_of(board, net);
-    let numbers = number_groups(alloc, groups)?;
+    let numbers = number_groups(alloc, ids, groups)?;
     anchors_among(alloc, board, &numbers, ids)
 }

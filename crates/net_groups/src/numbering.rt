@@ -1,38 +1,86 @@
 //! The number of each member's group.
 
-ghost use Rattle.std.specs.Prelude.{◌<◌, ◌^◌, length, IfOk, OnOk};
+ghost use Rattle.std.specs.Prelude.{◌≡◌, ◌<◌, ◌^◌, All, Contains, IfOk, length, slice_index};
 ghost use Rattle.std.specs.List.{AllPairs};
-ghost use Rattle.std.specs.Ordering.{nat_cmp};
-ghost use Rattle.std.specs.BTreeMap as tree;
-ghost use Rattle.net_groups.specs.Classes.{AreDisjoint};
-ghost use Rattle.net_groups.specs.Numbering.{IsEntered, AreNumbered};
+ghost use Rattle.net_groups.specs.Classes.{Rises, AreDisjoint};
+ghost use Rattle.net_groups.specs.Numbering.{number_of, IsEntered, AreNumbered};
 
 use crate::group::Group;
 use std::alloc::{AllocError, Global};
-use std::collections::BTreeMap;
 
-// Enters the members of a group.
-fn enter(numbers: &mut BTreeMap<u32, u32>, members: &[u32], number: u32) -> Result<(), AllocError>
-    ensures { OnOk result (IsEntered members.now number (λ id. tree.get nat_cmp numbers.old id) (λ id. tree.get nat_cmp numbers.new id)) }
+// The place of an id, found by halves.
+fn sought(ids: &[u32], id: u32) -> usize
+    requires rises { Rises ids.now }
+    requires listed { Contains ids.now id }
+    ensures within { result < length ids.now }
+    ensures is { slice_index ids.now result ≡ id }
 {
-    for id in members {
-        numbers.insert(*id, number)?;
+    match ids.binary_search(&id) {
+        Ok(place) => place,
+        Err(place) => place,
     }
-    Ok(())
 }
 
-/// The number of the group of each member, by the member's id. No two groups share one.
+// The place of an id. It is looked for at the guess first.
+fn place_of(ids: &[u32], id: u32, guess: usize) -> usize
+    requires rises { Rises ids.now }
+    requires listed { Contains ids.now id }
+    ensures within { result < length ids.now }
+    ensures is { slice_index ids.now result ≡ id }
+{
+    if guess < ids.len() && ids[guess] == id {
+        guess
+    } else {
+        sought(ids, id)
+    }
+}
+
+// Enters the members of a group, of which the first is looked for at the guess. It gives the place after the last, where the next
+// member of a net mostly stands.
+fn enter(
+    ids: &[u32],
+    members: &[u32],
+    number: u32,
+    guess: usize,
+    numbers: &mut [Option<u32>],
+) -> usize
+    requires rises { Rises ids.now }
+    requires listed { All (Contains ids.now) members.now }
+    requires many { length numbers.old ≡ length ids.now }
+    ensures { IsEntered members.now number (number_of ids.now numbers.old) (number_of ids.now numbers.new) }
+{
+    let mut next = guess;
+    for id in members {
+        let place = place_of(ids, *id, next);
+        numbers[place] = Some(number);
+        next = place + 1;
+    }
+    next
+}
+
+/// The number of the group of each member, beside the member's id. No two groups share one.
 pub(crate) fn number_groups(
     alloc: Global,
+    ids: &[u32],
     groups: &[Group],
-) -> Result<BTreeMap<u32, u32>, AllocError>
+) -> Result<Vec<Option<u32>>, AllocError>
+    requires rises { Rises ids.now }
+    requires listed { All (All (Contains ids.now)) groups.now }
     requires few { length groups.now < 2 ^ 32 }
     requires disjoint { AllPairs AreDisjoint groups.now }
-    ensures { IfOk result (λ numbers. AreNumbered groups.now (λ id. tree.get nat_cmp numbers id)) }
+    ensures many { IfOk result (λ numbers. length numbers.items ≡ length ids.now) }
+    ensures numbers { IfOk result (λ numbers. AreNumbered groups.now (number_of ids.now numbers.items)) }
 {
-    let mut numbers = BTreeMap::new(alloc);
+    let mut numbers = vec![in alloc; None; ids.len()]?;
+    let mut next = 0;
     for number in 0..groups.len() {
-        enter(&mut numbers, groups[number].members(), number as u32)?;
+        next = enter(
+            ids,
+            groups[number].members(),
+            number as u32,
+            next,
+            &mut numbers,
+        );
     }
     Ok(numbers)
 }

@@ -1,9 +1,7 @@
 use Rattle.std.proofs.Common.{take}
-use Rattle.std.specs.Ordering.{nat_cmp}
-use Rattle.std.specs.BTreeMap as tree
-use Rattle.net_groups.specs.Numbering.{AreAnchorsAmong}
+use Rattle.net_groups.specs.Numbering.{number_of, AreAnchorsAmong}
 use Rattle.net_groups.proofs.anchors_of.anchors_among.Given as goal
 
 -- the anchors of the ids that have passed
-abbrev pub invariant-loop-id : goal.invariant-loop-id
-invariant-loop-id l = AreAnchorsAmong l.board.items (λ i. tree.get nat_cmp l.numbers i) (take l.id-index l.ids) l.anchors.items
+abbrev pub invariant-loop-place : goal.invariant-loop-place
+invariant-loop-place l = AreAnchorsAmong l.board.items (number_of l.ids l.numbers) (take l.place l.ids) l.anchors.items

@@ -1,7 +1,10 @@
-use Rattle.std.specs.Ordering.{nat_cmp}
-use Rattle.std.specs.BTreeMap as tree
+use Rattle.std.proofs.Common.{◌≡◌, length}
+use Rattle.net_groups.specs.Numbering.{number_of}
 use Rattle.net_groups.proofs.Numbers.{AreNumberedTo}
 use Rattle.net_groups.proofs.numbering.number_groups.Given as goal
 
 abbrev pub invariant-loop-number : goal.invariant-loop-number
-invariant-loop-number l = AreNumberedTo l.groups l.number (λ id. tree.get nat_cmp l.numbers id)
+invariant-loop-number l = record {
+  many : length l.numbers.items ≡ length l.ids;
+  numbered : AreNumberedTo l.groups l.number (number_of l.ids l.numbers.items);
+}
