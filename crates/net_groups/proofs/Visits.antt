@@ -1,5 +1,6 @@
 -- A visit of a place, one of the others at a time.
 use Rattle.std.proofs.Common.{◌≡◌, ◌⊎◌, ℕ, ◌+◌, ◌<◌, ◌≤◌, take, List, [], ◌∷◌, ◌++◌, length, get_or, set, Contains, Option, None, Some, inl, inr, refl, sym, subst, ◌∙◌, arith}
+use Rattle.std.proofs.lemmas.Bool.{cases_lt}
 use Rattle.std.proofs.lemmas.List.{length-set, length_push, length-take, get_or-take, get_or_default, take_more, take_all}
 use Rattle.std.proofs.lemmas.List.Elements.{Contains-push, Contains-push_cases, Contains-append_left, Contains-append_cases}
 use Rattle.net_groups.specs.Classes.{Rises}
@@ -107,6 +108,30 @@ module _ (Step : ℕ → ℕ → Type 0) (ids : List ℕ) (rises : Rises ids) (p
   pub next_push : length labels ≡ length ids → Step (get_or ids place 0) (get_or ids i 0) → label_at labels i ≡ None
       → IsVisited Step ids (take (i + 1) ids) place label before (set labels i (Some label)) first (stack ++ i ∷ [])
   next_push many touch free = along (set labels i (Some label)) (stack ++ i ∷ []) (visited_push Step ids (take i ids) place label before labels first stack v (get_or ids i 0) rises i lt many refl touch free)
+
+-- none of some more is touched
+pub visited_past : (Step : ℕ → ℕ → Type 0) (ids : List ℕ) → Rises ids → (place label : ℕ) (before labels : List (Option ℕ)) (first stack : List ℕ) (i : ℕ) → IsVisited Step ids (take i ids) place label before labels first stack
+    → (n : ℕ) → ((j : ℕ) → i ≤ j → j < n → j < length ids → Step (get_or ids place 0) (get_or ids j 0) → ⊥) → IsVisited Step ids (take n ids) place label before labels first stack
+visited_past Step ids rises place label before labels first stack i v n none = record {
+  places = v.places;
+  balance = v.balance;
+  kept = v.kept;
+  fresh = v.fresh;
+  stacked = v.stacked;
+  pushed = v.pushed;
+  reached = λ j lt c s.
+      let within : c.0 < length (take n ids) = c.1 in
+      let low : c.0 < n = omega (arith, within, length-take n ids) in
+      let inside : c.0 < length ids = omega (arith, within, length-take n ids) in
+      let is : get_or ids c.0 0 ≡ get_or ids j 0 = sym (get_or-take n ids c.0 0 low) ∙ (get_or_default (take n ids) c.0 0 (get_or ids j 0) within ∙ c.2) in
+      let same : c.0 ≡ j = distinct ids rises c.0 j inside lt is in
+      elim (cases_lt j i) [
+        | inl early ↦
+            let there : j < length (take i ids) = omega (arith, length-take i ids) in
+            v.reached j lt (j, there, get_or-take i ids j (get_or ids j 0) early ∙ get_or_default ids j (get_or ids j 0) 0 lt) s
+        | inr late ↦ absurd (none j late (omega arith) lt s)
+      ];
+}
 
 -- all of a list were asked
 pub visited_all : (Step : ℕ → ℕ → Type 0) (ids others : List ℕ) (place label : ℕ) (before labels : List (Option ℕ)) (first stack : List ℕ) (i : ℕ) → length others ≤ i

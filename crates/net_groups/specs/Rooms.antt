@@ -1,7 +1,7 @@
 -- Private words of the search: the rooms of places, and tiles that hold them.
-use Rattle.std.specs.Prelude.{◌≡◌, ◌≢◌, ℕ, ◌<◌, pos, List, [], Some, length, slice_index, slice_index_or, All, Contains}
+use Rattle.std.specs.Prelude.{◌≡◌, ◌≢◌, ℕ, ◌+◌, ◌*◌, ◌<◌, ◌≤◌, pos, List, [], Some, length, slice_index, slice_index_or, All, Contains}
 use Rattle.geo_seg.specs.declared.boxes.Bounds.{Bounds}
-use Rattle.geo_seg.specs.Boxes.{BoxesMeet, FitsWithin}
+use Rattle.geo_seg.specs.Boxes.{IsPartOf, BoxesMeet, FitsWithin}
 use Rattle.board_items.specs.declared.item.Item.{Item}
 use Rattle.board_items.specs.Boards.{PlainBoard, item_at}
 use Rattle.board_items.specs.Parts.{parts_of}
@@ -18,6 +18,11 @@ pub record AreRooms (Step : ℕ → ℕ → Type 0) (ids : List ℕ) (rooms : Li
   pub many : length rooms ≡ length ids
   pub fit : All (λ room. FitsWithin (pos 1500000000) room) rooms
   pub meet : (i j : ℕ) (d : Bounds) → i < length ids → j < length ids → Step (slice_index ids i) (slice_index ids j) → BoxesMeet (slice_index_or rooms i d) (slice_index_or rooms j d)
+
+-- the boxes lie around the rooms, each around eight of them
+abbrev pub AreRuns : List Bounds → List Bounds → Type 0
+AreRuns rooms runs =
+    (run i : ℕ) (d : Bounds) → run < length runs → run * 8 ≤ i → i < run * 8 + 8 → i < length rooms → IsPartOf (slice_index_or rooms i d) (slice_index_or runs run d)
 
 -- as many other rooms, which meet where the first did
 pub record AreSpread (rooms wide : List Bounds) : Type 0 where

@@ -5,18 +5,19 @@ ghost use Rattle.net_groups.specs.Touching.{TouchOn};
 ghost use Rattle.net_groups.specs.Classes.{Rises};
 ghost use Rattle.geo_seg.specs.Boxes.{FitsWithin};
 ghost use Rattle.box_index.specs.Tiles.{margin};
-ghost use Rattle.net_groups.specs.Rooms.{AreRooms, HoldsRooms, IsRoomAt};
+ghost use Rattle.net_groups.specs.Rooms.{AreRooms, AreRuns, HoldsRooms, IsRoomAt};
 ghost use Rattle.net_groups.specs.Asking.{is_asked, asked_in, IsVisitedWhole};
 ghost use Rattle.net_groups.specs.Labels.{label_at, IsLabelled, IsVisited, AreLabels};
 
 use crate::pairs::is_asked;
 use crate::rooms::Conductors;
+use crate::runs::next_met;
 use crate::spreading::{index_of, spread_out};
 use crate::touch::touch_on;
-use box_index::{Entry, TileIndex, do_boxes_meet};
+use box_index::{Entry, TileIndex};
 use std::alloc::{AllocError, Global};
 
-// So few rooms are each held against all others faster than tiles are made for them.
+// So few rooms are each held against all others, run by run, faster than tiles are made for them.
 const FEW: usize = 256;
 
 /// The label of each place, and how many labels there are.
@@ -38,19 +39,6 @@ fn newly_touched(net: &Conductors<'_>, labels: &[Option<usize>], place: usize, o
     labels[other].is_none() && touch_on(net.board, net.ids[place], net.ids[other])
 }
 
-// `newly_touched` where the rooms tell it or leave it open.
-fn newly_met(net: &Conductors<'_>, labels: &[Option<usize>], place: usize, other: usize) -> bool
-    requires rooms { AreRooms (TouchOn net.now.board.now) net.now.ids.now net.now.rooms.now }
-    requires places { length labels.now ≡ length net.now.ids.now }
-    requires place { place < length net.now.ids.now }
-    requires other { other < length net.now.ids.now }
-    ensures touch { IsTrue result → TouchOn net.now.board.now (slice_index net.now.ids.now place) (slice_index net.now.ids.now other) }
-    ensures free { IsTrue result → label_at labels.now other ≡ None }
-    ensures over { result ≡ false → TouchOn net.now.board.now (slice_index net.now.ids.now place) (slice_index net.now.ids.now other) → IsLabelled labels.now other }
-{
-    do_boxes_meet(net.rooms[place], net.rooms[other]) && newly_touched(net, labels, place, other)
-}
-
 // Labels all that the place touches, and puts the new ones on the stack. Each place before the first has a label.
 fn visit_rooms(
     net: &Conductors<'_>,
@@ -62,16 +50,20 @@ fn visit_rooms(
 ) -> Result<(), AllocError>
     requires rises { Rises net.now.ids.now }
     requires rooms { AreRooms (TouchOn net.now.board.now) net.now.ids.now net.now.rooms.now }
+    requires runs { AreRuns net.now.rooms.now net.now.runs.now }
     requires places { length labels.old ≡ length net.now.ids.now }
     requires place { place < length net.now.ids.now }
     requires first { (i : ℕ) → i < first → IsLabelled labels.old i }
     ensures { OnOk result (IsVisitedWhole (TouchOn net.now.board.now) net.now.ids.now place label labels.old labels.new stack.old.items stack.new.items) }
 {
-    for other in first..net.ids.len() {
-        if newly_met(net, labels, place, other) {
+    let own = net.rooms[place];
+    let mut other = next_met(net.rooms, net.runs, own, first);
+    'others: while other < net.ids.len() {
+        if newly_touched(net, labels, place, other) {
             labels[other] = Some(label);
             stack.push(other)?;
         }
+        other = next_met(net.rooms, net.runs, own, other + 1);
     }
     Ok(())
 }
@@ -166,6 +158,7 @@ fn visit(
     requires holds { IfSome index (λ held. HoldsRooms net.now.rooms.now held.now) }
     requires rises { Rises net.now.ids.now }
     requires rooms { AreRooms (TouchOn net.now.board.now) net.now.ids.now net.now.rooms.now }
+    requires runs { AreRuns net.now.rooms.now net.now.runs.now }
     requires few { length net.now.ids.now < 2 ^ 32 }
     requires places { length labels.old ≡ length net.now.ids.now }
     requires place { place < length net.now.ids.now }
@@ -196,6 +189,7 @@ fn spread(
     requires holds { IfSome index (λ held. HoldsRooms net.now.rooms.now held.now) }
     requires rises { Rises net.now.ids.now }
     requires rooms { AreRooms (TouchOn net.now.board.now) net.now.ids.now net.now.rooms.now }
+    requires runs { AreRuns net.now.rooms.now net.now.runs.now }
     requires few { length net.now.ids.now < 2 ^ 32 }
     requires labels { AreLabels (TouchOn net.now.board.now) net.now.ids.now start label labels.old }
     requires start { start < length net.now.ids.now }
@@ -221,6 +215,7 @@ fn label_all(
     requires holds { IfSome index (λ held. HoldsRooms net.now.rooms.now held.now) }
     requires rises { Rises net.now.ids.now }
     requires rooms { AreRooms (TouchOn net.now.board.now) net.now.ids.now net.now.rooms.now }
+    requires runs { AreRuns net.now.rooms.now net.now.runs.now }
     requires few { length net.now.ids.now < 2 ^ 32 }
     ensures { IfOk result (λ found. AreLabels (TouchOn net.now.board.now) net.now.ids.now (length net.now.ids.now) found.count found.labels.items) }
 {
@@ -240,6 +235,7 @@ fn label_all(
 pub(crate) fn label_groups(alloc: Global, net: &Conductors<'_>) -> Result<Labels, AllocError>
     requires rises { Rises net.now.ids.now }
     requires rooms { AreRooms (TouchOn net.now.board.now) net.now.ids.now net.now.rooms.now }
+    requires runs { AreRuns net.now.rooms.now net.now.runs.now }
     requires few { length net.now.ids.now < 2 ^ 32 }
     ensures { IfOk result (λ found. AreLabels (TouchOn net.now.board.now) net.now.ids.now (length net.now.ids.now) found.count found.labels.items) }
 {
@@ -248,10 +244,12 @@ pub(crate) fn label_groups(alloc: Global, net: &Conductors<'_>) -> Result<Labels
     }
     let rooms = spread_out(alloc, net.rooms)?;
     let index = index_of(alloc, &rooms)?;
+    let none = Vec::new(alloc);
     let wide = Conductors {
         board: net.board,
         ids: net.ids,
         rooms: &rooms,
+        runs: &none,
     };
     label_all(alloc, &wide, Some(&index))
 }

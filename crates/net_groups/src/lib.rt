@@ -12,6 +12,7 @@ mod numbering;
 mod of_net;
 mod pairs;
 mod rooms;
+mod runs;
 mod spreading;
 mod stretch;
 mod touch;

@@ -10,6 +10,7 @@ use crate::gather::gather;
 use crate::group::Group;
 use crate::labels::label_groups;
 use crate::rooms::{Conductors, rooms_of};
+use crate::runs::runs_of;
 use board_items::Board;
 use box_index::TileIndex;
 use std::alloc::{AllocError, Global};
@@ -30,12 +31,13 @@ fn conductors(alloc: Global, board: &Board, net: u32) -> Result<Vec<u32>, AllocE
     ensures ids { IfOk result (λ ids. AreConductors board.now net ids.items) }
     ensures few { IfOk result (λ ids. length ids.items < 2 ^ 32) }
 {
-    let mut ids = Vec::new(alloc);
+    let all = board.of_net(net);
+    let mut ids = Vec::with_capacity(alloc, all.len())?;
     board.soundness();
     if net == 0 {
         return Ok(ids);
     }
-    for id in board.of_net(net) {
+    for id in all {
         if has_copper(board, *id) {
             ids.push(*id)?;
         }
@@ -62,10 +64,12 @@ pub fn groups(
 {
     let ids = conductors(alloc, board, net)?;
     let rooms = rooms_of(alloc, board, &ids)?;
+    let runs = runs_of(alloc, &rooms)?;
     let own = Conductors {
         board,
         ids: &ids,
         rooms: &rooms,
+        runs: &runs,
     };
     let found = label_groups(alloc, &own)?;
     gather(alloc, &ids, &found.labels, found.count)

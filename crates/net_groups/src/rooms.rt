@@ -11,12 +11,14 @@ use board_items::{Board, Item};
 use geo_seg::Bounds;
 use std::alloc::{AllocError, Global};
 
-/// The conductors of a net: their ids, rising, and for each a room. Where two of them touch, their rooms meet.
+/// The conductors of a net: their ids, rising, and for each a room. Where two of them touch, their rooms meet. There are boxes around
+/// runs of rooms, or none.
 #[derive(Clone, Copy)]
 pub(crate) struct Conductors<'a> {
     pub(crate) board: &'a Board,
     pub(crate) ids: &'a [u32],
     pub(crate) rooms: &'a [Bounds],
+    pub(crate) runs: &'a [Bounds],
 }
 
 // The room of what takes up none.

@@ -7,7 +7,7 @@ use Rattle.net_groups.proofs.of_net.conductors.Goals as goal
 
 pub returns-clause-ids : goal.returns-clause-ids
 returns-clause-ids c =
-    kept_all c.args.board.now c.args.net c.soundness.ensures.sound c.if-net-eq0.false c.loop-id.id-index (omega (arith, ap length c.of_net-id-items.ensures)) c.loop-id.ids.items c.loop-id.invariant
+    kept_all c.args.board.now c.args.net c.soundness.ensures.sound c.if-net-eq0.false c.loop-id.id-index (omega (arith, ap length c.of_net-all.ensures)) c.loop-id.ids.items c.loop-id.invariant
 
 pub returns-clause-few : goal.returns-clause-few
 returns-clause-few c = conductors_few c.args.board.now c.args.net c.soundness.ensures.sound (λ id. is_copper (item_at c.args.board.now.items id)) c.loop-id.id-index c.loop-id.ids.items c.loop-id.invariant

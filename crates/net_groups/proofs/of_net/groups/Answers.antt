@@ -6,8 +6,8 @@ use Rattle.net_groups.proofs.of_net.groups.Goals as goal
 
 pub returns-clause-groups : goal.returns-clause-groups
 returns-clause-groups c =
-    let gathered = rw (c.deref-5.ensures.value, c.deref-4.ensures.value) at c.gather.ensures in
-    let labelled = rw c.deref-2.ensures.value at c.in_ok-found.ensures in
+    let gathered = rw (c.deref-7.ensures.value, c.deref-6.ensures.value) at c.gather.ensures in
+    let labelled = rw c.deref-3.ensures.value at c.in_ok-found.ensures in
     IfOk-weaker c.gather.result _ _
     (λ groups h. on_net c.args.board.now c.args.net c.in_ok-ids.ensures.sound groups.items
     (groups_are c.args.board.now c.args.net c.in_ok-ids.ids.items c.in_ok-found.found.count c.in_ok-found.found.labels.items groups.items c.in_ok-ids.ensures.ids labelled h)) gathered

@@ -1,0 +1,82 @@
+//! Rooms in runs, each with a box around it: those of a run that is far are passed over together.
+
+ghost use Rattle.std.specs.Prelude.{◌≡◌, ◌*◌, ◌<◌, ◌≤◌, ℕ, IsTrue, IfOk, length, slice_index_or};
+ghost use Rattle.geo_seg.specs.declared.boxes.Bounds.{Bounds};
+ghost use Rattle.geo_seg.specs.Boxes.{IsPartOf, BoxesMeet};
+ghost use Rattle.net_groups.specs.Rooms.{AreRuns};
+
+use box_index::do_boxes_meet;
+use geo_seg::Bounds;
+use std::alloc::{AllocError, Global};
+
+// How many rooms are in a run.
+const RUN: usize = 8;
+
+// A box around the rooms from one place to another.
+fn run_of(rooms: &[Bounds], low: usize, high: usize) -> Bounds
+    ensures { (i : ℕ) (d : Bounds) → low ≤ i → i < high → i < length rooms.now → IsPartOf (slice_index_or rooms.now i d) result }
+{
+    let mut run = Bounds {
+        left: 1_500_000_000,
+        top: 1_500_000_000,
+        right: -1_500_000_000,
+        bottom: -1_500_000_000,
+    };
+    for place in low..high.min(rooms.len()) {
+        run = run.union(rooms[place]);
+    }
+    run
+}
+
+/// The boxes around the runs of these rooms.
+pub(crate) fn runs_of(alloc: Global, rooms: &[Bounds]) -> Result<Vec<Bounds>, AllocError>
+    ensures { IfOk result (λ runs. AreRuns rooms.now runs.items) }
+{
+    let count = rooms.len() / RUN + 1;
+    let mut runs = Vec::with_capacity(alloc, count)?;
+    for run in 0..count {
+        runs.push(run_of(rooms, run * RUN, run * RUN + RUN))?;
+    }
+    Ok(runs)
+}
+
+// Whether the boxes share no point.
+fn is_far(own: Bounds, room: Bounds) -> bool
+    ensures { IsTrue result → ¬ (BoxesMeet own room) }
+{
+    !do_boxes_meet(own, room)
+}
+
+// Whether there is a box around the run, and it is far from this one.
+fn is_clear(runs: &[Bounds], run: usize, own: Bounds) -> bool
+    ensures { IsTrue result → (run < length runs.now) × ((d : Bounds) → ¬ (BoxesMeet own (slice_index_or runs.now run d))) }
+{
+    run < runs.len() && is_far(own, runs[run])
+}
+
+// Whether a run begins at the place, and its box is far from this one.
+fn begins_clear(runs: &[Bounds], place: usize, own: Bounds) -> bool
+    ensures { IsTrue result → (run : ℕ) × (run * 8 ≡ place) × (run < length runs.now) × ((d : Bounds) → ¬ (BoxesMeet own (slice_index_or runs.now run d))) }
+{
+    let run = place / RUN;
+    run * RUN == place && is_clear(runs, run, own)
+}
+
+/// The first place from the one that is given on whose room meets this one. Where there is none, all later rooms are passed.
+pub(crate) fn next_met(rooms: &[Bounds], runs: &[Bounds], own: Bounds, from: usize) -> usize
+    requires { AreRuns rooms.now runs.now }
+    ensures from { from ≤ result }
+    ensures apart { (i : ℕ) (d : Bounds) → from ≤ i → i < result → i < length rooms.now → ¬ (BoxesMeet own (slice_index_or rooms.now i d)) }
+{
+    let mut place = from;
+    'places: while place < rooms.len() {
+        if begins_clear(runs, place, own) {
+            place += RUN;
+        } else if is_far(own, rooms[place]) {
+            place += 1;
+        } else {
+            return place;
+        }
+    }
+    place
+}
