@@ -8,15 +8,16 @@ use Rattle.drc_io.specs.Lengths.{IsLength}
 use Rattle.board_items.specs.declared.item.Item.{Item}
 use Rattle.board_items.specs.Boards.{PlainBoard, is_near, is_on_board, is_admitted, name_of, has_layers_of}
 use Rattle.cond_lang.specs.declared.kind.Kind.{Kind}
-use Rattle.pair_check.specs.declared.subject.Faces.{Faces}
-use Rattle.pair_check.specs.declared.subject.Faces.TheVariants.{Coppers, HolesAndCopper, Holes, EdgesAndCopper, Yards, Areas}
-use Rattle.pair_check.specs.declared.subject.Measure.{Measure}
-use Rattle.pair_check.specs.declared.subject.Measure.TheVariants.{Width, Diameter, Bore, Ring}
-use Rattle.pair_check.specs.declared.subject.Subject.{Subject}
-use Rattle.pair_check.specs.declared.subject.Subject.TheVariants.{Sides, Length, Whole}
-use Rattle.pair_check.specs.declared.layer.RowLayer.TheVariants.{Copper}
-use Rattle.pair_check.specs.Subjects.{subject_of}
-use Rattle.pair_check.specs.PlainRow.{IsFacedOn, IsMeasuredOn, IsSeenOn, IsLayerOf, IsWithin}
+use Rattle.kind_subjects.specs.declared.subject.Faces.{Faces}
+use Rattle.kind_subjects.specs.declared.subject.Faces.TheVariants.{Coppers, HolesAndCopper, Holes, EdgesAndCopper, Yards, Areas}
+use Rattle.kind_subjects.specs.declared.subject.Measure.{Measure}
+use Rattle.kind_subjects.specs.declared.subject.Measure.TheVariants.{Width, Diameter, Bore, Ring}
+use Rattle.kind_subjects.specs.declared.subject.Subject.{Subject}
+use Rattle.kind_subjects.specs.declared.subject.Subject.TheVariants.{Sides, Length, Whole}
+use Rattle.kind_subjects.specs.declared.layer.RowLayer.TheVariants.{Copper}
+use Rattle.kind_subjects.specs.Subjects.{subject_of}
+use Rattle.kind_subjects.specs.KindLayers.{IsFacedOn, IsMeasuredOn, IsSeenOn, IsLayerOf}
+use Rattle.kind_subjects.specs.Lengths.{IsWithin}
 
 -- a length, as it is passed to a call
 pub length_far : {v : ℤ} → IsLength v → unsigned_abs (passed v) ≤ 1000000000000

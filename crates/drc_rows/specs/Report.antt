@@ -16,8 +16,8 @@ use Rattle.cond_lang.specs.Kinds.{family, kind_name}
 use Rattle.cond_lang.specs.Rules.{PlainRule}
 use Rattle.rule_pick.specs.declared.kinds.Source.{Source}
 use Rattle.rule_pick.specs.declared.kinds.Source.TheVariants.{Default, Local, Rule}
-use Rattle.pair_check.specs.declared.layer.RowLayer.{RowLayer}
-use Rattle.pair_check.specs.declared.layer.RowLayer.TheVariants.{Copper, FrontYard, BackYard, Nowhere}
+use Rattle.kind_subjects.specs.declared.layer.RowLayer.{RowLayer}
+use Rattle.kind_subjects.specs.declared.layer.RowLayer.TheVariants.{Copper, FrontYard, BackYard, Nowhere}
 use Rattle.pair_check.specs.PlainRow.{PlainRow}
 use Rattle.rule_text.specs.RulesOf.{PlainRules}
 use Rattle.drc_rows.specs.Line.{named}

@@ -22,13 +22,13 @@ use Rattle.cond_lang.specs.Rules.{PlainConstraint, PlainRule, plain_constraint, 
 use Rattle.rule_pick.specs.declared.facts.Facts.{Facts}
 use Rattle.rule_pick.specs.Deciding.{minimum, is_clearance, greater_if, local_if, class_clearance_if, local_of, asked_by, no_bans, IsPick}
 use Rattle.rule_pick.specs.Picks.{Pick}
-use Rattle.pair_check.specs.declared.layer.RowLayer.{RowLayer}
-use Rattle.pair_check.specs.Layers.{asked_layer}
+use Rattle.kind_subjects.specs.declared.layer.RowLayer.{RowLayer}
+use Rattle.kind_subjects.specs.Layers.{asked_layer}
 use Rattle.pair_check.specs.Asked.{asks, some_asks, has_default, AsksNothing}
 use Rattle.pair_check.specs.Pairs.{Deciders, Pair, IsNearAt}
 use Rattle.pair_check.specs.Singles.{bans_what, bans_item, ForbidsBy, Forbids, IsForbiddenAt}
-use Rattle.pair_check.specs.Stages.{is_courtyard}
-use Rattle.pair_check.proofs.NearLayers.{not_near, kept_none}
+use Rattle.kind_subjects.specs.Sides.{is_courtyard}
+use Rattle.kind_subjects.proofs.NearLayers.{not_near, kept_none}
 use Rattle.pair_check.proofs.NearPicks.{at_has}
 
 -- ---- rules that ask nothing

@@ -8,18 +8,18 @@ use Rattle.cond_lang.specs.declared.kind.Kind.{Kind}
 use Rattle.cond_lang.specs.declared.kind.Kind.TheVariants.{Short, Clearance, HoleClearance, HoleToHole, EdgeClearance, CourtyardClearance, Keepout, TrackWidth, ViaDiameter, HoleSize, AnnularWidth, Disallow, PhysicalClearance, PhysicalHoleClearance, Assertion}
 use Rattle.cond_lang.specs.Kinds.{family}
 use Rattle.pair_check.specs.declared.asked.Asked.{Asked}
-use Rattle.pair_check.specs.declared.layer.RowLayer.{RowLayer}
-use Rattle.pair_check.specs.declared.subject.Faces.TheVariants.{EdgesAndCopper}
-use Rattle.pair_check.specs.declared.subject.Subject.TheVariants.{Sides}
+use Rattle.kind_subjects.specs.declared.layer.RowLayer.{RowLayer}
+use Rattle.kind_subjects.specs.declared.subject.Faces.TheVariants.{EdgesAndCopper}
+use Rattle.kind_subjects.specs.declared.subject.Subject.TheVariants.{Sides}
 use Rattle.pair_check.specs.PlainRow.{PlainRow}
-use Rattle.pair_check.specs.Compared.{is_body, keeps_out, are_round_holes, is_compared}
-use Rattle.pair_check.specs.Facing.{lines_of}
+use Rattle.kind_subjects.specs.Compared.{is_body, keeps_out, are_round_holes, is_compared}
+use Rattle.kind_subjects.specs.Facing.{lines_of}
 use Rattle.pair_check.specs.Pairs.{Deciders, Pair, IsNearAt, BreaksBy}
 use Rattle.pair_check.specs.Asked.{IsNoteOf}
 use Rattle.pair_check.specs.Rows.{AreRowsWhere}
 use Rattle.pair_check.specs.Stages.{IsOfPair}
 use Rattle.pair_check.specs.Idle.{is_copper, IsIdle}
-use Rattle.pair_check.proofs.Unfaced.{unlike, near_within, kind_within, edge_within}
+use Rattle.kind_subjects.proofs.Unfaced.{unlike, near_within, kind_within, edge_within}
 
 no_lines : (what : What) → is_copper what ≡ true → lines_of what ≡ []
 no_lines (Edge lines) e = cc

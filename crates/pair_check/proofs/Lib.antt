@@ -1,14 +1,9 @@
-pub mod TriedLayers
 pub mod KindRows
 pub mod OneRow
-pub mod NearLayers
 pub mod Picks
-pub mod Lengths
 pub mod RowsOfPair
 pub mod RowsOfSingle
-pub mod FacedLists
 pub mod NearPicks
-pub mod Unfaced
 pub mod AskedKinds
 pub mod SameRow
 pub mod IdlePairs

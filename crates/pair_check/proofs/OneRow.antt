@@ -10,17 +10,18 @@ use Rattle.cond_lang.specs.Kinds.{family}
 use Rattle.rule_pick.specs.declared.facts.Facts.{Facts}
 use Rattle.rule_pick.specs.Picks.{Pick}
 use Rattle.rule_pick.proofs.OnePick.{one_pick}
-use Rattle.pair_check.specs.declared.subject.Measure.TheVariants.{Width, Diameter, Bore, Ring}
-use Rattle.pair_check.specs.declared.subject.Subject.{Subject}
-use Rattle.pair_check.specs.declared.subject.Subject.TheVariants.{Sides, Length, Whole}
-use Rattle.pair_check.specs.declared.layer.RowLayer.{RowLayer}
-use Rattle.pair_check.specs.Subjects.{subject_of}
+use Rattle.kind_subjects.specs.declared.subject.Measure.TheVariants.{Width, Diameter, Bore, Ring}
+use Rattle.kind_subjects.specs.declared.subject.Subject.{Subject}
+use Rattle.kind_subjects.specs.declared.subject.Subject.TheVariants.{Sides, Length, Whole}
+use Rattle.kind_subjects.specs.declared.layer.RowLayer.{RowLayer}
+use Rattle.kind_subjects.specs.Subjects.{subject_of}
 use Rattle.pair_check.specs.PlainRow.{PlainRow}
-use Rattle.pair_check.specs.Layers.{IsFirst, asked_layer}
-use Rattle.pair_check.specs.Facing.{MeetAt, KeepAt}
+use Rattle.kind_subjects.specs.Layers.{IsFirst, asked_layer}
+use Rattle.kind_subjects.specs.Facing.{MeetAt, KeepAt}
 use Rattle.pair_check.specs.Pairs.{Deciders, Pair, IsPickOf, IsNearAt, SaysMeeting, SaysNear, BreaksBy, Breaks}
-use Rattle.pair_check.specs.Singles.{IsPickAlone, IsOffAt, IsForbiddenAt, length_of, times_in, times, BreaksLimit, IsQuotient, SaysLimit, SaysForbidden, BreaksAloneBy, BreaksAlone}
-use Rattle.pair_check.proofs.TriedLayers.{first_once}
+use Rattle.kind_subjects.specs.Lengths.{length_of, times_in, times, IsQuotient}
+use Rattle.pair_check.specs.Singles.{IsPickAlone, IsOffAt, IsForbiddenAt, BreaksLimit, SaysLimit, SaysForbidden, BreaksAloneBy, BreaksAlone}
+use Rattle.kind_subjects.proofs.TriedLayers.{first_once}
 
 -- ---- numbers
 

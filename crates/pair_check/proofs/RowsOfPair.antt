@@ -12,16 +12,16 @@ use Rattle.rule_pick.specs.declared.facts.Facts.{Facts}
 use Rattle.rule_pick.specs.declared.kinds.Source.TheVariants.{Default}
 use Rattle.rule_pick.specs.FactsOf.{AreFactsOf}
 use Rattle.rule_pick.proofs.OneFacts.{one_facts}
-use Rattle.pair_check.specs.declared.layer.RowLayer.{RowLayer}
+use Rattle.kind_subjects.specs.declared.layer.RowLayer.{RowLayer}
 use Rattle.pair_check.specs.PlainRow.{PlainRow, AreOrdered, AreInOrder}
-use Rattle.pair_check.specs.Layers.{IsFirst}
-use Rattle.pair_check.specs.Compared.{is_compared}
-use Rattle.pair_check.specs.Facing.{MeetAt}
+use Rattle.kind_subjects.specs.Layers.{IsFirst}
+use Rattle.kind_subjects.specs.Compared.{is_compared}
+use Rattle.kind_subjects.specs.Facing.{MeetAt}
 use Rattle.pair_check.specs.Pairs.{Deciders, Pair, DoMeet, SaysMeeting, SaysNear, BreaksBy, Breaks}
 use Rattle.pair_check.specs.Asked.{AsksNothing}
 use Rattle.pair_check.specs.Rows.{Checked, deciders, Stands, IsRowOfTwo, AreRowsWhere, AreRowsOfPair}
 use Rattle.pair_check.specs.Stages.{IsOfPair, IsOfKind, IsBelow, AreRowsBelow}
-use Rattle.pair_check.proofs.TriedLayers.{none_of_no_first}
+use Rattle.kind_subjects.proofs.TriedLayers.{none_of_no_first}
 use Rattle.pair_check.proofs.KindRows.{with_row, without_row, passes}
 use Rattle.pair_check.proofs.OneRow.{AreAlike, broken_once}
 

@@ -1,8 +1,6 @@
 -- The rows of a single item, kind by kind.
-use Rattle.std.proofs.Common.{◌≡◌, ◌⊎◌, inl, inr, refl, sym, ap, subst, ◌∙◌, ℕ, ◌+◌, ◌<◌, ◌≤◌, Bool, true, false, IsTrue, if◌then◌else◌, List, [], ◌∷◌, ◌++◌, arith}
+use Rattle.std.proofs.Common.{◌≡◌, ◌⊎◌, inl, inr, refl, sym, subst, ◌∙◌, ℕ, ◌+◌, ◌<◌, ◌≤◌, List, [], ◌∷◌, ◌++◌, arith}
 use Rattle.copper_layers.specs.declared.set.LayerSet.{LayerSet}
-use Rattle.board_items.specs.declared.parts.Part.{Part}
-use Rattle.board_items.specs.declared.item.What.{What}
 use Rattle.board_items.specs.declared.item.What.TheVariants as what
 use Rattle.board_items.specs.declared.item.Item.{Item}
 use Rattle.cond_lang.specs.declared.kind.Kind.{Kind}
@@ -10,22 +8,20 @@ use Rattle.cond_lang.specs.declared.kind.Kind.TheVariants.{TrackWidth, ViaDiamet
 use Rattle.cond_lang.specs.declared.kind.Family.{Family}
 use Rattle.cond_lang.specs.declared.kind.Family.TheVariants.{Limits, Forbids}
 use Rattle.cond_lang.specs.Kinds.{family, kind_number}
-use Rattle.copper_layers.specs.Layers.{has_layer}
-use Rattle.rule_pick.specs.FactsOf.{SomeOn}
 use Rattle.rule_pick.specs.declared.facts.Facts.{Facts}
-use Rattle.pair_check.specs.declared.subject.Measure.{Measure}
-use Rattle.pair_check.specs.declared.subject.Measure.TheVariants.{Width, Diameter, Bore, Ring}
-use Rattle.pair_check.specs.declared.subject.Subject.{Subject}
-use Rattle.pair_check.specs.declared.subject.Subject.TheVariants.{Sides, Length, Whole}
-use Rattle.pair_check.specs.declared.layer.RowLayer.{RowLayer}
-use Rattle.pair_check.specs.declared.layer.RowLayer.TheVariants.{Copper, FrontYard, BackYard, Nowhere}
-use Rattle.pair_check.specs.Subjects.{subject_of}
-use Rattle.pair_check.specs.PlainRow.{PlainRow, AreOrdered, AreInOrder, IsMeasuredOn, IsSeenOn, IsLayerOf, IsCopper, IsNowhere}
-use Rattle.pair_check.specs.Layers.{rank, IsTried}
-use Rattle.pair_check.specs.Singles.{LiesAt, IsAskedAt, IsOnCopper, IsMeasuredBy, IsMeasuredIn, IsMeasuredAt, SaysLimit, SaysForbidden, BreaksAloneBy, BreaksAlone}
+use Rattle.kind_subjects.specs.declared.subject.Subject.{Subject}
+use Rattle.kind_subjects.specs.declared.subject.Subject.TheVariants.{Whole}
+use Rattle.kind_subjects.specs.declared.layer.RowLayer.{RowLayer}
+use Rattle.kind_subjects.specs.Subjects.{subject_of}
+use Rattle.kind_subjects.specs.KindLayers.{IsSeenOn, IsLayerOf}
+use Rattle.pair_check.specs.PlainRow.{PlainRow, AreOrdered, AreInOrder}
+use Rattle.kind_subjects.specs.Layers.{IsTried}
+use Rattle.kind_subjects.specs.SingleLayers.{IsAskedAt}
+use Rattle.pair_check.specs.Singles.{SaysLimit, SaysForbidden, BreaksAloneBy, BreaksAlone}
 use Rattle.pair_check.specs.Pairs.{Deciders}
 use Rattle.pair_check.specs.Rows.{Checked, deciders, Stands, IsRowOfOne, AreRowsWhere, AreRowsOfItem}
 use Rattle.pair_check.specs.Stages.{IsOfSingle, IsOfKind, IsBelow, AreRowsBelow}
+use Rattle.kind_subjects.proofs.SingleLayers.{asked_at}
 use Rattle.pair_check.proofs.KindRows.{with_row, without_row, no_rows, passes}
 use Rattle.pair_check.proofs.OneRow.{AreAlike, broken_alone_once}
 use Rattle.pair_check.proofs.RowsOfPair.{item_once, facts_once}
@@ -37,62 +33,6 @@ limit_in_order kind id e = subst (λ (f : Family). AreOrdered f id id) (sym e) r
 
 pub ban_in_order : (kind : Kind) (id : ℕ) → family kind ≡ Forbids → AreInOrder kind id id
 ban_in_order kind id e = subst (λ (f : Family). AreOrdered f id id) (sym e) refl
-
-nowhere : (layer : RowLayer) → layer ≡ Nowhere → IsNowhere layer
-nowhere layer e = subst IsNowhere (sym e) tt
-
-on_copper : (copper : LayerSet) (parts : List Part) (layer : RowLayer) → IsTried copper layer → IsOnCopper parts layer → IsCopper layer
-on_copper copper parts (Copper n) is at = is.below
-on_copper copper parts _ is at = absurd at
-
-measured_on : (copper : LayerSet) (measure : Measure) (item : Item) (layer : RowLayer) → IsTried copper layer → IsMeasuredBy measure item layer → IsMeasuredOn measure layer
-measured_on copper Width item layer is at = on_copper copper item.copper layer is at
-measured_on copper Diameter item layer is at = nowhere layer at
-measured_on copper Bore item layer is at = nowhere layer at
-measured_on copper Ring item layer is at = nowhere layer at
-
-measured_in : (copper : LayerSet) (subject : Subject) (item : Item) (layer : RowLayer) → IsTried copper layer → IsMeasuredIn subject item layer → IsSeenOn subject layer
-measured_in copper (Sides faces) item layer is at = absurd at
-measured_in copper (Length measure) item layer is at = measured_on copper measure item layer is at
-measured_in copper Whole item layer is at = absurd at
-
-pub limit_layer : (copper : LayerSet) (kind : Kind) (item : Item) (layer : RowLayer) → IsTried copper layer → IsMeasuredAt kind item layer → IsLayerOf kind layer
-limit_layer copper kind item layer is at = measured_in copper (subject_of kind) item layer is at
-
--- where the layers of the copper have places from the one to before the other, the width of a track is measured on such places
-pub width_within : (item : Item) (parts : List Part) (set : LayerSet) (from to : ℕ) → item.copper ≡ parts → ((layer : ℕ) → SomeOn layer parts → IsTrue (has_layer set layer))
-    → ((layer : ℕ) → IsTrue (has_layer set layer) → (from ≤ layer) × (layer < to)) → (layer : RowLayer) → IsOnCopper item.copper layer → (from ≤ rank layer) × (rank layer < to)
-width_within item parts set from to same each places (Copper n) at = places n (each n (subst (λ (ps : List Part). SomeOn n ps) same at))
-width_within item parts set from to same each places _ at = absurd at
-
--- the other lengths are measured on none
-pub none_within : (layer : RowLayer) → layer ≡ Nowhere → (34 ≤ rank layer) × (rank layer < 35)
-none_within layer at = let e = ap rank at in (omega arith, omega arith)
-
-lies_layer : (copper : LayerSet) (parts : List Part) (layer : RowLayer) → IsTried copper layer → LiesAt parts layer → IsCopper layer ⊎ IsNowhere layer
-lies_layer copper parts (Copper n) is at = inl is.below
-lies_layer copper parts Nowhere is at = inr tt
-lies_layer copper parts FrontYard is at = absurd at
-lies_layer copper parts BackYard is at = absurd at
-
-no_yard : (on_back : Bool) (yard : RowLayer) → (yard ≡ FrontYard) ⊎ (yard ≡ BackYard) → yard ≡ (if on_back then Copper 31 else Copper 0) → ⊥
-no_yard true yard (inl e) f = cc
-no_yard true yard (inr e) f = cc
-no_yard false yard (inl e) f = cc
-no_yard false yard (inr e) f = cc
-
-side_layer : (copper : LayerSet) (on_back : Bool) (layer : RowLayer) → IsTried copper layer → layer ≡ (if on_back then Copper 31 else Copper 0) → IsCopper layer ⊎ IsNowhere layer
-side_layer copper on_back (Copper n) is e = inl is.below
-side_layer copper on_back Nowhere is e = inr tt
-side_layer copper on_back FrontYard is e = absurd (no_yard on_back FrontYard (inl refl) e)
-side_layer copper on_back BackYard is e = absurd (no_yard on_back BackYard (inr refl) e)
-
-pub asked_at : (copper : LayerSet) (item : Item) (w : What) (layer : RowLayer) → IsTried copper layer → IsAskedAt item w layer → IsCopper layer ⊎ IsNowhere layer
-asked_at copper item (what.Body reference front back on_back) layer is at = side_layer copper on_back layer is at
-asked_at copper item (what.Edge lines) layer is at = absurd at
-asked_at copper item (what.Area title bans shape) layer is at = absurd at
-asked_at copper item (what.Note about at_layer) layer is at = absurd at
-asked_at copper item _ layer is at = lies_layer copper item.copper layer is at
 
 whole_of : (kind : Kind) → family kind ≡ Forbids → subject_of kind ≡ Whole
 whole_of Disallow e = refl

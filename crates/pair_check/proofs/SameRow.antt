@@ -7,7 +7,7 @@ use Rattle.pair_check.specs.PlainRow.{PlainRow}
 use Rattle.cond_lang.specs.declared.kind.Kind.{Kind}
 use Rattle.cond_lang.specs.declared.rule.Severity.{Severity}
 use Rattle.rule_pick.specs.declared.kinds.Source.{Source}
-use Rattle.pair_check.specs.declared.layer.RowLayer.{RowLayer}
+use Rattle.kind_subjects.specs.declared.layer.RowLayer.{RowLayer}
 use Rattle.pair_check.specs.SameRows.{same_kinds, same_layers, same_sources, same_severities, same_places, same_lengths, same_causes, same_rows}
 
 numbers : (a b : ℕ) → Decides (a == b) (a ≡ b)

@@ -1,10 +1,10 @@
 -- Pairs that are told at a look: two items of one net between which nothing can be asked.
-use Rattle.std.specs.Prelude.{◌≡◌, Bool, true, false, ◌⊎◌, Option, None}
+use Rattle.std.specs.Prelude.{◌≡◌, Bool, true, false, ◌⊎◌, None}
 use Rattle.board_items.specs.declared.item.What.{What}
 use Rattle.board_items.specs.declared.item.What.TheVariants.{Track, Via, Pad, Graphic, Fill, Edge, Area, Body, Note}
 use Rattle.board_items.specs.declared.item.Item.{Item}
 use Rattle.pair_check.specs.declared.asked.Asked.{Asked}
-use Rattle.pair_check.specs.Compared.{share_net}
+use Rattle.kind_subjects.specs.Compared.{share_net}
 
 -- copper: no edge, no area, no footprint and no note
 abbrev pub is_copper : What → Bool

@@ -1,9 +1,4 @@
-pub mod Subjects
 pub mod PlainRow
-pub mod Layers
-pub mod Compared
-pub mod Facing
-pub mod Sides
 pub mod Pairs
 pub mod Asked
 pub mod Singles

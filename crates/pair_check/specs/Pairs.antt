@@ -15,11 +15,11 @@ use Rattle.rule_pick.specs.declared.facts.Facts.{Facts}
 use Rattle.rule_pick.specs.declared.kinds.Source.TheVariants.{Default}
 use Rattle.rule_pick.specs.Deciding.{IsPick}
 use Rattle.rule_pick.specs.Picks.{Pick}
-use Rattle.pair_check.specs.declared.layer.RowLayer.{RowLayer}
+use Rattle.kind_subjects.specs.declared.layer.RowLayer.{RowLayer}
 use Rattle.pair_check.specs.PlainRow.{PlainRow, Counts}
-use Rattle.pair_check.specs.Layers.{IsFirst, HoldsSomewhere, asked_layer}
-use Rattle.pair_check.specs.Compared.{is_compared}
-use Rattle.pair_check.specs.Facing.{MeetAt, KeepAt, TooNear}
+use Rattle.kind_subjects.specs.Layers.{IsFirst, HoldsSomewhere, asked_layer}
+use Rattle.kind_subjects.specs.Compared.{is_compared}
+use Rattle.kind_subjects.specs.Facing.{MeetAt, KeepAt, TooNear}
 
 -- what decides: the copper layers of the board, its least values, and the rules
 pub record Deciders : Type 0 where

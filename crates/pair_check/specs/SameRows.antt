@@ -12,9 +12,9 @@ use Rattle.cond_lang.specs.contracts.rule.SeverityPartialEq.TheImpl.Laws as seve
 use Rattle.rule_pick.specs.declared.kinds.Source.{Source}
 use Rattle.rule_pick.specs.contracts.kinds.SourcePartialEq.TheImpl as sources
 use Rattle.rule_pick.specs.contracts.kinds.SourcePartialEq.TheImpl.Laws as source_laws
-use Rattle.pair_check.specs.declared.layer.RowLayer.{RowLayer}
-use Rattle.pair_check.specs.contracts.layer.RowLayerPartialEq.TheImpl as layers
-use Rattle.pair_check.specs.contracts.layer.RowLayerPartialEq.TheImpl.Laws as layer_laws
+use Rattle.kind_subjects.specs.declared.layer.RowLayer.{RowLayer}
+use Rattle.kind_subjects.specs.contracts.layer.RowLayerPartialEq.TheImpl as layers
+use Rattle.kind_subjects.specs.contracts.layer.RowLayerPartialEq.TheImpl.Laws as layer_laws
 use Rattle.pair_check.specs.PlainRow.{PlainRow}
 
 -- what `==` says of kinds, layers, sources and severities

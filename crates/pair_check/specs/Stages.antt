@@ -1,21 +1,17 @@
 -- What the walks over layers find, and the lists of rows that grow kind by kind.
-use Rattle.std.specs.Prelude.{◌≡◌, ◌<◌, ℕ, ℤ, Bool, true, false, List}
-use Rattle.copper_layers.specs.declared.set.LayerSet.{LayerSet}
+use Rattle.std.specs.Prelude.{◌≡◌, ◌<◌, ℕ, ℤ, List}
 use Rattle.board_items.specs.declared.item.Item.{Item}
 use Rattle.geo_seg.specs.Distances.{IsGap}
 use Rattle.cond_lang.specs.declared.kind.Kind.{Kind}
-use Rattle.cond_lang.specs.declared.kind.Kind.TheVariants.{CourtyardClearance}
 use Rattle.cond_lang.specs.Kinds.{kind_number}
 use Rattle.rule_pick.specs.declared.facts.Facts.{Facts}
 use Rattle.rule_pick.specs.Picks.{pick_of}
-use Rattle.pair_check.specs.declared.layer.RowLayer.{RowLayer}
 use Rattle.pair_check.specs.declared.found.Pair as code
 use Rattle.pair_check.specs.declared.found.Near.{Near}
 use Rattle.pair_check.specs.declared.found.Off.{Off}
 use Rattle.pair_check.specs.declared.found.Forbidden.{Forbidden}
 use Rattle.pair_check.specs.PlainRow.{PlainRow, Counts}
-use Rattle.pair_check.specs.Layers.{IsTried}
-use Rattle.pair_check.specs.Facing.{KeepAt, TooNear}
+use Rattle.kind_subjects.specs.Facing.{KeepAt, TooNear}
 use Rattle.pair_check.specs.Pairs.{Deciders, Pair, IsPickOf, Breaks}
 use Rattle.pair_check.specs.Singles.{IsPickAlone, BreaksLimit, Forbids, BreaksAlone}
 use Rattle.pair_check.specs.Rows.{AreRowsWhere}
@@ -23,17 +19,7 @@ use Rattle.pair_check.specs.Rows.{AreRowsWhere}
 abbrev pub pair_of : code.Pair → Pair
 pair_of p = record { a = p.a.now; b = p.b.now; facts_a = p.facts_a.now; facts_b = p.facts_b.now }
 
--- ---- kinds
-
-abbrev pub is_courtyard : Kind → Bool
-is_courtyard CourtyardClearance = true
-is_courtyard _ = false
-
 -- ---- layers
-
--- P holds on none of the layers
-pub record HoldsNowhere (copper : LayerSet) (P : RowLayer → Type 0) : Type 0 where
-  pub none : (layer : RowLayer) → IsTried copper layer → ¬ (P layer)
 
 -- the pair is too near on this layer, with this pick and this gap
 pub record IsNear (d : Deciders) (kind : Kind) (pair : Pair) (near : Near) : Type 0 where

@@ -1,7 +1,7 @@
 //! What the walks over layers go through, and what they find.
 
-use crate::layer::RowLayer;
 use board_items::{Item, Nm};
+use kind_subjects::RowLayer;
 use rule_pick::{Facts, Picked};
 
 /// A single item with its facts.

@@ -4,8 +4,8 @@ ghost use Rattle.std.specs.Prelude.{◌≡◌, true};
 ghost use Rattle.pair_check.specs.Idle.{is_copper, IsIdle};
 
 use crate::asked::Asked;
-use crate::compared::share_net;
 use board_items::{Item, What};
+use kind_subjects::share_net;
 
 // Whether it is copper: no edge, no area, no footprint and no note.
 fn is_copper(what: &What) -> bool

@@ -4,28 +4,21 @@
 #![tactic(auto)]
 
 mod asked;
-mod compared;
-mod faces;
 mod found;
 mod idle;
 pub mod laws;
-mod layer;
-mod measure;
 mod pair;
 mod pair_rows;
-mod places;
 mod row;
 mod same;
 mod single;
 mod steps;
-mod subject;
 mod view;
 
 pub use asked::Asked;
 use board_items::Board;
 use cond_lang::Rule;
 pub use found::Single;
-pub use layer::RowLayer;
 use net_class::Classes;
 pub use pair::{test_pair, test_two};
 pub use pair_rows::PairRows;
@@ -33,15 +26,13 @@ pub use row::Row;
 use rule_pick::FactsById;
 pub use single::{single_at, test_item};
 pub use steps::Steps;
-pub use subject::{Faces, Measure, Subject};
 pub use view::CheckView;
 
-// Each type may go to another thread and be shared by threads.
+// A row may go to another thread and be shared by threads.
 fn crosses<T: Send + Sync>() {}
 
-fn all_cross() {
+fn rows_cross() {
     crosses::<Row>();
-    crosses::<RowLayer>();
 }
 
 // All that a view lends may.

@@ -1,78 +1,39 @@
 //! What two items break.
+//!
+//! The walks over layers are laid into their callers, which know the kind, and with it what faces what.
 
-ghost use Rattle.std.specs.Prelude.{◌≡◌, ◌↔◌, ◌+◌, ◌<◌, ◌≤◌, IsTrue, IsSome, [], length, MatchOption};
-ghost use Rattle.drc_io.specs.Lengths.{IsLength};
-ghost use Rattle.geo_seg.specs.Distances.{IsGap};
+ghost use Rattle.std.specs.Prelude.{◌≡◌, ◌+◌, ◌<◌, ◌≤◌, IsTrue, IsSome, [], length, MatchOption};
 ghost use Rattle.board_items.specs.Boards.{item_at};
 ghost use Rattle.cond_lang.specs.declared.kind.Family.{Family};
 ghost use Rattle.cond_lang.specs.Kinds.{family, kind_number};
 ghost use Rattle.pair_check.specs.PlainRow.{PlainRow};
-ghost use Rattle.pair_check.specs.Layers.{IsTried, IsFirst};
-ghost use Rattle.pair_check.specs.Compared.{is_compared};
-ghost use Rattle.pair_check.specs.Facing.{facings, MeetAt, KeepAt, TooNear};
-ghost use Rattle.pair_check.specs.Sides.{IsInStack, facings_of};
+ghost use Rattle.kind_subjects.specs.Layers.{IsTried, IsFirst, HoldsNowhere};
+ghost use Rattle.kind_subjects.specs.Compared.{is_compared};
 ghost use Rattle.pair_check.specs.Pairs.{IsGivenPlace, IsNearAt};
 ghost use Rattle.pair_check.specs.Asked.{IsNoteOf};
 ghost use Rattle.pair_check.specs.Rows.{deciders, Stands, AreRowsWhere, AreRowsOfPair};
 ghost use Rattle.pair_check.specs.Views.{checked_by, IsWhole};
-ghost use Rattle.pair_check.specs.Stages.{pair_of, is_courtyard, HoldsNowhere, IsNear, IsOfPair, IsOfKind, AreRowsBelow};
+ghost use Rattle.pair_check.specs.Stages.{pair_of, IsNear, IsOfPair, IsOfKind, AreRowsBelow};
 
 use crate::asked::{ANYTHING, Asked};
-use crate::compared::is_compared;
-use crate::faces::places_between;
 use crate::found::{Near, Pair, Single};
 use crate::idle::is_idle;
-use crate::layer::RowLayer;
-use crate::measure::{Facings, facings_at, gap_at, may_face, meet_at};
 use crate::pair_rows::PairRows;
-use crate::places::tried_at;
 use crate::row::{Row, counts};
 use crate::single::single_at;
 use crate::steps::Steps;
 use crate::view::CheckView;
-use board_items::{Item, Nm};
 use cond_lang::{Kind, Severity};
-use copper_layers::LayerSet;
+use kind_subjects::{
+    RowLayer, facings_at, first_meeting, gap_if_near, is_compared, may_face, places_between,
+    tried_at,
+};
 use rule_pick::{Source, pick};
 use std::alloc::Global;
 use std::sync::ledger::Ledger;
 
-fn is_courtyard(kind: Kind) -> bool
-    ensures { result ≡ is_courtyard kind }
-{
-    matches!(kind, Kind::CourtyardClearance)
-}
-
-// The gap on the layer, where the two are nearer than `least`; courtyards may not touch either.
-fn gap_if_near(
-    faced: &Facings<'_>,
-    kind: Kind,
-    layer: RowLayer,
-    a: &Item,
-    b: &Item,
-    least: Nm,
-) -> Option<Nm>
-    requires same { facings_of faced.now ≡ facings kind layer a.now b.now }
-    requires least { IsLength least }
-    ensures { MatchOption result (¬ (TooNear kind layer a.now b.now least)) (λ gap. TooNear kind layer a.now b.now least × IsGap (KeepAt kind layer a.now b.now) least gap) }
-{
-    let yards = is_courtyard(kind);
-    // nothing has to be kept
-    if least == 0 && !yards {
-        return None;
-    }
-    let gap = gap_at(faced, kind, layer, a, b, least);
-    if gap < least {
-        return Some(gap);
-    }
-    if yards && meet_at(faced, kind, layer, a, b) {
-        Some(gap)
-    } else {
-        None
-    }
-}
-
 // What is broken on the layer, if anything is.
+#[inline(always)]
 fn near_at(view: &CheckView, kind: Kind, pair: Pair<'_>, layer: RowLayer) -> Option<Near>
     requires few { length view.now.rules.now < 4294967295 }
     requires measured { family kind ≡ Family.Keeps }
@@ -101,6 +62,7 @@ fn near_at(view: &CheckView, kind: Kind, pair: Pair<'_>, layer: RowLayer) -> Opt
 }
 
 // The first layer on which the two are too near. No layer is tried before the first on which they face each other, or after the last.
+#[inline(always)]
 fn first_near(view: &CheckView, kind: Kind, pair: Pair<'_>) -> Option<Near>
     requires few { length view.now.rules.now < 4294967295 }
     requires measured { family kind ≡ Family.Keeps }
@@ -118,31 +80,8 @@ fn first_near(view: &CheckView, kind: Kind, pair: Pair<'_>) -> Option<Near>
     None
 }
 
-// Whether the two meet on the layer.
-fn meet_on(kind: Kind, layer: RowLayer, a: &Item, b: &Item) -> bool
-    requires { IsInStack layer }
-    ensures { IsTrue result ↔ MeetAt kind layer a.now b.now }
-{
-    let faced = facings_at(kind, layer, a, b);
-    meet_at(&faced, kind, layer, a, b)
-}
-
-// The first layer on which the two meet.
-fn first_meeting(copper: LayerSet, kind: Kind, a: &Item, b: &Item) -> Option<RowLayer>
-    ensures { MatchOption result (HoldsNowhere copper (λ layer. MeetAt kind layer a.now b.now)) (IsFirst copper (λ layer. MeetAt kind layer a.now b.now)) }
-{
-    let places = places_between(kind, a, b);
-    for place in places.from..places.to {
-        if let Some(layer) = tried_at(copper, place) {
-            if meet_on(kind, layer, a, b) {
-                return Some(layer);
-            }
-        }
-    }
-    None
-}
-
 // That the two meet: always an error, whatever the rules say.
+#[inline(always)]
 fn meeting_row(view: &CheckView, kind: Kind, first: u32, second: u32, pair: Pair<'_>) -> Option<Row>
     requires meets { family kind ≡ Family.Meets }
     requires ordered { first < second }
@@ -167,6 +106,7 @@ fn meeting_row(view: &CheckView, kind: Kind, first: u32, second: u32, pair: Pair
 }
 
 // That the two are too near.
+#[inline(always)]
 fn near_row(view: &CheckView, kind: Kind, first: u32, second: u32, pair: Pair<'_>) -> Option<Row>
     requires few { length view.now.rules.now < 4294967295 }
     requires measured { family kind ≡ Family.Keeps }
@@ -191,7 +131,7 @@ fn near_row(view: &CheckView, kind: Kind, first: u32, second: u32, pair: Pair<'_
 }
 
 // Appends the row of a kind that measures, if the two break it.
-#[inline(never)]
+#[inline(always)]
 fn add_measured(
     view: &CheckView,
     kind: Kind,

@@ -2,9 +2,9 @@
 
 ghost use Rattle.std.specs.Prelude.{◌≡◌, [], ◌∷◌, ◌++◌, ◌<◌, length};
 
-use crate::layer::RowLayer;
 use crate::row::Row;
 use cond_lang::{Kind, Severity};
+use kind_subjects::RowLayer;
 use rule_pick::Source;
 use smallvec::SmallVec;
 use std::alloc::{Allocator, Global};

@@ -2,11 +2,13 @@
 
 ghost use Rattle.std.specs.Prelude.{◌≡◌, ◌↔◌, IsTrue};
 ghost use Rattle.drc_io.specs.Lengths.{IsLength};
-ghost use Rattle.pair_check.specs.PlainRow.{AreInOrder, IsLayerOf, IsWithin, Counts};
+ghost use Rattle.kind_subjects.specs.KindLayers.{IsLayerOf};
+ghost use Rattle.kind_subjects.specs.Lengths.{IsWithin};
+ghost use Rattle.pair_check.specs.PlainRow.{AreInOrder, Counts};
 
-use crate::layer::RowLayer;
 use board_items::Nm;
 use cond_lang::{Kind, Severity};
+use kind_subjects::RowLayer;
 use rule_pick::Source;
 use std::marker::Model;
 

@@ -1,34 +1,33 @@
 //! What a single item breaks.
 
-ghost use Rattle.std.specs.Prelude.{◌≡◌, ◌↔◌, ◌+◌, ◌<◌, ◌≤◌, ℤ, pos, ◌*ℤ◌, ◌≤ℤ◌, Bool, IsTrue, IsSome, IfSome, None, length, MatchOption, if◌then◌else◌};
-ghost use Rattle.std.specs.Option.{option_map};
+ghost use Rattle.std.specs.Prelude.{◌≡◌, ◌↔◌, ◌+◌, ◌<◌, ◌≤◌, ℤ, Bool, IsTrue, IsSome, IfSome, None, length, MatchOption};
 ghost use Rattle.drc_io.specs.Lengths.{IsLength};
 ghost use Rattle.board_items.specs.declared.item.Item.{Item};
 ghost use Rattle.board_items.specs.Boards.{item_at};
 ghost use Rattle.cond_lang.specs.declared.kind.Family.{Family};
 ghost use Rattle.cond_lang.specs.Kinds.{family, kind_number};
-ghost use Rattle.rule_pick.specs.FactsOf.{SomeOn};
 ghost use Rattle.rule_pick.specs.Picks.{pick_of};
-ghost use Rattle.pair_check.specs.PlainRow.{PlainRow, IsWithin};
-ghost use Rattle.pair_check.specs.declared.layer.RowLayer.{RowLayer};
-ghost use Rattle.pair_check.specs.Layers.{rank, IsTried, IsFirst};
-ghost use Rattle.pair_check.specs.Singles.{LiesAt, IsAskedAt, IsOnCopper, IsMeasuredAt, ring_of, track_width, via_size, length_by, length_of, times, BreaksLimit, IsQuotient, bans_what, bans_item, Forbids, IsOffAt, IsForbiddenAt};
+ghost use Rattle.kind_subjects.specs.Lengths.{IsWithin, length_of};
+ghost use Rattle.pair_check.specs.PlainRow.{PlainRow};
+ghost use Rattle.kind_subjects.specs.declared.layer.RowLayer.{RowLayer};
+ghost use Rattle.kind_subjects.specs.Layers.{IsTried, IsFirst, HoldsNowhere};
+ghost use Rattle.kind_subjects.specs.SingleLayers.{IsAskedAt, IsMeasuredAt};
+ghost use Rattle.pair_check.specs.Singles.{BreaksLimit, bans_what, bans_item, Forbids, IsOffAt, IsForbiddenAt};
 ghost use Rattle.pair_check.specs.Rows.{deciders, Stands, AreRowsWhere, AreRowsOfItem};
 ghost use Rattle.pair_check.specs.Views.{checked_by, IsWhole};
-ghost use Rattle.pair_check.specs.Stages.{HoldsNowhere, IsOff, IsForbidden, IsOfSingle, IsOfKind, AreRowsBelow};
+ghost use Rattle.pair_check.specs.Stages.{IsOff, IsForbidden, IsOfSingle, IsOfKind, AreRowsBelow};
 
 use crate::asked::some_asks;
-use crate::faces::{layers_of, places_in};
 use crate::found::{Forbidden, Limit, Off, Single};
-use crate::layer::RowLayer;
 use crate::pair_rows::PairRows;
-use crate::places::{Places, places_of_items, tried_at};
 use crate::row::{Row, counts};
-use crate::subject::{Measure, Subject, subject_of};
 use crate::view::CheckView;
-use board_items::{Item, Nm, Part, What};
+use board_items::{Item, Nm, What};
 use cond_lang::{Disallow, Kind};
-use copper_layers::LayerSet;
+use kind_subjects::{
+    RowLayer, counted, is_asked_at, is_measured_at, length_of, length_once, places_measured,
+    places_of_items, tried_at,
+};
 use rule_pick::{Picked, pick};
 use std::alloc::Global;
 
@@ -40,200 +39,6 @@ pub fn single_at<'a>(view: &CheckView<'a>, id: u32) -> Option<Single<'a>>
     let item = view.board.get(id)?;
     let facts = view.facts.get(id)?;
     Some(Single { item, facts })
-}
-
-// Whether some part lies on the layer.
-fn some_on(parts: &[Part], layer: u32) -> bool
-    requires { layer < 32 }
-    ensures { IsTrue result ↔ SomeOn layer parts.now }
-{
-    for part in parts {
-        if part.layers.has(layer) {
-            return true;
-        }
-    }
-    false
-}
-
-// Whether copper lies on the layer of the board; what has no copper lies on none.
-fn lies_at(copper: LayerSet, parts: &[Part], layer: RowLayer) -> bool
-    requires { IsTried copper layer }
-    ensures { IsTrue result ↔ LiesAt parts.now layer }
-{
-    match layer {
-        RowLayer::Copper(layer) => some_on(parts, layer),
-        RowLayer::Nowhere => parts.is_empty(),
-        RowLayer::FrontYard | RowLayer::BackYard => false,
-    }
-}
-
-// The copper layer of the side of a body.
-fn side(on_back: bool) -> u32
-    ensures { result ≡ (if on_back then 31 else 0) }
-{
-    if on_back { 31 } else { 0 }
-}
-
-// Whether the layer is the copper layer of the side.
-fn is_side(on_back: bool, layer: RowLayer) -> bool
-    ensures { IsTrue result ↔ (layer ≡ (if on_back then RowLayer.Copper 31 else RowLayer.Copper 0)) }
-{
-    match layer {
-        RowLayer::Copper(number) => number == side(on_back),
-        RowLayer::FrontYard | RowLayer::BackYard | RowLayer::Nowhere => false,
-    }
-}
-
-// Whether the item is asked on the layer: a body on that of its side, edges, areas and notes nowhere.
-fn is_asked_at(copper: LayerSet, item: &Item, layer: RowLayer) -> bool
-    requires { IsTried copper layer }
-    ensures { IsTrue result ↔ IsAskedAt item.now item.now.what layer }
-{
-    match &item.what {
-        What::Body { on_back, .. } => is_side(*on_back, layer),
-        What::Edge { .. } | What::Area { .. } | What::Note { .. } => false,
-        What::Track { .. } | What::Via { .. } | What::Pad { .. } | What::Graphic | What::Fill => {
-            lies_at(copper, item.copper.as_slice(), layer)
-        }
-    }
-}
-
-fn is_nowhere(layer: RowLayer) -> bool
-    ensures { IsTrue result ↔ (layer ≡ RowLayer.Nowhere) }
-{
-    matches!(layer, RowLayer::Nowhere)
-}
-
-// Whether some copper lies on the copper layer.
-fn is_on_copper(copper: LayerSet, parts: &[Part], layer: RowLayer) -> bool
-    requires { IsTried copper layer }
-    ensures { IsTrue result ↔ IsOnCopper parts.now layer }
-{
-    match layer {
-        RowLayer::Copper(layer) => some_on(parts, layer),
-        RowLayer::FrontYard | RowLayer::BackYard | RowLayer::Nowhere => false,
-    }
-}
-
-// Whether the kind is measured on the layer: tracks where their copper lies, sizes and holes on none.
-fn is_measured_at(copper: LayerSet, kind: Kind, item: &Item, layer: RowLayer) -> bool
-    requires { IsTried copper layer }
-    ensures { IsTrue result ↔ IsMeasuredAt kind item.now layer }
-{
-    match subject_of(kind) {
-        Subject::Length(Measure::Width) => is_on_copper(copper, item.copper.as_slice(), layer),
-        Subject::Length(Measure::Diameter | Measure::Bore | Measure::Ring) => is_nowhere(layer),
-        Subject::Sides(_) | Subject::Whole => false,
-    }
-}
-
-// The places of all layers on which the kind is measured.
-fn places_measured(kind: Kind, parts: &[Part]) -> Places
-    ensures bound { result.to ≤ 35 }
-    ensures each { (item : Item) → item.copper ≡ parts.now → (layer : RowLayer) → IsMeasuredAt kind item layer → (result.from ≤ rank layer) × (rank layer < result.to) }
-{
-    match subject_of(kind) {
-        Subject::Length(Measure::Width) => places_in(layers_of(parts)),
-        Subject::Length(Measure::Diameter | Measure::Bore | Measure::Ring) => Places {
-            from: 34,
-            to: 35,
-        },
-        Subject::Sides(_) | Subject::Whole => Places { from: 0, to: 0 },
-    }
-}
-
-// Twice the width of the copper round the hole of a via.
-fn ring_of(item: &Item) -> Option<Nm>
-    ensures value { result ≡ ring_of item.now.what item.now.hole }
-    ensures range { IfSome result IsWithin }
-{
-    match (&item.what, &item.hole) {
-        (What::Via { size, drill, .. }, Some(_)) => Some(*size - *drill),
-        _ => None,
-    }
-}
-
-fn track_width(item: &Item) -> Option<Nm>
-    ensures value { result ≡ track_width item.now.what }
-    ensures range { IfSome result IsWithin }
-{
-    match &item.what {
-        What::Track { width } => Some(*width),
-        _ => None,
-    }
-}
-
-fn via_size(item: &Item) -> Option<Nm>
-    ensures value { result ≡ via_size item.now.what }
-    ensures range { IfSome result IsWithin }
-{
-    match &item.what {
-        What::Via { size, .. } => Some(*size),
-        _ => None,
-    }
-}
-
-fn hole_size(item: &Item) -> Option<Nm>
-    ensures value { result ≡ option_map (λ hole. hole.least) item.now.hole }
-    ensures range { IfSome result IsWithin }
-{
-    match &item.hole {
-        Some(hole) => Some(hole.least),
-        None => None,
-    }
-}
-
-fn length_by(measure: Measure, item: &Item) -> Option<Nm>
-    ensures value { result ≡ length_by measure item.now }
-    ensures range { IfSome result IsWithin }
-{
-    match measure {
-        Measure::Width => track_width(item),
-        Measure::Diameter => via_size(item),
-        Measure::Bore => hole_size(item),
-        Measure::Ring => ring_of(item),
-    }
-}
-
-// The length that the kind limits, in nanometres; of the copper round a hole twice the width.
-fn length_of(kind: Kind, item: &Item) -> Option<Nm>
-    ensures value { result ≡ length_of kind item.now }
-    ensures range { IfSome result IsWithin }
-{
-    match subject_of(kind) {
-        Subject::Length(measure) => length_by(measure, item),
-        Subject::Sides(_) | Subject::Whole => None,
-    }
-}
-
-// Whether the length is measured twice: the copper round a hole is, on both sides of it.
-fn is_twice(kind: Kind) -> bool
-    ensures { times kind ≡ (if result then pos 2 else pos 1) }
-{
-    match subject_of(kind) {
-        Subject::Length(Measure::Ring) => true,
-        Subject::Length(Measure::Width | Measure::Diameter | Measure::Bore) => false,
-        Subject::Sides(_) | Subject::Whole => false,
-    }
-}
-
-// The limit as it is measured: a ring on both sides of its hole.
-fn counted(kind: Kind, nm: Nm) -> Nm
-    requires { IsLength nm }
-    ensures value { result ≡ times kind *ℤ nm }
-    ensures from { pos 0 ≤ℤ result }
-    ensures to { result ≤ℤ pos 1000000000 }
-{
-    if is_twice(kind) { 2 * nm } else { nm }
-}
-
-// The length that there is: the measured one by how many times it is measured, rounded down.
-fn length_in(kind: Kind, n: Nm) -> Nm
-    requires { IsWithin n }
-    ensures quotient { IsQuotient n (times kind) result }
-    ensures range { IsWithin result }
-{
-    if is_twice(kind) { n.div_euclid(2) } else { n }
 }
 
 // The limit that the measured length breaks.
@@ -330,7 +135,7 @@ fn limit_row(view: &CheckView, kind: Kind, id: u32, single: Single<'_>) -> Optio
         kind,
         layer: off.layer,
         value: off.limit.nm,
-        gap: length_in(kind, n),
+        gap: length_once(kind, n),
         over: off.limit.over,
         source: off.picked.source,
         severity: off.picked.severity,

@@ -12,16 +12,16 @@ use Rattle.copper_layers.specs.Layers.{has_layer}
 use Rattle.board_items.specs.Copper.{on_layer, SomeMeet, Keeps}
 use Rattle.board_items.specs.Parts.{parts_of, hole_parts, kind_parts}
 use Rattle.cond_lang.specs.declared.kind.Kind.{Kind}
-use Rattle.pair_check.specs.declared.subject.Faces.{Faces}
-use Rattle.pair_check.specs.declared.subject.Faces.TheVariants.{Coppers, HolesAndCopper, Holes, EdgesAndCopper, Yards, Areas}
-use Rattle.pair_check.specs.declared.subject.Subject.{Subject}
-use Rattle.pair_check.specs.declared.subject.Subject.TheVariants.{Sides, Length, Whole}
-use Rattle.pair_check.specs.Subjects.{subject_of}
+use Rattle.kind_subjects.specs.declared.subject.Faces.{Faces}
+use Rattle.kind_subjects.specs.declared.subject.Faces.TheVariants.{Coppers, HolesAndCopper, Holes, EdgesAndCopper, Yards, Areas}
+use Rattle.kind_subjects.specs.declared.subject.Subject.{Subject}
+use Rattle.kind_subjects.specs.declared.subject.Subject.TheVariants.{Sides, Length, Whole}
+use Rattle.kind_subjects.specs.Subjects.{subject_of}
 use Rattle.rule_pick.specs.FactsOf.{placed_parts, parts_asked}
 use Rattle.item_copper.proofs.Far.{IsFar}
-use Rattle.pair_check.specs.declared.layer.RowLayer.{RowLayer}
-use Rattle.pair_check.specs.declared.layer.RowLayer.TheVariants.{Copper, FrontYard, BackYard, Nowhere}
-use Rattle.pair_check.specs.Facing.{Facing, facing, copper_on, hole_on, hole_without, hole_alone, lines_of, front_of, back_of, area_on, yard_on, placed_on, faced, facings_in, facings, MeetAt, KeepAt}
+use Rattle.kind_subjects.specs.declared.layer.RowLayer.{RowLayer}
+use Rattle.kind_subjects.specs.declared.layer.RowLayer.TheVariants.{Copper, FrontYard, BackYard, Nowhere}
+use Rattle.kind_subjects.specs.Facing.{Facing, facing, copper_on, hole_on, hole_without, hole_alone, lines_of, front_of, back_of, area_on, yard_on, placed_on, faced, facings_in, facings, MeetAt, KeepAt}
 
 -- ---- parts of one item
 module _ (P : Part → Type 0) where

@@ -16,10 +16,10 @@ use Rattle.rule_pick.specs.Picks.{Pick}
 use Rattle.rule_pick.specs.Reach.{asks_distance, is_between_two, IsReach}
 use Rattle.item_copper.proofs.Rooms.{all_lie}
 use Rattle.item_copper.proofs.Far.{IsFar, far_in, far_back, each_lies, near_unless}
-use Rattle.pair_check.specs.declared.layer.RowLayer.{RowLayer}
+use Rattle.kind_subjects.specs.declared.layer.RowLayer.{RowLayer}
 use Rattle.pair_check.specs.PlainRow.{PlainRow}
-use Rattle.pair_check.specs.Layers.{asked_layer}
-use Rattle.pair_check.specs.Facing.{MeetAt, KeepAt}
+use Rattle.kind_subjects.specs.Layers.{asked_layer}
+use Rattle.kind_subjects.specs.Facing.{MeetAt, KeepAt}
 use Rattle.pair_check.specs.Pairs.{Deciders, Pair, IsPickOf, SaysNear, BreaksBy, Breaks}
 use Rattle.pair_check.specs.Rows.{Checked, deciders, IsRowOfTwo}
 use Rattle.pair_check.proofs.NearPicks.{local_at_most, class_at_most, least_at_most, pick_once}

@@ -12,6 +12,7 @@ pub mod order;
 mod tile;
 mod whole;
 
-pub use pair_check::{CheckView, PairRows, Row, RowLayer, Steps, test_item, test_pair};
+pub use kind_subjects::RowLayer;
+pub use pair_check::{CheckView, PairRows, Row, Steps, test_item, test_pair};
 pub use tile::test_tile;
 pub use whole::{push_singles, rows_of, rows_of_changed};

@@ -1,13 +1,13 @@
 use Rattle.std.proofs.Common.{refl, sym, ◌∙◌, IsTrue, arith}
 use Rattle.std.proofs.lemmas.Int.{ints}
-use Rattle.pair_check.specs.declared.layer.RowLayer.{RowLayer}
-use Rattle.pair_check.specs.Facing.{MeetAt}
-use Rattle.pair_check.specs.Compared.{is_compared}
+use Rattle.kind_subjects.specs.declared.layer.RowLayer.{RowLayer}
+use Rattle.kind_subjects.specs.Facing.{MeetAt}
+use Rattle.kind_subjects.specs.Compared.{is_compared}
 use Rattle.pair_check.specs.Rows.{deciders}
 use Rattle.pair_check.specs.Views.{checked_by}
 use Rattle.pair_check.specs.Stages.{pair_of}
-use Rattle.pair_check.proofs.NearLayers.{meeting_layer}
-use Rattle.pair_check.proofs.TriedLayers.{first_in}
+use Rattle.kind_subjects.proofs.NearLayers.{meeting_layer}
+use Rattle.kind_subjects.proofs.TriedLayers.{first_in}
 use Rattle.pair_check.proofs.RowsOfPair.{meeting_in_order, breaks_meeting}
 use Rattle.pair_check.proofs.pair.meeting_row.Goals as goal
 

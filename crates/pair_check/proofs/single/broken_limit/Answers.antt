@@ -1,4 +1,4 @@
-use Rattle.pair_check.proofs.Lengths.{passed_is_length, length_if}
+use Rattle.kind_subjects.proofs.LengthRanges.{passed_is_length, length_if}
 use Rattle.pair_check.proofs.single.broken_limit.Goals as goal
 
 pub returns-then-counted-n-clause-range : goal.returns-then-counted-n-clause-range

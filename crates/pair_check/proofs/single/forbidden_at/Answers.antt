@@ -1,7 +1,7 @@
 use Rattle.std.proofs.Common.{◌≡◌, ap, subst, None, Bool, true, false}
 use Rattle.rule_pick.specs.Picks.{Pick, pick_of}
 use Rattle.rule_pick.proofs.OnePick.{one_pick}
-use Rattle.pair_check.specs.Layers.{asked_layer}
+use Rattle.kind_subjects.specs.Layers.{asked_layer}
 use Rattle.pair_check.specs.Singles.{IsPickAlone, Forbids}
 use Rattle.pair_check.specs.Rows.{deciders}
 use Rattle.pair_check.specs.Views.{checked_by}

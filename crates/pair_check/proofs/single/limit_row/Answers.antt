@@ -1,11 +1,13 @@
 use Rattle.std.proofs.Common.{refl, sym, ap, subst, ◌∙◌, ℤ, Some}
 use Rattle.rule_pick.specs.Picks.{pick_of}
 use Rattle.int_algebra.proofs.Scalars.{passed, passed_length}
-use Rattle.pair_check.specs.Singles.{times, BreaksLimit, IsQuotient}
+use Rattle.kind_subjects.specs.Lengths.{times, IsQuotient}
+use Rattle.pair_check.specs.Singles.{BreaksLimit}
 use Rattle.pair_check.specs.Rows.{deciders}
 use Rattle.pair_check.specs.Views.{checked_by}
-use Rattle.pair_check.proofs.Lengths.{passed_is_length, passed_is_within, within_passed}
-use Rattle.pair_check.proofs.RowsOfSingle.{limit_in_order, limit_layer, breaks_limit}
+use Rattle.kind_subjects.proofs.LengthRanges.{passed_is_length, passed_is_within, within_passed}
+use Rattle.kind_subjects.proofs.SingleLayers.{limit_layer}
+use Rattle.pair_check.proofs.RowsOfSingle.{limit_in_order, breaks_limit}
 use Rattle.pair_check.proofs.single.limit_row.Goals as goal
 
 pub invariant_of-result : goal.invariant_of-result
@@ -18,7 +20,7 @@ invariant_of-result c =
       ordered = limit_in_order a.kind a.id c.requires.limit;
       layer = limit_layer d.copper a.kind a.single.item.now off.layer where_first.tried where_first.holds.asked;
       value = passed_is_length off.limit.nm c.in_ok-off.ensures.range;
-      gap = passed_is_within c.length_in.result c.length_in.ensures.range;
+      gap = passed_is_within c.length_once.result c.length_once.ensures.range;
       severity = c.in_ok-off.ensures.broken.0.counts;
     }
 
@@ -43,7 +45,7 @@ returns c =
               pick = pick_of off.picked;
               picked = is.picked;
               broken = subst (λ (z : ℤ). BreaksLimit a.kind (passed n) (pick_of off.picked) off.limit.over z) (sym (passed_length off.limit.nm range.from range.to)) is.broken;
-              gap = subst (λ (z : ℤ). IsQuotient (passed n) (times a.kind) z) (sym (within_passed c.length_in.result c.length_in.ensures.range)) c.length_in.ensures.quotient;
+              gap = subst (λ (z : ℤ). IsQuotient (passed n) (times a.kind) z) (sym (within_passed c.length_once.result c.length_once.ensures.range)) c.length_once.ensures.quotient;
               source = refl;
               severity = refl;
             });

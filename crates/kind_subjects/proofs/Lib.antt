@@ -1,0 +1,6 @@
+pub mod TriedLayers
+pub mod NearLayers
+pub mod LengthRanges
+pub mod SingleLayers
+pub mod FacedLists
+pub mod Unfaced

@@ -1,0 +1,127 @@
+-- What is too near on a layer, and on which layers anything is.
+use Rattle.std.proofs.Common.{◌≡◌, ◌⊎◌, inl, inr, refl, sym, subst, ◌∙◌, ℤ, pos, ◌≤ℤ◌, ◌<ℤ◌, true, List, [], All, arith}
+use Rattle.std.specs.List.{Any}
+use Rattle.std.proofs.lemmas.Int.{ints}
+use Rattle.drc_io.specs.Lengths.{IsLength}
+use Rattle.int_algebra.proofs.Scalars.{passed, passed_length}
+use Rattle.item_copper.proofs.Gaps.{gap_same}
+use Rattle.geo_seg.specs.Distances.{IsGap}
+use Rattle.copper_layers.specs.declared.set.LayerSet.{LayerSet}
+use Rattle.board_items.specs.declared.item.Item.{Item}
+use Rattle.board_items.specs.Copper.{SomeMeet, Keeps}
+use Rattle.cond_lang.specs.declared.kind.Kind.{Kind}
+use Rattle.cond_lang.specs.declared.kind.Kind.TheVariants.{CourtyardClearance}
+use Rattle.kind_subjects.specs.declared.subject.Faces.{Faces}
+use Rattle.kind_subjects.specs.declared.subject.Faces.TheVariants.{Coppers, HolesAndCopper, Holes, EdgesAndCopper, Yards, Areas}
+use Rattle.kind_subjects.specs.declared.subject.Subject.{Subject}
+use Rattle.kind_subjects.specs.declared.subject.Subject.TheVariants.{Sides, Length, Whole}
+use Rattle.kind_subjects.specs.declared.layer.RowLayer.{RowLayer}
+use Rattle.kind_subjects.specs.declared.layer.RowLayer.TheVariants.{Copper, FrontYard, BackYard, Nowhere}
+use Rattle.kind_subjects.specs.Subjects.{subject_of}
+use Rattle.kind_subjects.specs.KindLayers.{IsFacedOn, IsSeenOn, IsLayerOf}
+use Rattle.kind_subjects.specs.Layers.{IsTried}
+use Rattle.kind_subjects.specs.Facing.{Facing, faced, facings_in, facings, MeetAt, KeepAt, TooNear}
+use Rattle.kind_subjects.specs.Sides.{is_courtyard}
+
+-- ---- layers
+
+-- something faces something only on the layers that the kind can have
+pub faces_on : (copper : LayerSet) (faces : Faces) (layer : RowLayer) (a b : Item) → IsTried copper layer → IsFacedOn faces layer ⊎ (faced faces layer a b ≡ [])
+faces_on copper Coppers (Copper n) a b is = inl is.below
+faces_on copper HolesAndCopper (Copper n) a b is = inl is.below
+faces_on copper EdgesAndCopper (Copper n) a b is = inl (inl is.below)
+faces_on copper EdgesAndCopper Nowhere a b is = inl (inr tt)
+faces_on copper Areas (Copper n) a b is = inl is.below
+faces_on copper Holes Nowhere a b is = inl tt
+faces_on copper Yards FrontYard a b is = inl tt
+faces_on copper Yards BackYard a b is = inl tt
+faces_on copper _ _ a b is = inr refl
+
+sees_on : (copper : LayerSet) (kind : Kind) (layer : RowLayer) (a b : Item) → IsTried copper layer → IsLayerOf kind layer ⊎ (facings kind layer a b ≡ [])
+unfolding facings
+sees_on copper kind layer a b is = by (subject_of kind)
+  where
+    by : (subject : Subject) → IsSeenOn subject layer ⊎ (facings_in subject layer a b ≡ [])
+    by (Sides faces) = faces_on copper faces layer a b is
+    by (Length measure) = inr refl
+    by Whole = inr refl
+
+nothing_meets : (fs : List Facing) → fs ≡ [] → Any (λ (f : Facing). SomeMeet f.own f.others) fs → ⊥
+nothing_meets fs e m = none (subst (λ (l : List Facing). Any (λ (f : Facing). SomeMeet f.own f.others) l) e m)
+  where
+    none : Any (λ (f : Facing). SomeMeet f.own f.others) [] → ⊥
+    none m = let h = m.2 in absurd (omega arith)
+
+all_keeps : (fs : List Facing) (v : ℤ) → fs ≡ [] → All (λ (f : Facing). Keeps f.own f.others v) fs
+all_keeps fs v e = subst (λ (l : List Facing). All (λ (f : Facing). Keeps f.own f.others v) l) (sym e) (λ k d h. absurd (omega arith))
+
+pub meeting_layer : (copper : LayerSet) (kind : Kind) (layer : RowLayer) (a b : Item) → IsTried copper layer → MeetAt kind layer a b → IsLayerOf kind layer
+meeting_layer copper kind layer a b is m = by (sees_on copper kind layer a b is)
+  where
+    by : IsLayerOf kind layer ⊎ (facings kind layer a b ≡ []) → IsLayerOf kind layer
+    by (inl l) = l
+    by (inr e) = absurd (nothing_meets (facings kind layer a b) e m)
+
+-- ---- what is too near
+
+pub near_of : (kind : Kind) (layer : RowLayer) (a b : Item) (v : ℤ) → ¬ (KeepAt kind layer a b v) → TooNear kind layer a b v
+near_of CourtyardClearance layer a b v h = inr h
+near_of _ layer a b v h = h
+
+pub near_of_meeting : (kind : Kind) (layer : RowLayer) (a b : Item) (v : ℤ) → is_courtyard kind ≡ true → MeetAt kind layer a b → TooNear kind layer a b v
+near_of_meeting CourtyardClearance layer a b v e m = inl m
+near_of_meeting _ layer a b v e m = absurd (cc)
+
+-- what is kept, and does not touch either where that is asked, is not too near
+pub not_near : (kind : Kind) (layer : RowLayer) (a b : Item) (v : ℤ) → KeepAt kind layer a b v → (is_courtyard kind ≡ true → ¬ (MeetAt kind layer a b)) → ¬ (TooNear kind layer a b v)
+not_near CourtyardClearance layer a b v k m (inl n) = m refl n
+not_near CourtyardClearance layer a b v k m (inr n) = n k
+not_near _ layer a b v k m n = n k
+
+pub near_layer : (copper : LayerSet) (kind : Kind) (layer : RowLayer) (a b : Item) (v : ℤ) → IsTried copper layer → TooNear kind layer a b v → IsLayerOf kind layer
+near_layer copper kind layer a b v is n = by (sees_on copper kind layer a b is)
+  where
+    by : IsLayerOf kind layer ⊎ (facings kind layer a b ≡ []) → IsLayerOf kind layer
+    by (inl l) = l
+    by (inr e) = absurd (not_near kind layer a b v (all_keeps (facings kind layer a b) v e) (λ _ m. nothing_meets (facings kind layer a b) e m) n)
+
+-- nothing has to be kept at 0
+kept_zero : (kind : Kind) (layer : RowLayer) (a b : Item) → KeepAt kind layer a b (pos 0)
+kept_zero kind layer a b = λ k d h. inl refl
+
+pub kept_none : (kind : Kind) (layer : RowLayer) (a b : Item) (v : ℤ) → v ≡ pos 0 → KeepAt kind layer a b v
+kept_none kind layer a b v e = subst (λ (n : ℤ). KeepAt kind layer a b n) (sym e) (kept_zero kind layer a b)
+
+-- ---- what the gap tells
+
+module _ (kind : Kind) (layer : RowLayer) (a b : Item) (v gap : ℤ) (is : IsGap (KeepAt kind layer a b) v gap) where
+  pub gap_near : gap <ℤ v → TooNear kind layer a b v
+  gap_near lt = near_of kind layer a b v (λ k. too_great (is.greatest v (above v gap is.from lt) (same v) k))
+    where
+      above : (n g : ℤ) → pos 0 ≤ℤ g → g <ℤ n → pos 1 ≤ℤ n
+      above n g h l = omega (arith, ints)
+
+      same : (n : ℤ) → n ≤ℤ n
+      same n = omega (arith, ints)
+
+      too_great : v ≤ℤ gap → ⊥
+      too_great le = omega (arith, ints, lt)
+
+  pub gap_kept : v ≤ℤ gap → KeepAt kind layer a b v
+  gap_kept le = by is.kept
+    where
+      same : (n g : ℤ) → g ≤ℤ n → n ≤ℤ g → g ≡ n
+      same n g h l = omega (arith, ints)
+
+      by : (gap ≡ pos 0) ⊎ KeepAt kind layer a b gap → KeepAt kind layer a b v
+      by (inl e) = kept_none kind layer a b v (sym (same v gap is.to le) ∙ e)
+      by (inr k) = subst (λ (n : ℤ). KeepAt kind layer a b n) (same v gap is.to le) k
+
+-- ---- a gap that was passed
+
+pub passed_gap : (K : ℤ → Type 0) (v gap : ℤ) → IsLength v → IsGap K (passed v) gap → IsGap K v (passed gap)
+passed_gap K v gap range is =
+    let clean : IsGap K v gap = gap_same (passed_length v range.from range.to) refl is in
+    let from = clean.from in
+    let to = clean.to in
+    let most = range.to in gap_same refl (sym (passed_length gap from (omega (arith, ints, to, most)))) clean

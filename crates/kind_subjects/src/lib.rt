@@ -1,0 +1,35 @@
+//! What each kind looks at: what faces each other of two items, a length of a single item, or the item as a whole; on which layers,
+//! whether what faces each other meets, and how near it is.
+//!
+//! Shapes are in half nanometres, and are compared with no rounding; distances are whole nanometres. No call takes memory. What is
+//! called for each pair is laid into its callers, since these know the kind.
+#![tactic(auto)]
+
+mod compared;
+mod faces;
+mod layer;
+mod lengths;
+mod measure;
+mod meeting;
+mod near;
+mod places;
+mod single_layers;
+mod subject;
+
+pub use compared::{is_compared, share_net};
+pub use faces::places_between;
+pub use layer::RowLayer;
+pub use lengths::{counted, length_of, length_once};
+pub use measure::{Faced, Facings, facings_at, may_face};
+pub use meeting::first_meeting;
+pub use near::gap_if_near;
+pub use places::{Places, places_of_items, tried_at};
+pub use single_layers::{is_asked_at, is_measured_at, places_measured};
+pub use subject::{Faces, Measure, Subject, subject_of};
+
+// A layer may go to another thread and be shared by threads.
+fn crosses<T: Send + Sync>() {}
+
+fn layers_cross() {
+    crosses::<RowLayer>();
+}

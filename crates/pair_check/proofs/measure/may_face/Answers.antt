@@ -1,7 +1,0 @@
-use Rattle.std.proofs.Common.{List, subst}
-use Rattle.pair_check.specs.Facing.{Facing}
-use Rattle.pair_check.specs.Sides.{AllFacingsKeep}
-use Rattle.pair_check.proofs.measure.may_face.Goals as goal
-
-pub returns-clause-keep : goal.returns-clause-keep
-returns-clause-keep c = λ e v. subst (λ (fs : List Facing). AllFacingsKeep fs v) c.requires (c.may_meet.ensures.keep e v)

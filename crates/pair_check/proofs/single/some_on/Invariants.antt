@@ -1,7 +1,0 @@
-use Rattle.std.proofs.Common.{ℕ, ◌<◌, ◌≡◌, false, get_or}
-use Rattle.board_items.specs.declared.parts.Part.{Part}
-use Rattle.copper_layers.specs.Layers.{has_layer}
-use Rattle.pair_check.proofs.single.some_on.Given as goal
-
-abbrev pub invariant-loop-part : goal.invariant-loop-part
-invariant-loop-part l = (k : ℕ) (d : Part) → k < l.part-index → has_layer (get_or l.parts k d).layers l.layer ≡ false
