@@ -51,7 +51,7 @@ fn is_far(own: Bounds, room: Bounds) -> bool
 fn is_clear(runs: &[Bounds], run: usize, own: Bounds) -> bool
     ensures { IsTrue result → (run < length runs.now) × ((d : Bounds) → ¬ (BoxesMeet own (slice_index_or runs.now run d))) }
 {
-    run < runs.len() && is_far(own, runs[run])
+    run < runs.len() && !do_boxes_meet(own, runs[run])
 }
 
 // Whether a run begins at the place, and its box is far from this one.
