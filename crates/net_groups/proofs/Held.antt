@@ -1,5 +1,5 @@
 -- An index of rooms by their places.
-use Rattle.std.proofs.Common.{◌≡◌, ◌≢◌, ℕ, ◌+◌, ◌<◌, pos, nat_lt, List, [], ◌∷◌, length, get_or, filter, All, Contains, inl, inr, refl, sym, subst, ◌∙◌, arith}
+use Rattle.std.proofs.Common.{◌≡◌, ◌≢◌, ℕ, ◌+◌, ◌<◌, nat_lt, List, [], ◌∷◌, length, get_or, filter, All, Contains, inl, inr, refl, sym, subst, ◌∙◌, arith}
 use Rattle.std.proofs.lemmas.Bool.{cases_lt, lt-ltb}
 use Rattle.std.proofs.lemmas.List.Elements.{All-cons, All-append, All-filter, All-weaker, Contains-append_left, Contains-append_right}
 use Rattle.geo_seg.specs.declared.boxes.Bounds.{Bounds}

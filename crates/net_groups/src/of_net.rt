@@ -31,9 +31,9 @@ fn conductors(alloc: Global, board: &Board, net: u32) -> Result<Vec<u32>, AllocE
     ensures ids { IfOk result (λ ids. AreConductors board.now net ids.items) }
     ensures few { IfOk result (λ ids. length ids.items < 2 ^ 32) }
 {
+    board.soundness();
     let all = board.of_net(net);
     let mut ids = Vec::with_capacity(alloc, all.len())?;
-    board.soundness();
     if net == 0 {
         return Ok(ids);
     }
