@@ -145,7 +145,7 @@ fn pad_on(
     requires small { IsSmall form.now.cushion }
     requires net { is_some (name_of board.now label.net) ≡ true }
     requires on { IsTrue (is_within layers board.now.copper) }
-    ensures pad { Gives result (needed (OutOfBoard (Rattle.part_read.specs.Elements.place (tree_of node.entry))) (placed board.now.copper layers label frame form.now)) }
+    ensures pad { Gives result (needed (OutOfBoard (Rattle.list_read.specs.Heads.place (tree_of node.entry))) (placed board.now.copper layers label frame form.now)) }
     ensures ready { IfOk result (IsReady board.now label.unit) }
 {
     let found = placed(alloc, board.copper(), layers, label, frame, form)?;
