@@ -6,6 +6,7 @@ ghost use Rattle.board_items.specs.Boards.{name_of};
 ghost use Rattle.copper_layers.specs.Layers.{is_within};
 ghost use Rattle.list_read.specs.Answers.{needed};
 ghost use Rattle.list_read.specs.Elements.{element};
+ghost use Rattle.list_read.specs.Heads.{place as begin_of};
 ghost use Rattle.part_read.specs.Elements.{in_needed};
 ghost use Rattle.part_read.specs.LayersOf.{layers_named};
 ghost use Rattle.part_read.specs.Nodes.{Gives};
@@ -145,7 +146,7 @@ fn pad_on(
     requires small { IsSmall form.now.cushion }
     requires net { is_some (name_of board.now label.net) ≡ true }
     requires on { IsTrue (is_within layers board.now.copper) }
-    ensures pad { Gives result (needed (OutOfBoard (Rattle.list_read.specs.Heads.place (tree_of node.entry))) (placed board.now.copper layers label frame form.now)) }
+    ensures pad { Gives result (needed (OutOfBoard (begin_of (tree_of node.entry))) (placed board.now.copper layers label frame form.now)) }
     ensures ready { IfOk result (IsReady board.now label.unit) }
 {
     let found = placed(alloc, board.copper(), layers, label, frame, form)?;
