@@ -1,6 +1,6 @@
 //! Texts that go into a line piece by piece.
 
-ghost use Rattle.std.specs.Prelude.{◌≡◌, [], ◌∷◌, MatchOption};
+ghost use Rattle.std.specs.Prelude.{◌≡◌, [], ◌∷◌, true, MatchOption};
 ghost use Rattle.std.specs.List.{flat_map};
 ghost use Rattle.drc_rows.specs.Line.{Puts, escaped, escaped_byte, named};
 
@@ -35,8 +35,30 @@ pub(crate) fn push_quoted<W: Sink>(
     line.push(out, b"\"")
 }
 
+/// Whether each byte of a name stands for itself between quotes, as in nearly all names.
+fn is_plain(name: &[u8]) -> bool
+    ensures { result ≡ true → escaped name.now ≡ name.now }
+{
+    for byte in name {
+        if letter_of(*byte).is_some() {
+            return false;
+        }
+    }
+    true
+}
+
 /// Puts a name into the line as it stands between quotes.
 fn push_escaped<W: Sink>(line: &mut Line, out: &mut W, name: &[u8]) -> Result<(), Failed>
+    ensures { Puts (W.written out.old) (W.written out.new) (W.faults out.old) (W.faults out.new) line.old (escaped name.now) line.new result }
+{
+    if is_plain(name) {
+        return line.push(out, name);
+    }
+    push_bytes(line, out, name)
+}
+
+/// Puts the bytes of a name into the line, one after another.
+fn push_bytes<W: Sink>(line: &mut Line, out: &mut W, name: &[u8]) -> Result<(), Failed>
     ensures { Puts (W.written out.old) (W.written out.new) (W.faults out.old) (W.faults out.new) line.old (escaped name.now) line.new result }
 {
     for byte in name {

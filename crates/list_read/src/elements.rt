@@ -1,6 +1,7 @@
 //! The elements of a list: one by its head, or several in one walk over its parts.
 
-ghost use Rattle.std.specs.Prelude.{◌≡◌, ◌<◌, length, EachIndex, slice_index_or, None, map, option_map};
+ghost use Rattle.std.specs.Prelude.{◌≡◌, ◌<◌, ◌↔◌, length, EachIndex, slice_index_or, None, Some, map, option_map, IsTrue};
+ghost use Rattle.sexpr_read.specs.Tree.{value};
 ghost use Rattle.sexpr_read.specs.Views.{tree_of};
 ghost use Rattle.list_read.specs.Elements.{element, is_naming, naming};
 ghost use Rattle.list_read.specs.Wanted.{found_in};
@@ -76,8 +77,62 @@ fn is_new(found: &Option<Node<'_, '_>>, first: Node<'_, '_>, wanted: Wanted) -> 
     }
 }
 
-/// The part, whose first part is `first`, is noted for each for which it is the first one.
-fn note_part<'d, 't>(
+/// Whether two texts are the same. Most that are asked about differ in length, which is told at a look.
+#[inline(always)]
+fn are_same(word: &[u8], text: &[u8]) -> bool
+    ensures { IsTrue result ↔ (word.now ≡ text.now) }
+{
+    word.len() == text.len() && word == text
+}
+
+/// As `is_wanted`, where the atom is this word, which stands for itself.
+#[inline(always)]
+fn is_wanted_word(_first: Node<'_, '_>, word: &[u8], wanted: Wanted) -> bool
+    requires { value (tree_of _first) ≡ Some word.now }
+    ensures { result ≡ is_wanted_first wanted (tree_of _first.entry) }
+{
+    match wanted {
+        Wanted::Head(head) => are_same(word, head),
+        Wanted::Name => are_same(word, b"tstamp") || are_same(word, b"uuid"),
+    }
+}
+
+/// As `is_new`, where the atom is this word.
+#[inline(always)]
+fn is_new_word(
+    found: &Option<Node<'_, '_>>,
+    first: Node<'_, '_>,
+    word: &[u8],
+    wanted: Wanted,
+) -> bool
+    requires { value (tree_of first) ≡ Some word.now }
+    ensures { result ≡ is_new (option_map tree_of found.now) wanted (tree_of first.entry) }
+{
+    found.is_none() && is_wanted_word(first, word, wanted)
+}
+
+/// As `note_part`, where the first part is this word, as in nearly all lists: it is taken from the text once.
+fn note_word<'d, 't>(
+    part: Node<'d, 't>,
+    first: Node<'d, 't>,
+    word: &[u8],
+    wanted: &[Wanted],
+    found: &mut [Option<Node<'d, 't>>],
+)
+    requires word { value (tree_of first) ≡ Some word.now }
+    requires places { length wanted.now ≡ length found.old }
+    ensures { map (option_map tree_of) found.new ≡ noted (tree_of part.entry) (tree_of first.entry) wanted.now (map (option_map tree_of) found.old) }
+{
+    for k in 0..wanted.len() {
+        let sought = wanted[k];
+        if is_new_word(&found[k], first, word, sought) {
+            found[k] = Some(part);
+        }
+    }
+}
+
+/// As `note_part`, where the first part may be in quotes.
+fn note_any<'d, 't>(
     part: Node<'d, 't>,
     first: Node<'d, 't>,
     wanted: &[Wanted],
@@ -91,6 +146,23 @@ fn note_part<'d, 't>(
         if is_new(&found[k], first, sought) {
             found[k] = Some(part);
         }
+    }
+}
+
+/// The part, whose first part is `first`, is noted for each for which it is the first one.
+#[inline(always)]
+fn note_part<'d, 't>(
+    part: Node<'d, 't>,
+    first: Node<'d, 't>,
+    wanted: &[Wanted],
+    found: &mut [Option<Node<'d, 't>>],
+)
+    requires { length wanted.now ≡ length found.old }
+    ensures { map (option_map tree_of) found.new ≡ noted (tree_of part.entry) (tree_of first.entry) wanted.now (map (option_map tree_of) found.old) }
+{
+    match first.word() {
+        Some(word) => note_word(part, first, word, wanted, found),
+        None => note_any(part, first, wanted, found),
     }
 }
 

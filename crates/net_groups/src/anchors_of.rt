@@ -65,7 +65,8 @@ fn anchors_among(
     requires many { length numbers.now ≡ length ids.now }
     ensures { IfOk result (λ anchors. AreAnchorsAmong board.now.items (number_of ids.now numbers.now) ids.now anchors.items) }
 {
-    let mut anchors = Vec::with_capacity(alloc, ids.len())?;
+    // a track has two
+    let mut anchors = Vec::with_capacity(alloc, ids.len().saturating_mul(2))?;
     for place in 0..ids.len() {
         push_numbered(&mut anchors, board, numbers[place], ids[place])?;
     }

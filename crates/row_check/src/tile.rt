@@ -64,7 +64,7 @@ fn touched_of(alloc: Global, near: &[Entry], changed: &[u32]) -> Result<Vec<Entr
     requires { IsStrictlyIncreasing changed.now }
     ensures { IfOk result (λ touched. touched.items ≡ filter (λ (e : Entry). is_changed changed.now e.id) near.now) }
 {
-    let mut touched = Vec::new(alloc);
+    let mut touched = Vec::with_capacity(alloc, near.len().min(changed.len()))?;
     for entry in near {
         if is_changed(changed, entry.id) {
             touched.push(*entry)?;

@@ -30,6 +30,7 @@ fn comment_end(text: &[u8], at: usize) -> usize
 
 /// Where the space and the comment lines from `at` on end. `blank` says that nothing but space and tab stands in the
 /// line before `at`.
+#[inline(never)]
 fn comments_end(text: &[u8], at: usize, blank: bool) -> usize
     requires within { at ≤ length text.now }
     requires line { at < length text.now → line_at text.now at ≡ line_of blank }
@@ -65,6 +66,7 @@ fn comments_end(text: &[u8], at: usize, blank: bool) -> usize
 }
 
 /// Where the space from `at` on ends, and among forms the comment lines.
+#[inline(always)]
 pub fn skip(text: &[u8], at: usize, one: bool, blank: bool) -> usize
     requires within { at ≤ length text.now }
     requires line { IsInLine one text.now at blank }

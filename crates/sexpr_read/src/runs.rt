@@ -7,6 +7,7 @@ ghost use Rattle.sexpr_read.specs.Runs.{IsUnclosed};
 use crate::bytes::{Class, sign_at};
 
 /// Where the space from `at` on ends.
+#[inline(always)]
 pub fn gap_end(text: &[u8], at: usize) -> usize
     requires { at ≤ length text.now }
     ensures gap { IsGap (sign_of text.now) at result }

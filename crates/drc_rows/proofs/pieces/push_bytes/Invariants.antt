@@ -1,7 +1,7 @@
 use Rattle.std.proofs.Common.{take, Ok}
 use Rattle.drc_io.specs.declared.Failed.{Failed}
 use Rattle.drc_rows.specs.Line.{Puts, escaped}
-use Rattle.drc_rows.proofs.pieces.push_escaped.Given as goal
+use Rattle.drc_rows.proofs.pieces.push_bytes.Given as goal
 
 -- what has been passed is in the line
 abbrev pub invariant-loop-byte : goal.invariant-loop-byte

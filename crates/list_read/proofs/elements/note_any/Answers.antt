@@ -1,8 +1,8 @@
 use Rattle.std.proofs.Common.{◌∙◌, ◌<◌, length, map, option_map, ap, arith}
 use Rattle.sexpr_read.specs.Views.{tree_of}
 use Rattle.list_read.proofs.Walks.{note_here, keep_here}
-use Rattle.list_read.proofs.elements.note_part.Goals as goal
-use Rattle.list_read.proofs.elements.note_part.Goals.{then-is_new, else-is_new}
+use Rattle.list_read.proofs.elements.note_any.Goals as goal
+use Rattle.list_read.proofs.elements.note_any.Goals.{then-is_new, else-is_new}
 
 pub loop-k-preserved : goal.loop-k-preserved
 loop-k-preserved c =

@@ -1,0 +1,7 @@
+use Rattle.std.proofs.Common.{◌≡◌, take}
+use Rattle.drc_rows.specs.Line.{escaped}
+use Rattle.drc_rows.proofs.pieces.is_plain.Given as goal
+
+-- what has been passed stands for itself
+abbrev pub invariant-loop-byte : goal.invariant-loop-byte
+invariant-loop-byte l = escaped (take l.byte-index l.name) ≡ take l.byte-index l.name
