@@ -1,9 +1,11 @@
--- The kinds of what is checked: how they are broken, their numbers and their names.
+-- The kinds of what is checked: how they are broken, what sets them apart, their numbers and their names.
 use Rattle.std.specs.Prelude.{ℕ, Bool, true, false, List, codes}
 use Rattle.cond_lang.specs.declared.kind.Kind.{Kind}
 use Rattle.cond_lang.specs.declared.kind.Kind.TheVariants.{Short, Clearance, HoleClearance, HoleToHole, EdgeClearance, CourtyardClearance, Keepout, TrackWidth, ViaDiameter, HoleSize, AnnularWidth, Disallow, PhysicalClearance, PhysicalHoleClearance, Assertion}
 use Rattle.cond_lang.specs.declared.kind.Family.{Family}
 use Rattle.cond_lang.specs.declared.kind.Family.TheVariants.{Meets, Keeps, Limits, Forbids}
+use Rattle.cond_lang.specs.declared.kind.Special.{Special}
+use Rattle.cond_lang.specs.declared.kind.Special.TheVariants.{Common, OfClasses, OfNets, Claims}
 
 -- how a kind is broken: two items meet, or do not keep a distance; a length of a single item breaks a limit, or the item is forbidden
 abbrev pub family : Kind → Family
@@ -22,6 +24,54 @@ family Disallow = Forbids
 family PhysicalClearance = Keeps
 family PhysicalHoleClearance = Keeps
 family Assertion = Forbids
+
+-- what sets the kind apart from the others of its family
+abbrev pub special : Kind → Special
+special Short = Common
+special Clearance = OfClasses
+special HoleClearance = OfNets
+special HoleToHole = Common
+special EdgeClearance = Common
+special CourtyardClearance = Common
+special Keepout = Common
+special TrackWidth = Common
+special ViaDiameter = Common
+special HoleSize = Common
+special AnnularWidth = Common
+special Disallow = Common
+special PhysicalClearance = Common
+special PhysicalHoleClearance = Common
+special Assertion = Claims
+
+abbrev pub is_own : Special → Bool
+is_own Common = false
+is_own OfClasses = true
+is_own OfNets = false
+is_own Claims = false
+
+abbrev pub is_of_nets : Special → Bool
+is_of_nets Common = false
+is_of_nets OfClasses = true
+is_of_nets OfNets = true
+is_of_nets Claims = false
+
+abbrev pub is_claim : Special → Bool
+is_claim Common = false
+is_claim OfClasses = false
+is_claim OfNets = false
+is_claim Claims = true
+
+-- classes and items have values of their own for it
+abbrev pub has_own : Kind → Bool
+has_own kind = is_own (special kind)
+
+-- a short takes its place
+abbrev pub gives_place : Kind → Bool
+gives_place kind = is_of_nets (special kind)
+
+-- a condition is claimed of the item
+abbrev pub is_assertion : Kind → Bool
+is_assertion kind = is_claim (special kind)
 
 abbrev pub kind_number : Kind → ℕ
 kind_number Short = 1
@@ -56,7 +106,3 @@ kind_name Disallow = codes "disallow"
 kind_name PhysicalClearance = codes "physical_clearance"
 kind_name PhysicalHoleClearance = codes "physical_hole_clearance"
 kind_name Assertion = codes "assertion"
-
-abbrev pub is_assertion : Kind → Bool
-is_assertion Assertion = true
-is_assertion _ = false

@@ -1,5 +1,5 @@
 -- Rules as plain data.
-use Rattle.std.specs.Prelude.{ℕ, ℤ, List, map, Option}
+use Rattle.std.specs.Prelude.{ℕ, ℤ, false, List, map, Option}
 use Rattle.std.specs.Option.{option_map}
 use Rattle.cond_lang.specs.declared.kind.Kind.{Kind}
 use Rattle.cond_lang.specs.declared.rule.RuleLayer.{RuleLayer}
@@ -22,6 +22,20 @@ pub record PlainRule : Type 0 where
   pub severity : Severity
   pub cond : Option Tree
   pub constraints : List PlainConstraint
+
+abbrev pub no_bans : Disallow
+no_bans = record {
+  tracks = false;
+  vias = false;
+  micro_vias = false;
+  buried_vias = false;
+  pads = false;
+  zones = false;
+  graphics = false;
+  holes = false;
+  footprints = false;
+  texts = false;
+}
 
 abbrev pub plain_constraint : Constraint → PlainConstraint
 plain_constraint c = record { kind = c.kind; least = c.least; most = c.most; bans = c.bans; claim = option_map tree_of c.claim }

@@ -1,7 +1,7 @@
 //! The kinds of what is checked.
 
 ghost use Rattle.std.specs.Prelude.{◌≡◌};
-ghost use Rattle.cond_lang.specs.Kinds.{family, is_assertion, kind_name, kind_number};
+ghost use Rattle.cond_lang.specs.Kinds.{family, has_own, is_assertion, kind_name, kind_number, special};
 
 /// How a kind is broken.
 #[derive(Clone, Copy, Debug, Drop, PartialEq, Eq)]
@@ -14,6 +14,19 @@ pub enum Family {
     Limits,
     /// A single item is forbidden: it is banned, or a claim does not hold of it.
     Forbids,
+}
+
+/// What sets a kind apart from the others of its family.
+#[derive(Clone, Copy, Debug, Drop, PartialEq, Eq)]
+pub enum Special {
+    /// Nothing does.
+    Common,
+    /// Classes and items have values of their own for it, and a short takes its place.
+    OfClasses,
+    /// A short takes its place.
+    OfNets,
+    /// A condition is claimed of the item.
+    Claims,
 }
 
 /// What a rule limits, and what a row says is broken, by the numbers of kinds.
@@ -68,11 +81,44 @@ impl Kind {
         }
     }
 
+    /// What sets it apart.
+    #[inline(always)]
+    pub fn special(self) -> Special
+        ensures { result ≡ special self }
+    {
+        match self {
+            Kind::Clearance => Special::OfClasses,
+            Kind::HoleClearance => Special::OfNets,
+            Kind::Assertion => Special::Claims,
+            Kind::Short
+            | Kind::HoleToHole
+            | Kind::EdgeClearance
+            | Kind::CourtyardClearance
+            | Kind::Keepout
+            | Kind::TrackWidth
+            | Kind::ViaDiameter
+            | Kind::HoleSize
+            | Kind::AnnularWidth
+            | Kind::Disallow
+            | Kind::PhysicalClearance
+            | Kind::PhysicalHoleClearance => Special::Common,
+        }
+    }
+
+    /// Whether classes and items have values of their own for it.
+    #[inline(always)]
+    pub fn has_own(self) -> bool
+        ensures { result ≡ has_own self }
+    {
+        matches!(self.special(), Special::OfClasses)
+    }
+
     /// Whether a condition is claimed of the item.
+    #[inline(always)]
     pub fn is_assertion(self) -> bool
         ensures { result ≡ is_assertion self }
     {
-        matches!(self, Kind::Assertion)
+        matches!(self.special(), Special::Claims)
     }
 
     /// Its number, from 1 to 15.

@@ -21,7 +21,7 @@ pub use cond::{Cond, Conds};
 pub use constraint::Constraint;
 pub use constraints::{Constraints, Rule};
 pub use error::{CondError, Reason};
-pub use kind::{Family, Kind};
+pub use kind::{Family, Kind, Special};
 pub use reader::parse_cond;
 pub use rule::{Disallow, RuleLayer, Severity};
 pub use terms::{Func, Op, Prop, Side, Term};

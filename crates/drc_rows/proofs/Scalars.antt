@@ -1,5 +1,5 @@
--- Lengths that can be written, items whose places can be, and layers that have a name.
-use Rattle.std.proofs.Common.{◌≡◌, ℕ, ◌<◌, ◌≤◌, ◌≤ℤ◌, ℤ, pos, negsuc, neg_ℤ, Bool, true, false, ◌&&◌, inl, inr, is_some, refl, arith}
+-- Lengths that can be written, and items whose places can be.
+use Rattle.std.proofs.Common.{◌≡◌, ◌≤◌, ◌≤ℤ◌, ℤ, pos, negsuc, neg_ℤ, Bool, true, false, ◌&&◌, is_some, refl, arith}
 use Rattle.std.proofs.lemmas.Int.{ints}
 use Rattle.std.specs.Int.Signed.{le_z}
 use Rattle.std.specs.Prelude.{unsigned_abs}
@@ -7,16 +7,6 @@ use Rattle.int_algebra.proofs.Scalars.{passed}
 use Rattle.drc_io.specs.Lengths.{IsLength}
 use Rattle.board_items.specs.declared.item.Item.{Item}
 use Rattle.board_items.specs.Boards.{PlainBoard, is_near, is_on_board, is_admitted, name_of, has_layers_of}
-use Rattle.cond_lang.specs.declared.kind.Kind.{Kind}
-use Rattle.kind_subjects.specs.declared.subject.Faces.{Faces}
-use Rattle.kind_subjects.specs.declared.subject.Faces.TheVariants.{Coppers, HolesAndCopper, Holes, EdgesAndCopper, Yards, Areas}
-use Rattle.kind_subjects.specs.declared.subject.Measure.{Measure}
-use Rattle.kind_subjects.specs.declared.subject.Measure.TheVariants.{Width, Diameter, Bore, Ring}
-use Rattle.kind_subjects.specs.declared.subject.Subject.{Subject}
-use Rattle.kind_subjects.specs.declared.subject.Subject.TheVariants.{Sides, Length, Whole}
-use Rattle.kind_subjects.specs.declared.layer.RowLayer.TheVariants.{Copper}
-use Rattle.kind_subjects.specs.Subjects.{subject_of}
-use Rattle.kind_subjects.specs.KindLayers.{IsFacedOn, IsMeasuredOn, IsSeenOn, IsLayerOf}
 use Rattle.kind_subjects.specs.Lengths.{IsWithin}
 
 -- a length, as it is passed to a call
@@ -65,28 +55,3 @@ pub on_board : (board : PlainBoard) (item : Item) → is_admitted board item ≡
 on_board board item h =
     let has = is_some (name_of board item.net) in
     (both (is_on_board item) has (both (is_on_board item && has) (has_layers_of board item) h).0).0
-
--- a copper layer of a row has a name
-pub layer_below : (kind : Kind) (n : ℕ) → IsLayerOf kind (Copper n) → n < 32
-layer_below kind n h = by (subject_of kind) h
-  where
-    faced : (faces : Faces) → IsFacedOn faces (Copper n) → n < 32
-    faced Coppers h = h
-    faced HolesAndCopper h = h
-    faced Holes h = absurd h
-    faced EdgesAndCopper (inl h) = h
-    faced EdgesAndCopper (inr h) = absurd h
-    faced Yards h = absurd h
-    faced Areas h = h
-
-    measured : (measure : Measure) → IsMeasuredOn measure (Copper n) → n < 32
-    measured Width h = h
-    measured Diameter h = absurd h
-    measured Bore h = absurd h
-    measured Ring h = absurd h
-
-    by : (subject : Subject) → IsSeenOn subject (Copper n) → n < 32
-    by (Sides faces) h = faced faces h
-    by (Length measure) h = measured measure h
-    by Whole (inl h) = h
-    by Whole (inr h) = absurd h

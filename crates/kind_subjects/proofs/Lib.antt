@@ -1,5 +1,6 @@
 pub mod TriedLayers
 pub mod NearLayers
+pub mod KindLayers
 pub mod LengthRanges
 pub mod SingleLayers
 pub mod FacedLists

@@ -10,7 +10,6 @@ use Rattle.copper_layers.specs.declared.set.LayerSet.{LayerSet}
 use Rattle.board_items.specs.declared.item.Item.{Item}
 use Rattle.board_items.specs.Copper.{SomeMeet, Keeps}
 use Rattle.cond_lang.specs.declared.kind.Kind.{Kind}
-use Rattle.cond_lang.specs.declared.kind.Kind.TheVariants.{CourtyardClearance}
 use Rattle.kind_subjects.specs.declared.subject.Faces.{Faces}
 use Rattle.kind_subjects.specs.declared.subject.Faces.TheVariants.{Coppers, HolesAndCopper, Holes, EdgesAndCopper, Yards, Areas}
 use Rattle.kind_subjects.specs.declared.subject.Subject.{Subject}
@@ -20,8 +19,7 @@ use Rattle.kind_subjects.specs.declared.layer.RowLayer.TheVariants.{Copper, Fron
 use Rattle.kind_subjects.specs.Subjects.{subject_of}
 use Rattle.kind_subjects.specs.KindLayers.{IsFacedOn, IsSeenOn, IsLayerOf}
 use Rattle.kind_subjects.specs.Layers.{IsTried}
-use Rattle.kind_subjects.specs.Facing.{Facing, faced, facings_in, facings, MeetAt, KeepAt, TooNear}
-use Rattle.kind_subjects.specs.Sides.{is_courtyard}
+use Rattle.kind_subjects.specs.Facing.{Facing, faced, facings_in, facings, may_not_meet, MeetAt, KeepAt, TooNear}
 
 -- ---- layers
 
@@ -65,18 +63,15 @@ meeting_layer copper kind layer a b is m = by (sees_on copper kind layer a b is)
 -- ---- what is too near
 
 pub near_of : (kind : Kind) (layer : RowLayer) (a b : Item) (v : ℤ) → ¬ (KeepAt kind layer a b v) → TooNear kind layer a b v
-near_of CourtyardClearance layer a b v h = inr h
-near_of _ layer a b v h = h
+near_of kind layer a b v h = inr h
 
-pub near_of_meeting : (kind : Kind) (layer : RowLayer) (a b : Item) (v : ℤ) → is_courtyard kind ≡ true → MeetAt kind layer a b → TooNear kind layer a b v
-near_of_meeting CourtyardClearance layer a b v e m = inl m
-near_of_meeting _ layer a b v e m = absurd (cc)
+pub near_of_meeting : (kind : Kind) (layer : RowLayer) (a b : Item) (v : ℤ) → may_not_meet kind ≡ true → MeetAt kind layer a b → TooNear kind layer a b v
+near_of_meeting kind layer a b v e m = inl (e, m)
 
 -- what is kept, and does not touch either where that is asked, is not too near
-pub not_near : (kind : Kind) (layer : RowLayer) (a b : Item) (v : ℤ) → KeepAt kind layer a b v → (is_courtyard kind ≡ true → ¬ (MeetAt kind layer a b)) → ¬ (TooNear kind layer a b v)
-not_near CourtyardClearance layer a b v k m (inl n) = m refl n
-not_near CourtyardClearance layer a b v k m (inr n) = n k
-not_near _ layer a b v k m n = n k
+pub not_near : (kind : Kind) (layer : RowLayer) (a b : Item) (v : ℤ) → KeepAt kind layer a b v → (may_not_meet kind ≡ true → ¬ (MeetAt kind layer a b)) → ¬ (TooNear kind layer a b v)
+not_near kind layer a b v k m (inl n) = m n.0 n.1
+not_near kind layer a b v k m (inr n) = n k
 
 pub near_layer : (copper : LayerSet) (kind : Kind) (layer : RowLayer) (a b : Item) (v : ℤ) → IsTried copper layer → TooNear kind layer a b v → IsLayerOf kind layer
 near_layer copper kind layer a b v is n = by (sees_on copper kind layer a b is)

@@ -1,5 +1,5 @@
 -- What is measured for a kind on a layer: which parts of the one item face which parts of the other.
-use Rattle.std.specs.Prelude.{ℕ, ℤ, nat_eq, List, [], ◌∷◌, ◌⊎◌, All, if◌then◌else◌, Option}
+use Rattle.std.specs.Prelude.{ℕ, ℤ, nat_eq, Bool, true, false, IsTrue, List, [], ◌∷◌, ◌⊎◌, All, if◌then◌else◌, Option}
 use Rattle.std.specs.List.{Any}
 use Rattle.board_items.specs.declared.parts.Part.{Part}
 use Rattle.board_items.specs.declared.item.Hole.{Hole}
@@ -9,7 +9,6 @@ use Rattle.board_items.specs.declared.item.Item.{Item}
 use Rattle.board_items.specs.Copper.{on_layer, SomeMeet, Keeps}
 use Rattle.board_items.specs.Parts.{hole_parts}
 use Rattle.cond_lang.specs.declared.kind.Kind.{Kind}
-use Rattle.cond_lang.specs.declared.kind.Kind.TheVariants.{CourtyardClearance}
 use Rattle.rule_pick.specs.FactsOf.{parts_asked}
 use Rattle.kind_subjects.specs.declared.subject.Faces.{Faces}
 use Rattle.kind_subjects.specs.declared.subject.Faces.TheVariants.{Coppers, HolesAndCopper, Holes, EdgesAndCopper, Yards, Areas}
@@ -119,7 +118,23 @@ MeetAt kind layer a b = Any (λ f. SomeMeet f.own f.others) (facings kind layer 
 abbrev pub KeepAt : Kind → RowLayer → Item → Item → ℤ → Type 0
 KeepAt kind layer a b v = All (λ f. Keeps f.own f.others v) (facings kind layer a b)
 
--- the distance is not kept; courtyards may not touch either
+-- what faces each other so may not touch either
+abbrev pub apart_by : Faces → Bool
+apart_by Coppers = false
+apart_by HolesAndCopper = false
+apart_by Holes = false
+apart_by EdgesAndCopper = false
+apart_by Yards = true
+apart_by Areas = false
+
+abbrev pub apart_in : Subject → Bool
+apart_in (Sides faces) = apart_by faces
+apart_in (Length measure) = false
+apart_in Whole = false
+
+abbrev pub may_not_meet : Kind → Bool
+may_not_meet kind = apart_in (subject_of kind)
+
+-- the distance is not kept, or the two meet where they may not
 abbrev pub TooNear : Kind → RowLayer → Item → Item → ℤ → Type 0
-TooNear CourtyardClearance layer a b v = MeetAt CourtyardClearance layer a b ⊎ (¬ (KeepAt CourtyardClearance layer a b v))
-TooNear kind layer a b v = ¬ (KeepAt kind layer a b v)
+TooNear kind layer a b v = (IsTrue (may_not_meet kind) × MeetAt kind layer a b) ⊎ (¬ (KeepAt kind layer a b v))

@@ -1,10 +1,9 @@
 -- Facings as the code has them: sides that face each other, one way or both ways.
-use Rattle.std.specs.Prelude.{◌≡◌, ◌⊎◌, ◌<◌, ◌≤◌, ℕ, ℤ, Bool, true, false, List, [], ◌∷◌, All}
+use Rattle.std.specs.Prelude.{◌≡◌, ◌⊎◌, ◌<◌, ◌≤◌, ℕ, ℤ, List, [], ◌∷◌, All}
 use Rattle.std.specs.List.{Any}
 use Rattle.board_items.specs.Copper.{SomeMeet, Keeps}
 use Rattle.board_items.specs.declared.item.Item.{Item}
 use Rattle.cond_lang.specs.declared.kind.Kind.{Kind}
-use Rattle.cond_lang.specs.declared.kind.Kind.TheVariants.{CourtyardClearance}
 use Rattle.item_copper.specs.Sides.{parts_at}
 use Rattle.kind_subjects.specs.declared.layer.RowLayer.{RowLayer}
 use Rattle.kind_subjects.specs.declared.layer.RowLayer.TheVariants.{Copper}
@@ -45,8 +44,3 @@ AreFacedWithin sides from to layer = All IsUnfaced sides ⊎ ((from ≤ rank lay
 
 abbrev pub FaceWithin : Kind → Item → Item → ℕ → ℕ → RowLayer → Type 0
 FaceWithin kind a b from to layer = AreFacedWithin (facings kind layer a b) from to layer
-
--- courtyards may not touch either
-abbrev pub is_courtyard : Kind → Bool
-is_courtyard CourtyardClearance = true
-is_courtyard _ = false

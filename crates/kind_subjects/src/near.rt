@@ -3,21 +3,41 @@
 ghost use Rattle.std.specs.Prelude.{◌≡◌, MatchOption};
 ghost use Rattle.drc_io.specs.Lengths.{IsLength};
 ghost use Rattle.geo_seg.specs.Distances.{IsGap};
-ghost use Rattle.kind_subjects.specs.Facing.{facings, KeepAt, TooNear};
-ghost use Rattle.kind_subjects.specs.Sides.{facings_of, is_courtyard};
+ghost use Rattle.kind_subjects.specs.Facing.{facings, apart_by, may_not_meet, KeepAt, TooNear};
+ghost use Rattle.kind_subjects.specs.Sides.{facings_of};
 
 use crate::layer::RowLayer;
 use crate::measure::{Facings, gap_at, meet_at};
+use crate::subject::{Faces, Subject, subject_of};
 use board_items::{Item, Nm};
 use cond_lang::Kind;
 
-fn is_courtyard(kind: Kind) -> bool
-    ensures { result ≡ is_courtyard kind }
+#[inline(always)]
+fn apart_by(faces: Faces) -> bool
+    ensures { result ≡ apart_by faces }
 {
-    matches!(kind, Kind::CourtyardClearance)
+    match faces {
+        Faces::Yards => true,
+        Faces::Coppers
+        | Faces::HolesAndCopper
+        | Faces::Holes
+        | Faces::EdgesAndCopper
+        | Faces::Areas => false,
+    }
 }
 
-/// The gap on the layer, where the two are nearer than `least`; courtyards may not touch either.
+/// Whether what faces each other may not touch either, as courtyards may not.
+#[inline(always)]
+pub fn may_not_meet(kind: Kind) -> bool
+    ensures { result ≡ may_not_meet kind }
+{
+    match subject_of(kind) {
+        Subject::Sides(faces) => apart_by(faces),
+        Subject::Length(_) | Subject::Whole => false,
+    }
+}
+
+/// The gap on the layer, where the two are nearer than `least`, or meet where they may not.
 #[inline(always)]
 pub fn gap_if_near(
     faced: &Facings<'_>,
@@ -31,16 +51,16 @@ pub fn gap_if_near(
     requires least { IsLength least }
     ensures { MatchOption result (¬ (TooNear kind layer a.now b.now least)) (λ gap. TooNear kind layer a.now b.now least × IsGap (KeepAt kind layer a.now b.now) least gap) }
 {
-    let yards = is_courtyard(kind);
+    let apart = may_not_meet(kind);
     // nothing has to be kept
-    if least == 0 && !yards {
+    if least == 0 && !apart {
         return None;
     }
     let gap = gap_at(faced, kind, layer, a, b, least);
     if gap < least {
         return Some(gap);
     }
-    if yards && meet_at(faced, kind, layer, a, b) {
+    if apart && meet_at(faced, kind, layer, a, b) {
         Some(gap)
     } else {
         None

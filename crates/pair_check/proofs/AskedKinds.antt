@@ -12,23 +12,24 @@ use Rattle.board_items.specs.declared.item.What.TheVariants as what
 use Rattle.board_items.specs.declared.item.Item.{Item}
 use Rattle.net_class.specs.Classes.{PlainMins}
 use Rattle.cond_lang.specs.declared.kind.Kind.{Kind}
-use Rattle.cond_lang.specs.declared.kind.Kind.TheVariants.{Clearance, HoleClearance, HoleToHole, EdgeClearance, CourtyardClearance, PhysicalClearance, PhysicalHoleClearance}
+use Rattle.cond_lang.specs.declared.kind.Kind.TheVariants.{Clearance, ViaDiameter, HoleSize}
 use Rattle.cond_lang.specs.declared.kind.Family.TheVariants.{Forbids as Forbidding}
 use Rattle.cond_lang.specs.declared.rule.Disallow.{Disallow as Bans}
 use Rattle.cond_lang.specs.declared.constraint.Constraint.{Constraint}
 use Rattle.cond_lang.specs.declared.constraints.Rule.{Rule}
-use Rattle.cond_lang.specs.Kinds.{family, kind_number, is_assertion}
-use Rattle.cond_lang.specs.Rules.{PlainConstraint, PlainRule, plain_constraint, plain_rule}
+use Rattle.cond_lang.specs.Kinds.{family, kind_number, has_own, is_assertion}
+use Rattle.cond_lang.specs.Rules.{PlainConstraint, PlainRule, no_bans, plain_constraint, plain_rule}
 use Rattle.rule_pick.specs.declared.facts.Facts.{Facts}
-use Rattle.rule_pick.specs.Deciding.{minimum, is_clearance, greater_if, local_if, class_clearance_if, local_of, asked_by, no_bans, IsPick}
+use Rattle.rule_pick.specs.Deciding.{minimum, has_default, greater_if, local_if, class_clearance_if, local_of, asked_by, IsPick}
 use Rattle.rule_pick.specs.Picks.{Pick}
 use Rattle.kind_subjects.specs.declared.layer.RowLayer.{RowLayer}
 use Rattle.kind_subjects.specs.Layers.{asked_layer}
-use Rattle.pair_check.specs.Asked.{asks, some_asks, has_default, AsksNothing}
+use Rattle.pair_check.specs.Asked.{asks, some_asks, AsksNothing}
 use Rattle.pair_check.specs.Pairs.{Deciders, Pair, IsNearAt}
 use Rattle.pair_check.specs.Singles.{bans_what, bans_item, ForbidsBy, Forbids, IsForbiddenAt}
-use Rattle.kind_subjects.specs.Sides.{is_courtyard}
+use Rattle.kind_subjects.specs.Facing.{may_not_meet}
 use Rattle.kind_subjects.proofs.NearLayers.{not_near, kept_none}
+use Rattle.kind_subjects.proofs.Unfaced.{unlike}
 use Rattle.pair_check.proofs.NearPicks.{at_has}
 
 -- ---- rules that ask nothing
@@ -55,7 +56,7 @@ none_asks kind (r ∷ rules) e =
 some_none : {A : Type 0} (found : Option A) (x : A) → found ≡ None → found ≡ Some x → ⊥
 some_none found x e f = absurd (cc)
 
-module _ (rules : List PlainRule) (mins : PlainMins) (kind : Kind) (clear : is_clearance kind ≡ false) (least : (micro : Bool) → minimum mins micro kind ≡ pos 0)
+module _ (rules : List PlainRule) (mins : PlainMins) (kind : Kind) (clear : has_own kind ≡ false) (least : (micro : Bool) → minimum mins micro kind ≡ pos 0)
     (none : All (λ (r : PlainRule). asked_by kind r ≡ None) rules) where
   local_none : (a : Facts) (b : Option Facts) → local_of kind a b ≡ None
   local_none a b = ap (λ (t : Bool). if t then greater_if a.local (local_if b) else None) clear
@@ -70,32 +71,25 @@ module _ (rules : List PlainRule) (mins : PlainMins) (kind : Kind) (clear : is_c
 zero_of : (z : ℤ) → not (int_eq z (pos 0)) ≡ false → z ≡ pos 0
 zero_of z e = grind (arith, ints, e)
 
-clear_of : (mins : PlainMins) (kind : Kind) → has_default mins kind ≡ false → is_clearance kind ≡ false
-clear_of mins Clearance e = absurd (cc)
-clear_of mins _ e = refl
+-- of a micro via no more is asked than of another
+least_of : (mins : PlainMins) (kind : Kind) → minimum mins false kind ≡ pos 0 → (micro : Bool) → minimum mins micro kind ≡ pos 0
+least_of mins ViaDiameter e true = refl
+least_of mins ViaDiameter e false = e
+least_of mins HoleSize e true = refl
+least_of mins HoleSize e false = e
+least_of mins _ e micro = e
 
-yard_of : (mins : PlainMins) (kind : Kind) → has_default mins kind ≡ false → is_courtyard kind ≡ true → ⊥
-yard_of mins CourtyardClearance e f = absurd (cc)
-yard_of mins _ e f = absurd (cc)
-
-least_of : (mins : PlainMins) (kind : Kind) → has_default mins kind ≡ false → (micro : Bool) → minimum mins micro kind ≡ pos 0
-least_of mins HoleClearance e micro = zero_of mins.min_hole_clearance e
-least_of mins HoleToHole e micro = zero_of mins.min_hole_to_hole e
-least_of mins EdgeClearance e micro = zero_of mins.min_copper_edge_clearance e
-least_of mins PhysicalClearance e micro = refl
-least_of mins PhysicalHoleClearance e micro = refl
-least_of mins _ e micro = absurd (cc)
-
-pub asks_nothing : (d : Deciders) (rules : List Rule) (kind : Kind) → d.rules ≡ map plain_rule rules → has_default d.mins kind ≡ false → some_asks kind rules ≡ false → AsksNothing d kind
-asks_nothing d rules kind same default asked = record { none = far }
+pub asks_nothing : (d : Deciders) (rules : List Rule) (kind : Kind) → d.rules ≡ map plain_rule rules → may_not_meet kind ≡ false → has_default d.mins kind ≡ false → some_asks kind rules ≡ false → AsksNothing d kind
+asks_nothing d rules kind same meets default asked = record { none = far }
   where
     none : All (λ (r : PlainRule). asked_by kind r ≡ None) d.rules
     none = subst (λ rs. All (λ (r : PlainRule). asked_by kind r ≡ None) rs) (sym same) (none_asks kind rules asked)
 
     far : (pair : Pair) (layer : RowLayer) → IsNearAt d kind pair layer → ⊥
     far pair layer n =
-        let zero = picks_nothing d.rules d.mins kind (clear_of d.mins kind default) (least_of d.mins kind default) none pair.facts_a (Some pair.facts_b) (asked_layer layer) n.pick n.picked in
-        not_near kind layer pair.a pair.b n.pick.least (kept_none kind layer pair.a pair.b n.pick.least zero) (λ e m. absurd (yard_of d.mins kind default e)) n.near
+        let parts = either_none (has_own kind) (not (int_eq (minimum d.mins false kind) (pos 0))) default in
+        let zero = picks_nothing d.rules d.mins kind parts.0 (least_of d.mins kind (zero_of (minimum d.mins false kind) parts.1)) none pair.facts_a (Some pair.facts_b) (asked_layer layer) n.pick n.picked in
+        not_near kind layer pair.a pair.b n.pick.least (kept_none kind layer pair.a pair.b n.pick.least zero) (λ e m. unlike (may_not_meet kind) meets e) n.near
 
 -- ---- kinds that forbid
 
@@ -126,7 +120,7 @@ allows kind pick item e f h = by (is_assertion kind) h
     by true h = cc
     by false h = let none = ap (λ (b : Bans). bans_item b item) e ∙ no_ban_item item in cc
 
-ban_unclear : (kind : Kind) → family kind ≡ Forbidding → is_clearance kind ≡ false
+ban_unclear : (kind : Kind) → family kind ≡ Forbidding → has_own kind ≡ false
 ban_unclear Clearance e = absurd (cc)
 ban_unclear _ e = refl
 

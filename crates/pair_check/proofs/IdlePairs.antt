@@ -5,7 +5,7 @@ use Rattle.board_items.specs.declared.item.Hole.{Hole}
 use Rattle.board_items.specs.declared.item.What.{What}
 use Rattle.board_items.specs.declared.item.What.TheVariants.{Track, Via, Pad, Graphic, Fill, Edge, Area, Body, Note}
 use Rattle.cond_lang.specs.declared.kind.Kind.{Kind}
-use Rattle.cond_lang.specs.declared.kind.Kind.TheVariants.{Short, Clearance, HoleClearance, HoleToHole, EdgeClearance, CourtyardClearance, Keepout, TrackWidth, ViaDiameter, HoleSize, AnnularWidth, Disallow, PhysicalClearance, PhysicalHoleClearance, Assertion}
+use Rattle.cond_lang.specs.declared.kind.Kind.TheVariants.{Short, Clearance, HoleClearance, HoleToHole, EdgeClearance, CourtyardClearance, Keepout, PhysicalClearance, PhysicalHoleClearance}
 use Rattle.cond_lang.specs.Kinds.{family}
 use Rattle.pair_check.specs.declared.asked.Asked.{Asked}
 use Rattle.kind_subjects.specs.declared.layer.RowLayer.{RowLayer}
@@ -110,14 +110,9 @@ module _ (d : Deciders) (asked : Asked) (pair : Pair) (note : IsNoteOf d asked) 
   none_of EdgeClearance row b = no_edge row.layer b.where_first.holds
   none_of CourtyardClearance row b = unlike (is_compared CourtyardClearance pair.a pair.b) no_courtyards b.compared
   none_of Keepout row b = unlike (is_compared Keepout pair.a pair.b) no_keepout b.compared
-  none_of TrackWidth row b = b
-  none_of ViaDiameter row b = b
-  none_of HoleSize row b = b
-  none_of AnnularWidth row b = b
-  none_of Disallow row b = b
-  none_of PhysicalClearance row b = (note.each PhysicalClearance idle.copper).none pair row.layer b.where_first.holds
-  none_of PhysicalHoleClearance row b = (note.each PhysicalHoleClearance idle.holed).none pair row.layer b.where_first.holds
-  none_of Assertion row b = b
+  none_of PhysicalClearance row b = (note.physical_clearance idle.copper).none pair row.layer b.where_first.holds
+  none_of PhysicalHoleClearance row b = (note.physical_hole_clearance idle.holed).none pair row.layer b.where_first.holds
+  none_of _ row b = b
 
   pub idle_rows : (first second : ℕ) → AreRowsWhere (IsOfPair d pair first second) []
   idle_rows first second = record {

@@ -12,11 +12,11 @@ use Rattle.board_items.specs.Boards.{PlainBoard, item_at, name_of}
 use Rattle.net_class.specs.Classes.{PlainClass, PlainClasses, PlainMins, PlainPattern, class_named, pattern_of, class_by, class_of}
 use Rattle.cond_lang.specs.declared.kind.Kind.{Kind}
 use Rattle.cond_lang.specs.declared.kind.Kind.TheVariants.{Clearance, HoleClearance, HoleToHole, EdgeClearance, CourtyardClearance, PhysicalClearance, PhysicalHoleClearance}
-use Rattle.cond_lang.specs.Kinds.{kind_number}
+use Rattle.cond_lang.specs.Kinds.{kind_number, has_own}
 use Rattle.cond_lang.specs.Rules.{PlainConstraint, PlainRule}
 use Rattle.rule_pick.specs.declared.facts.Facts.{Facts}
 use Rattle.rule_pick.specs.FactsOf.{class_of_name, class_of_net, AreFactsOf}
-use Rattle.rule_pick.specs.Deciding.{minimum, greater_if, local_of, asked_by, IsDeciding, default_least, class_clearance_if, is_clearance, asked_least, IsPick}
+use Rattle.rule_pick.specs.Deciding.{minimum, greater_if, local_of, asked_by, IsDeciding, default_least, class_clearance_if, asked_least, IsPick}
 use Rattle.rule_pick.specs.Picks.{Pick}
 use Rattle.rule_pick.specs.Reach.{is_between_two, distance_asked, distances_of, clearances_of, least_distances, one_if, local_clearances, IsReach}
 use Rattle.pair_check.proofs.KindRows.{same_number}
@@ -179,14 +179,14 @@ module _ (board : PlainBoard) (classes : PlainClasses) (rules : List PlainRule) 
   -- ---- what is picked
   module _ (a b : Facts) (local_a : AtMostIf n a.local) (local_b : AtMostIf n b.local) (class_a : a.class_clearance ≤ℤ n) (class_b : b.class_clearance ≤ℤ n) (some : pos 0 ≤ℤ n) where
     local_least : (kind : Kind) → AtMostIf n (local_of kind a (Some b))
-    local_least kind = by_test (is_clearance kind)
+    local_least kind = by_test (has_own kind)
       where
         by_test : (c : Bool) → AtMostIf n (if c then greater_if a.local b.local else None)
         by_test true = greater_at_most n a.local b.local local_a local_b
         by_test false = λ nm e. absurd (cc)
 
     default_at : (kind : Kind) (least : ℤ) → least ≤ℤ n → default_least least kind a (Some b) ≤ℤ n
-    default_at kind least h = by_test (is_clearance kind)
+    default_at kind least h = by_test (has_own kind)
       where
         by_test : (c : Bool) → (if c then class_clearance_if (Some b) (int_max a.class_clearance least) else least) ≤ℤ n
         by_test true = max_at_most b.class_clearance (int_max a.class_clearance least) n class_b (max_at_most a.class_clearance least n class_a h)

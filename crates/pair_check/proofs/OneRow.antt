@@ -10,9 +10,9 @@ use Rattle.cond_lang.specs.Kinds.{family}
 use Rattle.rule_pick.specs.declared.facts.Facts.{Facts}
 use Rattle.rule_pick.specs.Picks.{Pick}
 use Rattle.rule_pick.proofs.OnePick.{one_pick}
-use Rattle.kind_subjects.specs.declared.subject.Measure.TheVariants.{Width, Diameter, Bore, Ring}
+use Rattle.kind_subjects.specs.declared.subject.Measure.TheVariants.{Ring}
 use Rattle.kind_subjects.specs.declared.subject.Subject.{Subject}
-use Rattle.kind_subjects.specs.declared.subject.Subject.TheVariants.{Sides, Length, Whole}
+use Rattle.kind_subjects.specs.declared.subject.Subject.TheVariants.{Length}
 use Rattle.kind_subjects.specs.declared.layer.RowLayer.{RowLayer}
 use Rattle.kind_subjects.specs.Subjects.{subject_of}
 use Rattle.pair_check.specs.PlainRow.{PlainRow}
@@ -65,11 +65,7 @@ one_quotient kind n g h p q = by (subject_of kind) p q
   where
     by : (subject : Subject) → IsQuotient n (times_in subject) g → IsQuotient n (times_in subject) h → g ≡ h
     by (Length Ring) p q = quotient_by_two n g h p q
-    by (Length Width) p q = quotient_by_one n g h p q
-    by (Length Diameter) p q = quotient_by_one n g h p q
-    by (Length Bore) p q = quotient_by_one n g h p q
-    by (Sides faces) p q = quotient_by_one n g h p q
-    by Whole p q = quotient_by_one n g h p q
+    by _ p q = quotient_by_one n g h p q
 
 -- ---- rows
 

@@ -1,15 +1,15 @@
 -- What two items of a board break.
-use Rattle.std.specs.Prelude.{◌≡◌, pos, false, IsTrue, List, Some}
+use Rattle.std.specs.Prelude.{◌≡◌, pos, Bool, true, false, IsTrue, List, Some}
 use Rattle.geo_seg.specs.Distances.{IsGap}
 use Rattle.copper_layers.specs.declared.set.LayerSet.{LayerSet}
 use Rattle.board_items.specs.declared.item.Item.{Item}
 use Rattle.net_class.specs.Classes.{PlainMins}
 use Rattle.cond_lang.specs.declared.kind.Kind.{Kind}
-use Rattle.cond_lang.specs.declared.kind.Kind.TheVariants.{Short, Clearance, HoleClearance}
+use Rattle.cond_lang.specs.declared.kind.Kind.TheVariants.{Short}
 use Rattle.cond_lang.specs.declared.kind.Family.{Family}
 use Rattle.cond_lang.specs.declared.kind.Family.TheVariants.{Meets, Keeps, Limits, Forbids}
 use Rattle.cond_lang.specs.declared.rule.Severity.TheVariants.{Error}
-use Rattle.cond_lang.specs.Kinds.{family}
+use Rattle.cond_lang.specs.Kinds.{family, gives_place}
 use Rattle.cond_lang.specs.Rules.{PlainRule}
 use Rattle.rule_pick.specs.declared.facts.Facts.{Facts}
 use Rattle.rule_pick.specs.declared.kinds.Source.TheVariants.{Default}
@@ -50,11 +50,13 @@ pub record DoMeet (d : Deciders) (kind : Kind) (pair : Pair) : Type 0 where
   pub compared : IsTrue (is_compared kind pair.a pair.b)
   pub somewhere : HoldsSomewhere d.copper (λ layer. MeetAt kind layer pair.a pair.b)
 
--- a short takes the place of a clearance, and of that of a hole
+abbrev pub IsGivenPlaceIf : Bool → Deciders → Pair → Type 0
+IsGivenPlaceIf true d pair = ¬ (DoMeet d Short pair)
+IsGivenPlaceIf false d pair = Unit {0}
+
+-- no short takes the place of the kind
 abbrev pub IsGivenPlace : Deciders → Kind → Pair → Type 0
-IsGivenPlace d Clearance pair = ¬ (DoMeet d Short pair)
-IsGivenPlace d HoleClearance pair = ¬ (DoMeet d Short pair)
-IsGivenPlace d _ pair = Unit {0}
+IsGivenPlace d kind pair = IsGivenPlaceIf (gives_place kind) d pair
 
 -- the row says that the two meet, on the first layer on which they do. No rule is asked: it is always an error
 pub record SaysMeeting (d : Deciders) (kind : Kind) (pair : Pair) (row : PlainRow) : Type 0 where

@@ -1,14 +1,14 @@
 //! For which kinds two items are asked to keep a distance at all.
 
 ghost use Rattle.std.specs.Prelude.{◌≡◌, false};
-ghost use Rattle.net_class.specs.Views.{mins_of};
-ghost use Rattle.pair_check.specs.Asked.{asks, some_asks, has_default, is_asked, AsksNothing, IsNoteOf};
+ghost use Rattle.pair_check.specs.Asked.{asks, some_asks, AsksNothing, IsNoteOf};
 ghost use Rattle.pair_check.specs.Rows.{deciders};
 ghost use Rattle.pair_check.specs.Views.{checked_by};
 
 use crate::view::CheckView;
 use cond_lang::{Kind, Rule};
-use net_class::Mins;
+use kind_subjects::may_not_meet;
+use rule_pick::has_default;
 
 /// Of each kind for which neither items nor classes ask, whether a rule or the board does.
 #[derive(Clone, Copy)]
@@ -46,24 +46,11 @@ pub(crate) fn some_asks(rules: &[Rule], kind: Kind) -> bool
     rules.iter().any(|rule| asks(rule, kind))
 }
 
-// Whether the kind may have a value without a rule.
-fn has_default(mins: &Mins, kind: Kind) -> bool
-    ensures { result ≡ has_default (mins_of mins.now) kind }
-{
-    match kind {
-        Kind::HoleClearance => mins.min_hole_clearance != 0,
-        Kind::HoleToHole => mins.min_hole_to_hole != 0,
-        Kind::EdgeClearance => mins.min_copper_edge_clearance != 0,
-        Kind::PhysicalClearance | Kind::PhysicalHoleClearance => false,
-        _ => true,
-    }
-}
-
 // Whether anything may be asked of the kind. Only what it answers no to is sure.
 fn may_ask(view: &CheckView, kind: Kind) -> bool
     ensures { result ≡ false → AsksNothing (deciders (checked_by view.now)) kind }
 {
-    has_default(view.classes.mins(), kind) || some_asks(view.rules, kind)
+    may_not_meet(kind) || has_default(view.classes.mins(), kind) || some_asks(view.rules, kind)
 }
 
 impl Asked {
@@ -77,21 +64,6 @@ impl Asked {
             edge_clearance: may_ask(view, Kind::EdgeClearance),
             physical_clearance: may_ask(view, Kind::PhysicalClearance),
             physical_hole_clearance: may_ask(view, Kind::PhysicalHoleClearance),
-        }
-    }
-
-    /// Whether anything may be asked of the kind.
-    #[inline(always)]
-    pub(crate) fn has(self, kind: Kind) -> bool
-        ensures { result ≡ is_asked self kind }
-    {
-        match kind {
-            Kind::HoleClearance => self.hole_clearance,
-            Kind::HoleToHole => self.hole_to_hole,
-            Kind::EdgeClearance => self.edge_clearance,
-            Kind::PhysicalClearance => self.physical_clearance,
-            Kind::PhysicalHoleClearance => self.physical_hole_clearance,
-            _ => true,
         }
     }
 }

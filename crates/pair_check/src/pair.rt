@@ -2,7 +2,7 @@
 //!
 //! The walks over layers are laid into their callers, which know the kind, and with it what faces what.
 
-ghost use Rattle.std.specs.Prelude.{◌≡◌, ◌+◌, ◌<◌, ◌≤◌, IsTrue, IsSome, [], length, MatchOption};
+ghost use Rattle.std.specs.Prelude.{◌≡◌, ◌+◌, ◌<◌, ◌≤◌, false, IsTrue, IsSome, [], length, MatchOption};
 ghost use Rattle.board_items.specs.Boards.{item_at};
 ghost use Rattle.cond_lang.specs.declared.kind.Family.{Family};
 ghost use Rattle.cond_lang.specs.Kinds.{family, kind_number};
@@ -10,7 +10,7 @@ ghost use Rattle.pair_check.specs.PlainRow.{PlainRow};
 ghost use Rattle.kind_subjects.specs.Layers.{IsTried, IsFirst, HoldsNowhere};
 ghost use Rattle.kind_subjects.specs.Compared.{is_compared};
 ghost use Rattle.pair_check.specs.Pairs.{IsGivenPlace, IsNearAt};
-ghost use Rattle.pair_check.specs.Asked.{IsNoteOf};
+ghost use Rattle.pair_check.specs.Asked.{AsksNothing, IsNoteOf};
 ghost use Rattle.pair_check.specs.Rows.{deciders, Stands, AreRowsWhere, AreRowsOfPair};
 ghost use Rattle.pair_check.specs.Views.{checked_by, IsWhole};
 ghost use Rattle.pair_check.specs.Stages.{pair_of, IsNear, IsOfPair, IsOfKind, AreRowsBelow};
@@ -159,7 +159,7 @@ fn add_measured(
 #[inline(always)]
 fn add_near(
     view: &CheckView,
-    asked: Asked,
+    asked: bool,
     kind: Kind,
     first: u32,
     second: u32,
@@ -167,7 +167,7 @@ fn add_near(
     rows: &mut PairRows,
 )
     requires few { length view.now.rules.now < 4294967295 }
-    requires asked { IsNoteOf (deciders (checked_by view.now)) asked }
+    requires asked { asked ≡ false → AsksNothing (deciders (checked_by view.now)) kind }
     requires measured { family kind ≡ Family.Keeps }
     requires place { IsGivenPlace (deciders (checked_by view.now)) kind (pair_of pair) }
     requires ordered { first < second }
@@ -176,7 +176,7 @@ fn add_near(
     ensures rows { AreRowsBelow (IsOfPair (deciders (checked_by view.now)) (pair_of pair.entry) first second) (kind_number kind + 1) rows.new }
     ensures count { length rows.new ≤ length rows.old + 1 }
 {
-    if asked.has(kind) && is_compared(kind, pair.a, pair.b) {
+    if asked && is_compared(kind, pair.a, pair.b) {
         add_measured(view, kind, first, second, pair, rows);
     }
 }
@@ -201,8 +201,16 @@ fn add_of_nets(
     match meeting_row(view, Kind::Short, first, second, pair) {
         Some(row) => rows.push(row),
         None => {
-            add_near(view, asked, Kind::Clearance, first, second, pair, rows);
-            add_near(view, asked, Kind::HoleClearance, first, second, pair, rows);
+            add_near(view, true, Kind::Clearance, first, second, pair, rows);
+            add_near(
+                view,
+                asked.hole_clearance,
+                Kind::HoleClearance,
+                first,
+                second,
+                pair,
+                rows,
+            );
         }
     }
 }
@@ -239,11 +247,27 @@ fn add_all(
         return;
     }
     add_of_nets(view, asked, first, second, pair, rows);
-    add_near(view, asked, Kind::HoleToHole, first, second, pair, rows);
-    add_near(view, asked, Kind::EdgeClearance, first, second, pair, rows);
     add_near(
         view,
-        asked,
+        asked.hole_to_hole,
+        Kind::HoleToHole,
+        first,
+        second,
+        pair,
+        rows,
+    );
+    add_near(
+        view,
+        asked.edge_clearance,
+        Kind::EdgeClearance,
+        first,
+        second,
+        pair,
+        rows,
+    );
+    add_near(
+        view,
+        true,
         Kind::CourtyardClearance,
         first,
         second,
@@ -253,7 +277,7 @@ fn add_all(
     add_keepout(view, first, second, pair, rows);
     add_near(
         view,
-        asked,
+        asked.physical_clearance,
         Kind::PhysicalClearance,
         first,
         second,
@@ -262,7 +286,7 @@ fn add_all(
     );
     add_near(
         view,
-        asked,
+        asked.physical_hole_clearance,
         Kind::PhysicalHoleClearance,
         first,
         second,

@@ -8,7 +8,6 @@ use Rattle.board_items.specs.declared.parts.Part.{Part}
 use Rattle.board_items.specs.Parts.{parts_of}
 use Rattle.board_items.specs.Extents.{LiesIn, AreBoundsOf}
 use Rattle.cond_lang.specs.declared.kind.Kind.{Kind}
-use Rattle.cond_lang.specs.declared.kind.Kind.TheVariants.{Clearance, HoleClearance, HoleToHole, EdgeClearance, CourtyardClearance, PhysicalClearance, PhysicalHoleClearance}
 use Rattle.cond_lang.specs.declared.kind.Family.{Family}
 use Rattle.cond_lang.specs.declared.kind.Family.TheVariants.{Meets, Keeps, Limits, Forbids}
 use Rattle.cond_lang.specs.Kinds.{family}
@@ -53,21 +52,11 @@ module _ (d : Deciders) (pair : Pair) (row : PlainRow) where
         not_kept = not_kept;
       })
 
-  in_yards : (near : SaysNear d CourtyardClearance pair row) → Found CourtyardClearance
-  in_yards near = elim near.where_first.holds.near [
-    | inl meet ↦ inl meet
-    | inr not_kept ↦ missed CourtyardClearance refl near not_kept
-  ]
-
   near : (kind : Kind) → is_between_two kind ≡ true → SaysNear d kind pair row → Found kind
-  near CourtyardClearance between says = in_yards says
-  near Clearance between says = missed Clearance between says says.where_first.holds.near
-  near HoleClearance between says = missed HoleClearance between says says.where_first.holds.near
-  near HoleToHole between says = missed HoleToHole between says says.where_first.holds.near
-  near EdgeClearance between says = missed EdgeClearance between says says.where_first.holds.near
-  near PhysicalClearance between says = missed PhysicalClearance between says says.where_first.holds.near
-  near PhysicalHoleClearance between says = missed PhysicalHoleClearance between says says.where_first.holds.near
-  near _ between says = absurd (cc)
+  near kind between says = elim says.where_first.holds.near [
+    | inl meet ↦ inl meet.1
+    | inr not_kept ↦ missed kind between says not_kept
+  ]
 
   said : (kind : Kind) → Breaks d kind pair row → Found kind
   said kind says = by (family kind) refl says

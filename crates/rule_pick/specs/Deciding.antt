@@ -1,17 +1,17 @@
 -- Which value a kind of check has, between the items a and b or of a alone: a clearance of the items' own, that of the last rule
 -- of the text that matches, or the board's default. Lengths are in nanometres.
-use Rattle.std.specs.Prelude.{◌≡◌, ◌⊎◌, ℕ, ◌<◌, ℤ, pos, ◌==◌, Bool, true, false, ◌&&◌, ◌||◌, IsTrue, List, find, is_some, Option, None, Some, unwrap_or, if◌then◌else◌}
+use Rattle.std.specs.Prelude.{◌≡◌, ◌⊎◌, ℕ, ◌<◌, ℤ, pos, ◌==◌, Bool, true, false, ◌&&◌, ◌||◌, not, IsTrue, List, find, is_some, Option, None, Some, unwrap_or, if◌then◌else◌}
 use Rattle.std.specs.Int.{int_max}
 use Rattle.std.specs.List.{slice_get}
+use Rattle.std.specs.Ordering.{int_eq}
 use Rattle.net_class.specs.Classes.{PlainMins}
 use Rattle.cond_lang.specs.declared.kind.Kind.{Kind}
 use Rattle.cond_lang.specs.declared.kind.Kind.TheVariants.{Short, Clearance, HoleClearance, HoleToHole, EdgeClearance, CourtyardClearance, Keepout, TrackWidth, ViaDiameter, HoleSize, AnnularWidth, Disallow as DisallowKind, PhysicalClearance, PhysicalHoleClearance, Assertion}
 use Rattle.cond_lang.specs.declared.rule.RuleLayer.{RuleLayer}
 use Rattle.cond_lang.specs.declared.rule.RuleLayer.TheVariants.{Any, Outer, Inner, One}
-use Rattle.cond_lang.specs.declared.rule.Disallow.{Disallow}
 use Rattle.cond_lang.specs.declared.rule.Severity.TheVariants.{Error}
-use Rattle.cond_lang.specs.Kinds.{kind_number}
-use Rattle.cond_lang.specs.Rules.{PlainConstraint, PlainRule}
+use Rattle.cond_lang.specs.Kinds.{kind_number, has_own}
+use Rattle.cond_lang.specs.Rules.{PlainConstraint, PlainRule, no_bans}
 use Rattle.cond_lang.specs.Trees.{Tree}
 use Rattle.rule_pick.specs.declared.facts.Facts.{Facts}
 use Rattle.rule_pick.specs.declared.kinds.Source.{Source}
@@ -39,6 +39,10 @@ minimum mins micro PhysicalClearance = pos 0
 minimum mins micro PhysicalHoleClearance = pos 0
 minimum mins micro Assertion = pos 0
 
+-- without a rule something may be asked of the kind: by classes and items, or by the board's minimum
+abbrev pub has_default : PlainMins → Kind → Bool
+has_default mins kind = has_own kind || not (int_eq (minimum mins false kind) (pos 0))
+
 -- ---- clearances of the items' own
 
 abbrev pub local_if : Option Facts → Option ℤ
@@ -51,13 +55,9 @@ greater_if None other = other
 greater_if (Some nm) None = Some nm
 greater_if (Some nm) (Some other) = Some (int_max nm other)
 
-abbrev pub is_clearance : Kind → Bool
-is_clearance Clearance = true
-is_clearance _ = false
-
--- for the clearance alone, the greatest of those that the items have
+-- where the kind has such values, the greatest of those that the items have
 abbrev pub local_of : Kind → Facts → Option Facts → Option ℤ
-local_of kind a b = if is_clearance kind then greater_if a.local (local_if b) else None
+local_of kind a b = if has_own kind then greater_if a.local (local_if b) else None
 
 -- ---- rules
 
@@ -105,20 +105,6 @@ NoneMatches rules kind a b layer = (place : ℕ) (rule : PlainRule) → slice_ge
 
 -- ---- what is picked
 
-abbrev pub no_bans : Disallow
-no_bans = record {
-  tracks = false;
-  vias = false;
-  micro_vias = false;
-  buried_vias = false;
-  pads = false;
-  zones = false;
-  graphics = false;
-  holes = false;
-  footprints = false;
-  texts = false;
-}
-
 -- without a rule there is a least value alone, and what breaks it is an error
 abbrev pub pick_least : Source → ℤ → Pick
 pick_least source least = record { least = least; most = None; bans = no_bans; source = source; severity = Error; holds = true }
@@ -127,9 +113,9 @@ abbrev pub class_clearance_if : Option Facts → ℤ → ℤ
 class_clearance_if None nm = nm
 class_clearance_if (Some f) nm = int_max f.class_clearance nm
 
--- the board's minimum, for the clearance the greatest of it and of the class clearances
+-- the board's minimum, where classes have values of their own the greatest of it and of theirs
 abbrev pub default_least : ℤ → Kind → Facts → Option Facts → ℤ
-default_least least kind a b = if is_clearance kind then class_clearance_if b (int_max a.class_clearance least) else least
+default_least least kind a b = if has_own kind then class_clearance_if b (int_max a.class_clearance least) else least
 
 -- what an assertion claims, of a alone; the other kinds claim nothing
 abbrev pub claim_holds : Option Tree → Facts → Bool

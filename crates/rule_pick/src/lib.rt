@@ -25,6 +25,7 @@ pub use facts_by_id::FactsById;
 pub use kinds::{ItemKind, Source};
 pub use lengths::LengthIf;
 pub use meaning::holds;
+pub use minimums::has_default;
 pub use names::Names;
 pub use picked::Picked;
 pub use picking::pick;

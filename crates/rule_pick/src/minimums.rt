@@ -3,7 +3,7 @@
 ghost use Rattle.std.specs.Prelude.{◌≡◌, pos, if◌then◌else◌};
 ghost use Rattle.std.specs.Int.{int_max};
 ghost use Rattle.net_class.specs.Views.{mins_of};
-ghost use Rattle.rule_pick.specs.Deciding.{minimum};
+ghost use Rattle.rule_pick.specs.Deciding.{minimum, has_default};
 
 use crate::lengths::Length;
 use cond_lang::Kind;
@@ -71,4 +71,11 @@ pub(crate) fn minimum(mins: &Mins, micro: bool, kind: Kind) -> Length
         | Kind::PhysicalHoleClearance
         | Kind::Assertion => Length { nm: 0 },
     }
+}
+
+/// Whether something may be asked of the kind without a rule.
+pub fn has_default(mins: &Mins, kind: Kind) -> bool
+    ensures { result ≡ has_default (mins_of mins.now) kind }
+{
+    kind.has_own() || minimum(mins, false, kind).nm != 0
 }

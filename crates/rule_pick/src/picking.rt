@@ -61,11 +61,11 @@ fn greater_if(nm: Option<Length>, other: Option<Length>) -> Option<Length>
     }
 }
 
-// For the clearance alone, the greatest that the items have of their own.
+// The greatest that the items have of their own, where the kind has such values.
 fn local_of(kind: Kind, a: &Facts, b: Option<&Facts>) -> Option<Length>
     ensures { option_map (λ l. l.nm) result ≡ local_of kind a.now (option_copied b.entry) }
 {
-    if matches!(kind, Kind::Clearance) {
+    if kind.has_own() {
         greater_if(own_clearance(a), local_if(b))
     } else {
         None
@@ -92,7 +92,7 @@ fn class_clearance_if(facts: Option<&Facts>, nm: Length) -> Length
 fn default_least(least: Length, kind: Kind, a: &Facts, b: Option<&Facts>) -> Length
     ensures { result.nm ≡ default_least least.nm kind a.now (option_copied b.entry) }
 {
-    if matches!(kind, Kind::Clearance) {
+    if kind.has_own() {
         class_clearance_if(b, greater(class_clearance(a), least))
     } else {
         least

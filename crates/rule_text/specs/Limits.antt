@@ -7,6 +7,7 @@ use Rattle.cond_lang.specs.declared.kind.Kind.{Kind}
 use Rattle.cond_lang.specs.declared.kind.Kind.TheVariants.{Clearance, HoleClearance, HoleToHole, EdgeClearance, CourtyardClearance, TrackWidth, ViaDiameter, HoleSize, AnnularWidth, Disallow as Banning, PhysicalClearance, PhysicalHoleClearance, Assertion}
 use Rattle.cond_lang.specs.declared.rule.Disallow.{Disallow}
 use Rattle.cond_lang.specs.Found.{Found, read, fault}
+pub use Rattle.cond_lang.specs.Rules.{no_bans as bans_nothing}
 use Rattle.cond_lang.specs.Trees.{Tree as CondTree}
 use Rattle.cond_lang.specs.Conditions.{reading}
 use Rattle.rule_text.specs.declared.error.RuleError.{RuleError}
@@ -88,20 +89,6 @@ abbrev pub unlimited : PlainLimits
 unlimited = record { least = None; wished = false; most = None }
 
 -- ---- bans
-
-abbrev pub bans_nothing : Disallow
-bans_nothing = record {
-  tracks = false;
-  vias = false;
-  micro_vias = false;
-  buried_vias = false;
-  pads = false;
-  zones = false;
-  graphics = false;
-  holes = false;
-  footprints = false;
-  texts = false;
-}
 
 -- what a word bans beside
 unfoldable pub with_ban : Disallow → Tree → Result Disallow RuleError

@@ -29,5 +29,9 @@ reason_of e = written (reason_in e)
 
 -- the place in a condition
 abbrev pub inner_place_of : RuleError → Option ℕ
+inner_place_of (Text e) = None
+inner_place_of (Version at) = None
+inner_place_of (Bad at) = None
 inner_place_of (Cond at inner) = cond_place_of inner
-inner_place_of _ = None
+inner_place_of (BadNumber at) = None
+inner_place_of OutOfMemory = None

@@ -1,4 +1,4 @@
-use Rattle.drc_rows.proofs.Scalars.{layer_below}
+use Rattle.kind_subjects.proofs.KindLayers.{layer_below}
 use Rattle.drc_rows.proofs.report.layer_text.Goals as goal
 
 pub layer_name-requires : goal.layer_name-requires

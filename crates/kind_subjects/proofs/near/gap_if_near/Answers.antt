@@ -6,7 +6,7 @@ use Rattle.geo_seg.specs.Distances.{IsGap}
 use Rattle.int_algebra.proofs.Scalars.{passed}
 use Rattle.kind_subjects.specs.Facing.{KeepAt}
 use Rattle.kind_subjects.proofs.NearLayers.{not_near, near_of_meeting, kept_none, gap_near, gap_kept, passed_gap}
-use Rattle.kind_subjects.proofs.near.gap_if_near.Goals.{else-yards-via-then-yards+else-meet_at, else-yards-via-else-yards}
+use Rattle.kind_subjects.proofs.near.gap_if_near.Goals.{else-apart-via-then-apart+else-meet_at, else-apart-via-else-apart}
 use Rattle.kind_subjects.proofs.near.gap_if_near.Goals as goal
 
 zero : (z : ℤ) → pos 0 ≤ℤ z → z ≤ℤ pos 500000000 → of_z w64 z ≡ 0 → z ≡ pos 0
@@ -28,11 +28,11 @@ same r y e f = cc
 unmet : (r : Bool) → r ≡ false → r ≡ true → ⊥
 unmet r e f = cc
 
-pub returns-then-not-yards : goal.returns-then-not-yards
-returns-then-not-yards c =
+pub returns-then-not-apart : goal.returns-then-not-apart
+returns-then-not-apart c =
     let a = c.args in
     not_near a.kind a.layer a.a.now a.b.now a.least (kept_none a.kind a.layer a.a.now a.b.now a.least (zero a.least c.requires.least.from c.requires.least.to c.if-least-eq0.true))
-    (λ e m. other _ _ c.is_courtyard-yards.ensures c.if-not-yards.true e)
+    (λ e m. other _ _ c.may_not_meet-apart.ensures c.if-not-apart.true e)
 
 pub returns-then-gap-least : goal.returns-then-gap-least
 returns-then-gap-least c =
@@ -47,18 +47,18 @@ pub returns-then-meet_at : goal.returns-then-meet_at
 returns-then-meet_at c =
     let a = c.args in
     let K = KeepAt a.kind a.layer a.a.now a.b.now in (
-      near_of_meeting a.kind a.layer a.a.now a.b.now a.least (same _ _ c.is_courtyard-yards.ensures c.if-yards.true) (c.meet_at.ensures.0 c.if-meet_at.true),
+      near_of_meeting a.kind a.layer a.a.now a.b.now a.least (same _ _ c.may_not_meet-apart.ensures c.if-apart.true) (c.meet_at.ensures.0 c.if-meet_at.true),
       passed_gap K a.least c.gap_at-gap.result c.requires.least c.gap_at-gap.ensures,
     )
 
-pub returns-else-yards : goal.returns-else-yards
-returns-else-yards c =
+pub returns-else-apart : goal.returns-else-apart
+returns-else-apart c =
     let a = c.args in
     let K = KeepAt a.kind a.layer a.a.now a.b.now in
     let is : IsGap K a.least (passed c.gap_at-gap.result) = passed_gap K a.least c.gap_at-gap.result c.requires.least c.gap_at-gap.ensures in
     not_near a.kind a.layer a.a.now a.b.now a.least
     (gap_kept a.kind a.layer a.a.now a.b.now a.least (passed c.gap_at-gap.result) is (not_less c.gap_at-gap.result a.least c.requires.least.from c.requires.least.to c.if-gap-least.false))
-    (elim c.else-yards.branch [
-      | else-yards-via-then-yards+else-meet_at w ↦ λ e m. unmet _ w.if-meet_at.false (w.meet_at.ensures.1 m)
-      | else-yards-via-else-yards w ↦ λ e m. other _ _ c.is_courtyard-yards.ensures w.if-yards.false e
+    (elim c.else-apart.branch [
+      | else-apart-via-then-apart+else-meet_at w ↦ λ e m. unmet _ w.if-meet_at.false (w.meet_at.ensures.1 m)
+      | else-apart-via-else-apart w ↦ λ e m. other _ _ c.may_not_meet-apart.ensures w.if-apart.false e
     ])
