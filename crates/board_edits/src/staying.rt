@@ -1,77 +1,14 @@
 //! Whether a unit that is moved stays on the board.
 
-ghost use Rattle.std.specs.Prelude.{◌≡◌, ◌+ℤ◌, ◌++◌, ◌&&◌};
-ghost use Rattle.std.specs.List.{list_all};
-ghost use Rattle.geo_seg.specs.Shifts.{core_stays};
+ghost use Rattle.std.specs.Prelude.{◌≡◌, ◌+ℤ◌, ◌&&◌};
 ghost use Rattle.board_items.specs.Boards.{is_near};
 ghost use Rattle.board_items.specs.Moves.{is_note, item_stays, unit_stays};
-ghost use Rattle.board_items.specs.Parts.{parts_of, hole_parts, kind_parts};
 ghost use Rattle.board_items.specs.Walks.{unit_left};
 ghost use Rattle.edit_script.specs.Fits.{IsNear};
 ghost use Rattle.board_edits.specs.Staying.{entries_stay};
 
-use board_items::{Board, Hole, Item, Nm, Part, UnitIter, What};
+use board_items::{Board, Item, Nm, UnitIter, What, shapes_stay, stays_near};
 use geo_seg::Shift;
-
-/// The greatest coordinate of a position, in nanometres.
-const GREATEST: i64 = 500_000_000;
-
-// Whether the coordinate of a position is on the board where it changes by so much.
-fn stays_near(at: Nm, by: Nm) -> bool
-    ensures { result ≡ is_near (at +ℤ by) }
-{
-    match at.checked_add(by) {
-        None => false,
-        Some(moved) => -GREATEST <= moved && moved <= GREATEST,
-    }
-}
-
-fn parts_stay(parts: &[Part], by: Shift) -> bool
-    ensures { result ≡ list_all (λ part. core_stays by.dx by.dy part.shape.core) parts.now }
-{
-    parts.iter().all(|part| part.shape.stays(by))
-}
-
-fn hole_stays(hole: &Option<Hole>, by: Shift) -> bool
-    ensures { result ≡ list_all (λ part. core_stays by.dx by.dy part.shape.core) (hole_parts hole.now) }
-{
-    match hole {
-        None => true,
-        Some(hole) => hole.shape.stays(by),
-    }
-}
-
-// Whether the parts that the kind gives stay.
-fn kind_stays(what: &What, by: Shift) -> bool
-    ensures { result ≡ list_all (λ part. core_stays by.dx by.dy part.shape.core) (kind_parts what.now) }
-{
-    match what {
-        What::Edge { lines } => parts_stay(lines.get().as_slice(), by),
-        What::Area { shape, .. } => shape.get().shape.stays(by),
-        What::Body { front, back, .. } => {
-            parts_stay(front.get().as_slice(), by) && parts_stay(back.get().as_slice(), by)
-        }
-        What::Track { .. }
-        | What::Via { .. }
-        | What::Pad { .. }
-        | What::Graphic
-        | What::Fill
-        | What::Note { .. } => true,
-    }
-}
-
-// Its hole, and what its kind gives.
-fn others_stay(item: &Item, by: Shift) -> bool
-    ensures { result ≡ list_all (λ part. core_stays by.dx by.dy part.shape.core) (hole_parts item.now.hole ++ kind_parts item.now.what) }
-{
-    hole_stays(&item.hole, by) && kind_stays(&item.what, by)
-}
-
-fn shapes_stay(item: &Item, by: Shift) -> bool
-    ensures { result ≡ list_all (λ part. core_stays by.dx by.dy part.shape.core) (parts_of item.now) }
-{
-    parts_stay(item.copper.as_slice(), by) && others_stay(item, by)
-}
 
 fn place_stays(item: &Item, dx: Nm, dy: Nm) -> bool
     ensures { result ≡ (is_near (item.now.x +ℤ dx) && is_near (item.now.y +ℤ dy)) }

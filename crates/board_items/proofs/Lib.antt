@@ -12,6 +12,7 @@ mod Adding
 mod UnitRows
 mod TagRows
 mod Named
+pub mod MovedParts
 mod Moving
 mod OneMove
 mod Resting

@@ -10,12 +10,11 @@ use Rattle.std.specs.List.{AllZip, list_all}
 use Rattle.geo_seg.specs.Shifts.{core_stays}
 use Rattle.copper_layers.specs.declared.set.LayerSet.{LayerSet}
 use Rattle.board_items.specs.declared.parts.Part.{Part}
-use Rattle.board_items.specs.declared.item.Hole.{Hole}
 use Rattle.board_items.specs.declared.item.What.{What}
 use Rattle.board_items.specs.declared.item.What.TheVariants.{Track, Via, Pad, Graphic, Fill, Edge, Area, Body, Note}
 use Rattle.board_items.specs.declared.item.Item.{Item}
 use Rattle.copper_layers.specs.Layers.{is_within}
-use Rattle.board_items.specs.Parts.{parts_of, hole_parts, kind_parts}
+use Rattle.board_items.specs.Parts.{parts_of}
 use Rattle.board_items.specs.Boards.{PlainBoard, IsSound, Rise, UnitsBelow, AllAdmitted, name_of, is_near, is_on_board, has_layers_of, is_admitted, is_mark, ids_where}
 use Rattle.std.proofs.lemmas.List.{with_items_is}
 use Rattle.std.specs.Vec.{with_items}
@@ -28,15 +27,10 @@ use Rattle.board_items.proofs.NetIds.{ids_unchanged}
 use Rattle.board_items.specs.Slots.{present, is_slot_on_board, slot_stays, IsMovedSlot}
 use Rattle.board_items.proofs.SlotLists.{stays_slots, moved_slots, same_row}
 use Rattle.board_items.proofs.Admitted.{all_kept}
-use Rattle.board_items.specs.Moves.{AreShifted, HoleIsShifted, KindIsShifted, IsShiftedPart, IsShiftedItem, IsMovedEntry, IsMoved, moves, item_stays, unit_stays, is_note}
+use Rattle.board_items.specs.Moves.{AreShifted, KindIsShifted, IsShiftedItem, IsMovedEntry, IsMoved, moves, item_stays, unit_stays, is_note}
+use Rattle.board_items.proofs.MovedParts.{parts_zip}
 
 -- ---- parts
-zip_append : {X : Type 0} (R : X → X → Type 0) (xs ys us vs : List X) → AllZip R xs ys → AllZip R us vs → AllZip R (xs ++ us) (ys ++ vs)
-zip_append R [] [] us vs h k = k
-zip_append R [] (y ∷ ys) us vs h k = absurd h
-zip_append R (x ∷ xs) [] us vs h k = absurd h
-zip_append R (x ∷ xs) (y ∷ ys) us vs h k = (h.0, zip_append R xs ys us vs h.1 k)
-
 layers_same : (dx dy : ℤ) (copper : LayerSet) (ps qs : List Part) → AreShifted dx dy ps qs → list_all (λ part. is_within part.layers copper) qs ≡ list_all (λ part. is_within part.layers copper) ps
 layers_same dx dy copper [] [] h = refl
 layers_same dx dy copper [] (q ∷ qs) h = absurd h
@@ -44,23 +38,6 @@ layers_same dx dy copper (p ∷ ps) [] h = absurd h
 layers_same dx dy copper (p ∷ ps) (q ∷ qs) h =
     ap (λ b. b && list_all (λ part. is_within part.layers copper) qs) (ap (λ (s : LayerSet). is_within s copper) h.0.layers)
     ∙ ap (λ b. is_within p.layers copper && b) (layers_same dx dy copper ps qs h.1)
-
-hole_zip : (dx dy : ℤ) (a b : Option Hole) → HoleIsShifted dx dy a b → AreShifted dx dy (hole_parts a) (hole_parts b)
-hole_zip dx dy None None h = tt
-hole_zip dx dy None (Some b) h = absurd h
-hole_zip dx dy (Some a) None h = absurd h
-hole_zip dx dy (Some a) (Some b) h = (record { layers = h.layers; shape = h.shape }, tt)
-
-kind_zip : (dx dy : ℤ) (a b : What) → KindIsShifted dx dy a b → AreShifted dx dy (kind_parts a) (kind_parts b)
-kind_zip dx dy (Track w) b h = subst (λ (k : What). AreShifted dx dy [] (kind_parts k)) (sym h) tt
-kind_zip dx dy (Via s d m l) b h = subst (λ (k : What). AreShifted dx dy [] (kind_parts k)) (sym h) tt
-kind_zip dx dy (Pad n r) b h = subst (λ (k : What). AreShifted dx dy [] (kind_parts k)) (sym h) tt
-kind_zip dx dy Graphic b h = subst (λ (k : What). AreShifted dx dy [] (kind_parts k)) (sym h) tt
-kind_zip dx dy Fill b h = subst (λ (k : What). AreShifted dx dy [] (kind_parts k)) (sym h) tt
-kind_zip dx dy (Edge lines) b h = subst (λ (k : What). AreShifted dx dy lines (kind_parts k)) (sym h.1) h.2
-kind_zip dx dy (Area t s p) b h = subst (λ (k : What). AreShifted dx dy (p ∷ []) (kind_parts k)) (sym h.1) (h.2, tt)
-kind_zip dx dy (Body r f k o) b h = subst (λ (w : What). AreShifted dx dy (f ++ k) (kind_parts w)) (sym h.2) (zip_append (IsShiftedPart dx dy) f h.0 k h.1 h.3 h.4)
-kind_zip dx dy (Note a l) b h = subst (λ (k : What). AreShifted dx dy [] (kind_parts k)) (sym h) tt
 
 mark_same : (dx dy : ℤ) (a b : What) → KindIsShifted dx dy a b → is_mark b ≡ is_mark a
 mark_same dx dy (Track w) b h = ap is_mark h
@@ -83,12 +60,6 @@ note_same dx dy (Edge lines) b h = ap is_note h.1
 note_same dx dy (Area t s p) b h = ap is_note h.1
 note_same dx dy (Body r f k o) b h = ap is_note h.2
 note_same dx dy (Note a l) b h = ap is_note h
-
-parts_zip : (dx dy : ℤ) (a b : Item) → IsShiftedItem dx dy a b → AreShifted (pos 2 *ℤ dx) (pos 2 *ℤ dy) (parts_of a) (parts_of b)
-parts_zip dx dy a b s =
-    zip_append (IsShiftedPart (pos 2 *ℤ dx) (pos 2 *ℤ dy)) a.copper b.copper (hole_parts a.hole ++ kind_parts a.what) (hole_parts b.hole ++ kind_parts b.what) s.copper
-    (zip_append (IsShiftedPart (pos 2 *ℤ dx) (pos 2 *ℤ dy)) (hole_parts a.hole) (hole_parts b.hole) (kind_parts a.what) (kind_parts b.what)
-    (hole_zip (pos 2 *ℤ dx) (pos 2 *ℤ dy) a.hole b.hole s.hole) (kind_zip (pos 2 *ℤ dx) (pos 2 *ℤ dy) a.what b.what s.what))
 
 module _ (unit : ℕ) (dx dy : ℤ) where
   -- ---- one entry

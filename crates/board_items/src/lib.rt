@@ -27,6 +27,7 @@ pub use board_errors::{BoardError, ItemError};
 pub use boxed::Boxed;
 pub use found::Found;
 pub use item::{About, Bans, Hole, Item, Nm, What};
+pub use moves::{shapes_stay, stays_near};
 pub use parts::{Part, Parts};
 pub use turns::turn;
 pub use walk::{BoardIter, BoardNets, UnitIter};

@@ -50,8 +50,8 @@ fn moves(item: &Item, unit: u32) -> bool
     item.unit == unit && !item.what.is_note()
 }
 
-// Whether the coordinate of a position stays on the board where it changes by so much.
-fn stays_near(at: Nm, by: Nm) -> bool
+/// Whether the coordinate of a position stays on the board where it changes by so much.
+pub fn stays_near(at: Nm, by: Nm) -> bool
     ensures { result ≡ is_near (at +ℤ by) }
 {
     match at.checked_add(by) {
@@ -91,7 +91,8 @@ fn others_stay(item: &Item, by: Shift) -> bool
     hole_stays(&item.hole, by) && kind_stays(&item.what, by)
 }
 
-fn shapes_stay(item: &Item, by: Shift) -> bool
+/// Whether all points of the item's shapes stay on the board.
+pub fn shapes_stay(item: &Item, by: Shift) -> bool
     ensures { result ≡ list_all (λ part. core_stays by.dx by.dy part.shape.core) (parts_of item.now) }
 {
     parts_stay(item.copper.as_slice(), by) && others_stay(item, by)

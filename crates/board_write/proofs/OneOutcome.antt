@@ -1,20 +1,15 @@
 -- A text and commands have one outcome.
-use Rattle.std.proofs.Common.{◌≡◌, ◌∙◌, ap, sym, subst, refl, ℕ, List, [], ◌∷◌, Option, Some, None, Result, Ok, Err}
+use Rattle.std.proofs.Common.{◌≡◌, ◌∙◌, ap, sym, subst, refl, ℕ, List, [], ◌∷◌, None, Result, Ok, Err}
 use Rattle.sexpr_read.specs.Tree.{Tree, parts}
 use Rattle.sexpr_read.specs.Spelling.{Spells, SpellsAll}
 use Rattle.sexpr_read.specs.Refusals.{refusal_of_one}
 use Rattle.board_errors.specs.declared.errors.BoardError.{BoardError}
-use Rattle.board_items.specs.declared.item.Item.{Item}
 use Rattle.board_items.specs.Boards.{PlainBoard}
-use Rattle.list_read.specs.Answers.{◌>>=◌}
-use Rattle.footprint_read.proofs.OneAnswer.{one_answer}
 use Rattle.tree_text.specs.Anew.{Fate}
-use Rattle.pcb_read.specs.declared.sorts.Sort.{Sort}
-use Rattle.pcb_read.specs.declared.sorts.Sort.TheVariants.{Track, Via, Arc, Graphic, Curve, Text, Zone, Footprint}
 use Rattle.pcb_read.specs.Sorts.{sort_of}
-use Rattle.pcb_read.specs.ItemsOf.{SaysItems}
-use Rattle.pcb_read.specs.BoardOf.{Reading, with_items, with_board, SaysWith, SaysPartBy, SaysBoard, unread}
+use Rattle.pcb_read.specs.BoardOf.{Reading, SaysBoard, unread}
 use Rattle.pcb_read.specs.BoardText.{Says, SaysAfter}
+use Rattle.pcb_read.proofs.OneReading.{one_part}
 use Rattle.edit_script.specs.Commands.{PlainCommand, add, delete, move, rules, again}
 use Rattle.board_edits.specs.declared.refusal.Refusal.{Refusal}
 use Rattle.board_edits.specs.Deeds.{PlainDeed, nothing, append, put_back, take_out, shift, Does, After, IsLeft, DoAll}
@@ -24,28 +19,6 @@ use Rattle.board_write.specs.Answers.{Outcome, refused_in}
 
 same_ok : {A B : Type 0} {x y : A} → (let p : Result A B = Ok x in p) ≡ Ok y → x ≡ y
 same_ok h = cc
-
--- ---- what a list of the root gives
-
-one_items : (board : PlainBoard) (unit : ℕ) (tree : Tree) (sort : Sort) (a b : Result (List Item) BoardError) → SaysItems board unit tree sort a → SaysItems board unit tree sort b → a ≡ b
-one_items board unit tree Track a b h k = h ∙ sym k
-one_items board unit tree Via a b h k = h ∙ sym k
-one_items board unit tree Arc a b h k = h ∙ sym k
-one_items board unit tree (Graphic kind) a b h k = h ∙ sym k
-one_items board unit tree Curve a b h k = h ∙ sym k
-one_items board unit tree (Text about) a b h k = h ∙ sym k
-one_items board unit tree Zone a b h k = h ∙ sym k
-one_items board unit tree Footprint a b h k = one_answer board unit tree a b h k
-
-one_with : (board : PlainBoard) (tree : Tree) (sort : Sort) (a b : Result PlainBoard BoardError) → SaysWith board tree sort a → SaysWith board tree sort b → a ≡ b
-one_with board tree sort a b h k =
-    h.2
-    ∙ ap (λ (items : Result (List Item) BoardError). items >>= λ found. Ok (with_items board found)) (one_items board board.next_unit tree sort h.0 k.0 h.1 k.1)
-    ∙ sym k.2
-
-one_part : (reading : Reading) (tree : Tree) (sort : Option Sort) (a b : Result Reading BoardError) → SaysPartBy reading tree sort a → SaysPartBy reading tree sort b → a ≡ b
-one_part reading tree None a b h k = h ∙ sym k
-one_part reading tree (Some sort) a b h k = h.2 ∙ ap (λ (board : Result PlainBoard BoardError). with_board reading board) (one_with reading.board tree sort h.0 k.0 h.1 k.1) ∙ sym k.2
 
 -- the fates of lists are one
 one_fates : (draft : Draft) (ts : List Tree) (reading : Reading) (f g : List Fate) → FatesAre draft reading ts f → FatesAre draft reading ts g → f ≡ g

@@ -12,7 +12,7 @@ use Rattle.run_texts.proofs.Accepting.{values_of, all_accepted, unread_has_fault
 use Rattle.drc_run.specs.declared.status.Status.{Status}
 use Rattle.drc_run.specs.Output.{Output, commands_among, is_short, IsTold, IsToldSoFar, IsOutputFor, given, IsBegunFor, whole, begun_by}
 use Rattle.drc_run.specs.Refusing.{IsLineOf}
-use Rattle.drc_run.specs.Endings.{Ends, IsTextOfOne}
+use Rattle.drc_run.specs.Endings.{Ends, EndsFor, IsTextOfOne}
 use Rattle.drc_run.proofs.Written.{ends_as}
 use Rattle.drc_run.proofs.Opening.{opened_by, commands_are, line_is_output}
 
@@ -29,7 +29,7 @@ module _ (call : Call) (told : Option (List (List ℕ × List ℕ))) where
     as_begun text is = whole is.0 (as_output is.0 is.1) is.2
 
     -- why there is no report was written
-    pub line_ends : (s : Status) → Ends (IsLineOf stop) (IsTextOfOne (IsLineOf stop)) (λ which. stop ≡ Unread which) old new s → Ends (IsOutputFor call told) (IsBegunFor call told) (ReadFails call told before now) old new s
+    pub line_ends : (s : Status) → Ends (IsLineOf stop) (IsTextOfOne (IsLineOf stop)) (λ which. stop ≡ Unread which) old new s → EndsFor call told before now old new s
     line_ends s ends =
         ends_as (IsLineOf stop) (IsOutputFor call told) (IsTextOfOne (IsLineOf stop)) (IsBegunFor call told) (λ which. stop ≡ Unread which) (ReadFails call told before now) old new as_output as_begun
         (λ which e. unread_has_fault told before now call stop which stops e) s ends
@@ -58,7 +58,7 @@ module _ (told : Option (List (List ℕ × List ℕ))) (reading : Reading) (open
   )
 
   pub told_ends : (before now : List ℕ → ℕ) (old new : Option (List ℕ)) (s : Status) → Ends (IsTold short opening commands) (IsToldSoFar short opening commands) (λ _. ⊥) old new s
-      → Ends (IsOutputFor (check reading) told) (IsBegunFor (check reading) told) (ReadFails (check reading) told before now) old new s
+      → EndsFor (check reading) told before now old new s
   told_ends before now old new s ends =
       ends_as (IsTold short opening commands) (IsOutputFor (check reading) told) (IsToldSoFar short opening commands) (IsBegunFor (check reading) told) (λ _. ⊥) (ReadFails (check reading) told before now) old new as_told as_told_so_far
       (λ which none. absurd none) s ends

@@ -12,7 +12,7 @@ use Rattle.drc_run.specs.contracts.status.Status.{the_type}
 use Rattle.drc_run.specs.declared.status.Status.{Status}
 use Rattle.drc_run.specs.declared.status.Status.TheVariants.{Clean, Rows, Usage, Refused, ReadFault, WriteFault, OutOfMemory}
 use Rattle.drc_run.specs.Output.{Output, IsOutputFor, IsBegunFor}
-use Rattle.drc_run.specs.Endings.{Whole, Front, FrontOf, Unread, UnreadFront, Ends, Promises}
+use Rattle.drc_run.specs.Endings.{Whole, Front, FrontOf, Unread, UnreadFront, Ends, EndsFor, Promises}
 
 module _ (IsIt : Output → Type 0) (IsBegun : List ℕ → Type 0) (Fault : Which → Type 0) (old new : Option (List ℕ)) where
   small : (s : Status) → tag_of the_type s ≤ 6
@@ -119,7 +119,7 @@ module _ (once : (call : Call) (files : List (List ℕ × List ℕ)) (a b : Outp
       its_status (IsOutputFor call (Some files)) IsBegun Fault old new (tag_of the_type s) (once call files) (whole_below (IsOutputFor call (Some files)) IsBegun Fault old new s w h) out is
 
   pub promised : (call : Call) (told : Option (List (List ℕ × List ℕ))) (before now : List ℕ → ℕ) (old new : Option (List ℕ)) (m n : ℕ) (s : Status)
-      → Ends (IsOutputFor call told) (IsBegunFor call told) (ReadFails call told before now) old new s → (s ≡ WriteFault → Rose m n) → Promises call told before now old new m n (tag_of the_type s)
+      → EndsFor call told before now old new s → (s ≡ WriteFault → Rose m n) → Promises call told before now old new m n (tag_of the_type s)
   promised call told before now old new m n s w f =
       let IsIt = IsOutputFor call told in
       let IsBegun = IsBegunFor call told in
@@ -138,6 +138,6 @@ module _ (once : (call : Call) (files : List (List ℕ × List ℕ)) (a b : Outp
 
   -- the same for the words
   pub promised_for : (call other : Call) (told : Option (List (List ℕ × List ℕ))) (before now : List ℕ → ℕ) (old new : Option (List ℕ)) (m n : ℕ) (s : Status) → call ≡ other
-      → Ends (IsOutputFor call told) (IsBegunFor call told) (ReadFails call told before now) old new s → (s ≡ WriteFault → Rose m n) → Promises other told before now old new m n (tag_of the_type s)
+      → EndsFor call told before now old new s → (s ≡ WriteFault → Rose m n) → Promises other told before now old new m n (tag_of the_type s)
   promised_for call other told before now old new m n s same w f =
       subst (λ (r : Call). Promises r told before now old new m n (tag_of the_type s)) same (promised call told before now old new m n s w f)

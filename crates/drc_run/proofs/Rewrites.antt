@@ -16,7 +16,7 @@ use Rattle.run_texts.proofs.Accepting.{reached, stops_at, later}
 use Rattle.drc_run.specs.declared.status.Status.{Status}
 use Rattle.drc_run.specs.declared.status.Status.TheVariants.{Clean, Rows, Usage, Refused, ReadFault, WriteFault, OutOfMemory}
 use Rattle.drc_run.specs.Output.{Output, status_after, IsBoardWritten, IsOutputFor, given, IsBegunFor, whole}
-use Rattle.drc_run.specs.Endings.{Whole, Ends, IsTextOfOne, number_of}
+use Rattle.drc_run.specs.Endings.{Whole, Ends, EndsFor, IsTextOfOne, number_of}
 use Rattle.drc_run.proofs.Written.{ends_as, its_text}
 
 -- ---- the status
@@ -106,7 +106,7 @@ module _ (told : Option (List (List ℕ × List ℕ))) (board script : List ℕ)
     as_begun front it = whole it.0 (as_output it.0 it.1) it.2
 
     pub rewritten_ends : (before now : List ℕ → ℕ) (old new : Option (List ℕ)) (s : Status) → Ends (IsBoardWritten text commands) (IsTextOfOne (IsBoardWritten text commands)) (λ _. ⊥) old new s
-        → Ends (IsOutputFor (write board script) told) (IsBegunFor (write board script) told) (ReadFails (write board script) told before now) old new s
+        → EndsFor (write board script) told before now old new s
     rewritten_ends before now old new s ends =
         ends_as (IsBoardWritten text commands) (IsOutputFor (write board script) told) (IsTextOfOne (IsBoardWritten text commands)) (IsBegunFor (write board script) told) (λ _. ⊥)
         (ReadFails (write board script) told before now) old new as_output as_begun (λ which none. absurd none) s ends

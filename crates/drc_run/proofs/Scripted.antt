@@ -11,7 +11,7 @@ use Rattle.run_texts.specs.Refusing.{AreOpened, only_board}
 use Rattle.drc_run.specs.declared.status.Status.{Status}
 use Rattle.drc_run.specs.Output.{Output, IsOpenedBy, AreStepsTold, AreStepsToldSoFar, AreTrialsTold, IsOutputFor, given, IsBegunFor, whole, begun_by}
 use Rattle.drc_run.specs.Running.{AreTrialsToldSoFar, first_of_them, all_of_them}
-use Rattle.drc_run.specs.Endings.{Ends}
+use Rattle.drc_run.specs.Endings.{Ends, EndsFor}
 use Rattle.drc_run.proofs.Written.{ends_as}
 use Rattle.drc_run.proofs.Opening.{same_classes, same_rules}
 
@@ -38,7 +38,7 @@ module _ (told : Option (List (List ℕ × List ℕ))) (board script : List ℕ)
 
     -- what the steps write was told, whole or in part
     pub steps_end : (before now : List ℕ → ℕ) (old new : Option (List ℕ)) (s : Status) → Ends (AreStepsTold opening steps) (AreStepsToldSoFar opening steps) (λ _. ⊥) old new s
-        → Ends (IsOutputFor (undo board script) told) (IsBegunFor (undo board script) told) (ReadFails (undo board script) told before now) old new s
+        → EndsFor (undo board script) told before now old new s
     steps_end before now old new s ends =
         ends_as (AreStepsTold opening steps) (IsOutputFor (undo board script) told) (AreStepsToldSoFar opening steps) (IsBegunFor (undo board script) told) (λ _. ⊥) (ReadFails (undo board script) told before now) old new as_told as_told_so_far
         (λ which none. absurd none) s ends
@@ -66,7 +66,7 @@ module _ (told : Option (List (List ℕ × List ℕ))) (board script : List ℕ)
 
     -- what the trials write was told, whole or in part
     pub trials_end : (before now : List ℕ → ℕ) (old new : Option (List ℕ)) (s : Status) → Ends (AreTrialsTold opening commands) (AreTrialsToldSoFar opening commands) (λ _. ⊥) old new s
-        → Ends (IsOutputFor (try board script workers) told) (IsBegunFor (try board script workers) told) (ReadFails (try board script workers) told before now) old new s
+        → EndsFor (try board script workers) told before now old new s
     trials_end before now old new s ends =
         ends_as (AreTrialsTold opening commands) (IsOutputFor (try board script workers) told) (AreTrialsToldSoFar opening commands) (IsBegunFor (try board script workers) told) (λ _. ⊥)
         (ReadFails (try board script workers) told before now) old new as_tried as_tried_so_far (λ which none. absurd none) s ends

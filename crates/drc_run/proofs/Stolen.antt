@@ -13,7 +13,7 @@ use Rattle.run_texts.specs.Refusing.{AreOpened, only_board}
 use Rattle.drc_run.specs.declared.status.Status.{Status}
 use Rattle.drc_run.specs.declared.status.Status.TheVariants.{WriteFault}
 use Rattle.drc_run.specs.Output.{Output, IsOpenedBy, AreRowsTold, status_of, IsOutputFor, given, IsBegunFor, whole}
-use Rattle.drc_run.specs.Endings.{Ends, IsTextOfOne, number_of}
+use Rattle.drc_run.specs.Endings.{Ends, EndsFor, IsTextOfOne, number_of}
 use Rattle.drc_run.proofs.Written.{ends_as}
 use Rattle.drc_run.proofs.Opening.{same_classes, same_rules}
 
@@ -39,7 +39,7 @@ module _ (told : Option (List (List ℕ × List ℕ))) (board : List ℕ) (worke
 
   -- the rows were told, whole or in part
   pub rows_end : (before now : List ℕ → ℕ) (old new : Option (List ℕ)) (s : Status) → Ends (AreRowsTold opening) (IsTextOfOne (AreRowsTold opening)) (λ _. ⊥) old new s
-      → Ends (IsOutputFor (steal board workers) told) (IsBegunFor (steal board workers) told) (ReadFails (steal board workers) told before now) old new s
+      → EndsFor (steal board workers) told before now old new s
   rows_end before now old new s ends =
       ends_as (AreRowsTold opening) (IsOutputFor (steal board workers) told) (IsTextOfOne (AreRowsTold opening)) (IsBegunFor (steal board workers) told) (λ _. ⊥) (ReadFails (steal board workers) told before now) old new as_told as_begun
       (λ which none. absurd none) s ends

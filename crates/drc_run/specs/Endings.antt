@@ -41,6 +41,10 @@ Ends IsIt IsBegun Fault old new ReadFault = Unread Fault old new
 Ends IsIt IsBegun Fault old new WriteFault = Front IsBegun old new ⊎ UnreadFront Fault old new
 Ends IsIt IsBegun Fault old new OutOfMemory = Front IsBegun old new
 
+-- what a call has written by its end, by the files that its shelf tells, and the shelf's counts of faults before and after
+abbrev pub EndsFor : Call → Option (List (List ℕ × List ℕ)) → (List ℕ → ℕ) → (List ℕ → ℕ) → Option (List ℕ) → Option (List ℕ) → Status → Type 0
+EndsFor call told before now old new status = Ends (IsOutputFor call told) (IsBegunFor call told) (ReadFails call told before now) old new status
+
 -- the text of an output
 abbrev pub IsTextOfOne : (Output → Type 0) → List ℕ → Type 0
 IsTextOfOne IsIt text = (out : Output) × IsIt out × (text ≡ out.text)

@@ -9,10 +9,9 @@ ghost use Rattle.drc_state.specs.Recheck.{IsHeldCount};
 ghost use Rattle.run_words.specs.Calls.{check};
 ghost use Rattle.run_words.specs.Views.{source_in, reading_in, Fits};
 ghost use Rattle.run_texts.specs.Views.{opened_in};
-ghost use Rattle.run_texts.specs.Texts.{ReadFails};
 ghost use Rattle.drc_run.specs.declared.status.Status.{Status};
-ghost use Rattle.drc_run.specs.Output.{IsOutputFor, IsBegunFor, IsTold, IsToldSoFar, is_short};
-ghost use Rattle.drc_run.specs.Endings.{Ends};
+ghost use Rattle.drc_run.specs.Output.{IsTold, IsToldSoFar, is_short};
+ghost use Rattle.drc_run.specs.Endings.{Ends, EndsFor};
 
 use crate::finish::{session_status, write_stop};
 use crate::reporting::write_report;
@@ -108,8 +107,7 @@ pub(crate) fn check<R: Threads + Sync + AllocGlobal, F: Shelf, W: Sink, G: Gate>
     out: &mut W,
 ) -> Status
     requires { Fits request }
-    ensures ends { Ends (IsOutputFor (check (reading_in request.entry)) (F.files shelf.old)) (IsBegunFor (check (reading_in request.entry)) (F.files shelf.old))
-        (ReadFails (check (reading_in request.entry)) (F.files shelf.old) (F.faults shelf.old) (F.faults shelf.new)) (W.written out.old) (W.written out.new) result }
+    ensures ends { EndsFor (check (reading_in request.entry)) (F.files shelf.old) (F.faults shelf.old) (F.faults shelf.new) (W.written out.old) (W.written out.new) result }
     ensures fault { result ≡ Status.WriteFault → Rose (W.faults out.old) (W.faults out.new) }
     ensures same { F.files shelf.new ≡ F.files shelf.old }
 {

@@ -3,11 +3,10 @@
 ghost use Rattle.std.specs.Prelude.{◌≡◌, ℕ, List, false, Option, MatchResult};
 ghost use Rattle.drc_io.specs.Causes.{Rose};
 ghost use Rattle.run_words.specs.Calls.{nothing};
-ghost use Rattle.run_texts.specs.Texts.{ReadFails};
 ghost use Rattle.drc_run.specs.declared.status.Status.{Status};
-ghost use Rattle.drc_run.specs.Output.{IsOutputFor, IsBegunFor, IsStatusOf};
+ghost use Rattle.drc_run.specs.Output.{IsStatusOf};
 ghost use Rattle.drc_run.specs.Refusing.{IsLineOf};
-ghost use Rattle.drc_run.specs.Endings.{Ends, IsTextOfOne, number_of};
+ghost use Rattle.drc_run.specs.Endings.{Ends, EndsFor, IsTextOfOne, number_of};
 
 use crate::lines::{write_refusal, write_unread};
 use crate::status::Status;
@@ -28,7 +27,7 @@ pub(crate) fn after(written: Result<(), Failed>, status: Status) -> Status
 /// Writes how the program is called.
 pub(crate) fn usage<W: Sink>(line: &'static [u8], out: &mut W) -> Status
     ensures ends { (told : Option (List (List ℕ × List ℕ))) (before now : List ℕ → ℕ)
-        → Ends (IsOutputFor (nothing line.now) told) (IsBegunFor (nothing line.now) told) (ReadFails (nothing line.now) told before now) (W.written out.old) (W.written out.new) result }
+        → EndsFor (nothing line.now) told before now (W.written out.old) (W.written out.new) result }
     ensures fault { result ≡ Status.WriteFault → Rose (W.faults out.old) (W.faults out.new) }
 {
     after(put_all(out, line), Status::Usage)

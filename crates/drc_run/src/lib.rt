@@ -5,10 +5,8 @@ ghost use Rattle.std.specs.Prelude.{◌≡◌, ℕ, List, Option};
 ghost use Rattle.drc_io.specs.Causes.{Rose};
 ghost use Rattle.run_words.specs.Calls.{check_call, call_of, words_of};
 ghost use Rattle.run_words.specs.Views.{call_in, CallFits};
-ghost use Rattle.run_texts.specs.Texts.{ReadFails};
 ghost use Rattle.drc_run.specs.declared.status.Status.{Status};
-ghost use Rattle.drc_run.specs.Output.{IsOutputFor, IsBegunFor};
-ghost use Rattle.drc_run.specs.Endings.{Ends, Promises};
+ghost use Rattle.drc_run.specs.Endings.{EndsFor, Promises};
 
 mod check;
 mod finish;
@@ -25,7 +23,7 @@ mod undoing;
 
 use crate::check::check;
 use crate::finish::usage;
-use crate::laws::{begun_is_front, one_output};
+use crate::laws::one_output;
 use crate::rewriting::rewrite;
 use crate::status::Status;
 use crate::stealing::steal;
@@ -46,8 +44,7 @@ fn carry_out<R: Threads + Sync + AllocGlobal, F: Shelf, W: Sink, G: Gate>(
     out: &mut W,
 ) -> Status
     requires { CallFits call }
-    ensures ends { Ends (IsOutputFor (call_in call.entry) (F.files shelf.old)) (IsBegunFor (call_in call.entry) (F.files shelf.old))
-        (ReadFails (call_in call.entry) (F.files shelf.old) (F.faults shelf.old) (F.faults shelf.new)) (W.written out.old) (W.written out.new) result }
+    ensures ends { EndsFor (call_in call.entry) (F.files shelf.old) (F.faults shelf.old) (F.faults shelf.new) (W.written out.old) (W.written out.new) result }
     ensures fault { result ≡ Status.WriteFault → Rose (W.faults out.old) (W.faults out.new) }
     ensures same { F.files shelf.new ≡ F.files shelf.old }
 {
@@ -83,7 +80,6 @@ pub fn run<R: Threads + Sync + AllocGlobal, F: Shelf, W: Sink, G: Gate>(
 {
     // What is written whole is the one output, and what is begun a front part of it.
     one_output();
-    begun_is_front();
     let status = match check_call(rt.alloc(), words) {
         Ok(call) => carry_out(rt, gate, call, shelf, out),
         Err(_) => Status::OutOfMemory,
@@ -112,7 +108,6 @@ pub fn run_all<R: Threads + Sync + AllocGlobal, F: Shelf, W: Sink, G: Gate>(
     ensures same { F.files shelf.new ≡ F.files shelf.old }
 {
     one_output();
-    begun_is_front();
     let status = match call_of(rt.alloc(), words) {
         Ok(call) => carry_out(rt, gate, call, shelf, out),
         Err(_) => Status::OutOfMemory,

@@ -7,11 +7,11 @@ ghost use Rattle.edit_script.specs.Fits.{Fits as CommandFits};
 ghost use Rattle.board_write.specs.Sources.{IsSource};
 ghost use Rattle.run_words.specs.Calls.{write};
 ghost use Rattle.run_texts.specs.declared.texts.Which.{Which};
-ghost use Rattle.run_texts.specs.Texts.{a_text, accepted, ReaderSays, ReadFails};
+ghost use Rattle.run_texts.specs.Texts.{a_text, accepted, ReaderSays};
 ghost use Rattle.run_texts.specs.Refusing.{StopsReading};
 ghost use Rattle.drc_run.specs.declared.status.Status.{Status};
-ghost use Rattle.drc_run.specs.Output.{IsOutputFor, IsBegunFor, IsBoardWritten, status_after};
-ghost use Rattle.drc_run.specs.Endings.{Ends, IsTextOfOne, number_of};
+ghost use Rattle.drc_run.specs.Output.{IsBoardWritten, status_after};
+ghost use Rattle.drc_run.specs.Endings.{Ends, EndsFor, IsTextOfOne, number_of};
 
 use crate::finish::write_stop;
 use crate::status::Status;
@@ -80,8 +80,7 @@ pub(crate) fn rewrite<F: Shelf, W: Sink>(
     shelf: &mut F,
     out: &mut W,
 ) -> Status
-    ensures ends { Ends (IsOutputFor (write files.entry.board.now files.entry.script.now) (F.files shelf.old)) (IsBegunFor (write files.entry.board.now files.entry.script.now) (F.files shelf.old))
-        (ReadFails (write files.entry.board.now files.entry.script.now) (F.files shelf.old) (F.faults shelf.old) (F.faults shelf.new)) (W.written out.old) (W.written out.new) result }
+    ensures ends { EndsFor (write files.entry.board.now files.entry.script.now) (F.files shelf.old) (F.faults shelf.old) (F.faults shelf.new) (W.written out.old) (W.written out.new) result }
     ensures fault { result ≡ Status.WriteFault → Rose (W.faults out.old) (W.faults out.new) }
     ensures same { F.files shelf.new ≡ F.files shelf.old }
 {

@@ -4,10 +4,9 @@ ghost use Rattle.std.specs.Prelude.{◌≡◌, ◌≤◌, []};
 ghost use Rattle.drc_io.specs.Causes.{Rose};
 ghost use Rattle.run_words.specs.Calls.{steal};
 ghost use Rattle.run_texts.specs.Views.{opened_in};
-ghost use Rattle.run_texts.specs.Texts.{ReadFails};
 ghost use Rattle.drc_run.specs.declared.status.Status.{Status};
-ghost use Rattle.drc_run.specs.Output.{IsOutputFor, IsBegunFor, AreRowsTold, status_of};
-ghost use Rattle.drc_run.specs.Endings.{Ends, IsTextOfOne, number_of};
+ghost use Rattle.drc_run.specs.Output.{AreRowsTold, status_of};
+ghost use Rattle.drc_run.specs.Endings.{Ends, EndsFor, IsTextOfOne, number_of};
 
 use crate::finish::{after, write_stop};
 use crate::status::Status;
@@ -69,8 +68,7 @@ pub(crate) fn steal<R: Threads + Sync + AllocGlobal, F: Shelf, W: Sink, G: Gate>
     out: &mut W,
 ) -> Status
     requires { (1 ≤ found.number) × (found.number ≤ 64) }
-    ensures ends { Ends (IsOutputFor (steal found.entry.board.now found.entry.number) (F.files shelf.old)) (IsBegunFor (steal found.entry.board.now found.entry.number) (F.files shelf.old))
-        (ReadFails (steal found.entry.board.now found.entry.number) (F.files shelf.old) (F.faults shelf.old) (F.faults shelf.new)) (W.written out.old) (W.written out.new) result }
+    ensures ends { EndsFor (steal found.entry.board.now found.entry.number) (F.files shelf.old) (F.faults shelf.old) (F.faults shelf.new) (W.written out.old) (W.written out.new) result }
     ensures fault { result ≡ Status.WriteFault → Rose (W.faults out.old) (W.faults out.new) }
     ensures same { F.files shelf.new ≡ F.files shelf.old }
 {

@@ -14,13 +14,12 @@ ghost use Rattle.drc_state.specs.States.{checked_in};
 ghost use Rattle.what_if.specs.Trials.{IsDifference, IsLeast};
 ghost use Rattle.run_words.specs.Calls.{try};
 ghost use Rattle.run_texts.specs.Views.{opened_in};
-ghost use Rattle.run_texts.specs.Texts.{ReadFails};
 ghost use Rattle.drc_run.specs.declared.status.Status.{Status};
 ghost use Rattle.drc_run.specs.declared.turns.Break.{Break};
 ghost use Rattle.drc_run.specs.Turns.{IsTrial, or_some, marked_lines};
-ghost use Rattle.drc_run.specs.Output.{IsOutputFor, IsBegunFor, AreTrialsTold};
+ghost use Rattle.drc_run.specs.Output.{AreTrialsTold};
 ghost use Rattle.drc_run.specs.Running.{IsTaken, IsBroken, AreTaken, AreBroken, IsTrialWritten, IsLeastWritten, AreTrialsToldSoFar};
-ghost use Rattle.drc_run.specs.Endings.{Ends, trials_status};
+ghost use Rattle.drc_run.specs.Endings.{Ends, EndsFor, trials_status};
 
 use crate::finish::{after, write_stop};
 use crate::lines::write_refused_trial;
@@ -297,8 +296,7 @@ pub(crate) fn try_each<R: Threads + Sync + AllocGlobal, F: Shelf, W: Sink, G: Ga
     out: &mut W,
 ) -> Status
     requires { (1 ≤ workers) × (workers ≤ 8) }
-    ensures ends { Ends (IsOutputFor (try files.entry.board.now files.entry.script.now workers) (F.files shelf.old)) (IsBegunFor (try files.entry.board.now files.entry.script.now workers) (F.files shelf.old))
-        (ReadFails (try files.entry.board.now files.entry.script.now workers) (F.files shelf.old) (F.faults shelf.old) (F.faults shelf.new)) (W.written out.old) (W.written out.new) result }
+    ensures ends { EndsFor (try files.entry.board.now files.entry.script.now workers) (F.files shelf.old) (F.faults shelf.old) (F.faults shelf.new) (W.written out.old) (W.written out.new) result }
     ensures fault { result ≡ Status.WriteFault → Rose (W.faults out.old) (W.faults out.new) }
     ensures same { F.files shelf.new ≡ F.files shelf.old }
 {

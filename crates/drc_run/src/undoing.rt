@@ -10,10 +10,9 @@ ghost use Rattle.undo_log.specs.Past.{begun};
 ghost use Rattle.undo_log.specs.Ways.{IsPastOf};
 ghost use Rattle.run_words.specs.Calls.{undo};
 ghost use Rattle.run_texts.specs.Views.{opened_in};
-ghost use Rattle.run_texts.specs.Texts.{ReadFails};
 ghost use Rattle.drc_run.specs.declared.status.Status.{Status};
-ghost use Rattle.drc_run.specs.Output.{IsOutputFor, IsBegunFor, AreStepsTold, AreStepsToldSoFar};
-ghost use Rattle.drc_run.specs.Endings.{Ends};
+ghost use Rattle.drc_run.specs.Output.{AreStepsTold, AreStepsToldSoFar};
+ghost use Rattle.drc_run.specs.Endings.{Ends, EndsFor};
 
 use crate::finish::{session_status, write_stop};
 use crate::reporting::write_report;
@@ -90,8 +89,7 @@ pub(crate) fn undo<R: Threads + Sync + AllocGlobal, F: Shelf, W: Sink, G: Gate>(
     shelf: &mut F,
     out: &mut W,
 ) -> Status
-    ensures ends { Ends (IsOutputFor (undo files.entry.board.now files.entry.script.now) (F.files shelf.old)) (IsBegunFor (undo files.entry.board.now files.entry.script.now) (F.files shelf.old))
-        (ReadFails (undo files.entry.board.now files.entry.script.now) (F.files shelf.old) (F.faults shelf.old) (F.faults shelf.new)) (W.written out.old) (W.written out.new) result }
+    ensures ends { EndsFor (undo files.entry.board.now files.entry.script.now) (F.files shelf.old) (F.faults shelf.old) (F.faults shelf.new) (W.written out.old) (W.written out.new) result }
     ensures fault { result ≡ Status.WriteFault → Rose (W.faults out.old) (W.faults out.new) }
     ensures same { F.files shelf.new ≡ F.files shelf.old }
 {

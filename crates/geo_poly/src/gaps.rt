@@ -15,7 +15,7 @@ ghost use Rattle.geo_poly.specs.Parts.{IsPartOf, edges_of};
 use crate::edges::{before, path_gap};
 use crate::runs::{Part, part_of, whole};
 use crate::walks::{apart_until, end};
-use geo_seg::{Bounds, Point, Poly, Seg};
+use geo_seg::{Bounds, FIRST_RUN, Point, Poly, RUN_PARTS, Seg};
 
 // A run of edges up to `high`, and the greatest distance at which all are apart from a segment.
 #[derive(Clone, Copy, Drop)]
@@ -43,7 +43,7 @@ fn kept_until(poly: &Poly, low: usize, s: Seg, near: Bounds, most: i64) -> Kept
         };
     }
     let corners = poly.corners();
-    let high = end(low, 8, corners.len());
+    let high = end(low, FIRST_RUN, corners.len());
     let gap = path_gap(before(corners, low), &corners[low..high], s, most);
     Kept { high, gap }
 }
@@ -130,22 +130,22 @@ fn parts_gap(a: &Poly, p: Part, b: &Poly, q: Part, most: i64) -> i64
     if most == 0 || q.bounds.is_clear(p.bounds, most) {
         return most;
     }
-    if p.size <= 8 && q.size <= 8 {
+    if p.size <= FIRST_RUN && q.size <= FIRST_RUN {
         return short_gap(a, p, b, q, most);
     }
     let mut best = most;
     if p.size >= q.size {
         let mut low = p.low;
         'first: while low < p.high {
-            let high = end(low, p.size / 8, p.high);
-            best = parts_gap(a, part_of(a, low, high, p.size / 8), b, q, best);
+            let high = end(low, p.size / RUN_PARTS, p.high);
+            best = parts_gap(a, part_of(a, low, high, p.size / RUN_PARTS), b, q, best);
             low = high;
         }
     } else {
         let mut low = q.low;
         'second: while low < q.high {
-            let high = end(low, q.size / 8, q.high);
-            best = parts_gap(a, p, b, part_of(b, low, high, q.size / 8), best);
+            let high = end(low, q.size / RUN_PARTS, q.high);
+            best = parts_gap(a, p, b, part_of(b, low, high, q.size / RUN_PARTS), best);
             low = high;
         }
     }

@@ -12,7 +12,7 @@ ghost use Rattle.geo_poly.specs.Steps.{IsStep};
 
 use crate::edges::before;
 use crate::walks::end;
-use geo_seg::{Bounds, Point, Poly, Seg};
+use geo_seg::{Bounds, FIRST_RUN, FOURTH_RUN, Point, Poly, SECOND_RUN, Seg, THIRD_RUN};
 
 // Whether the edge crosses the ray from the point to the right, and not at the point itself. An
 // edge counts with its end of lesser y and without the other, so that a corner on the ray counts
@@ -110,7 +110,7 @@ fn short_step(poly: &Poly, low: usize, p: Point) -> Step
     ensures { IsStep poly.now (spot_of p) low result }
 {
     let corners = poly.corners();
-    let high = end(low, 8, corners.len());
+    let high = end(low, FIRST_RUN, corners.len());
     let odd = path_odd(before(corners, low), &corners[low..high], p);
     Step { high, odd }
 }
@@ -120,13 +120,13 @@ fn next_step(poly: &Poly, low: usize, p: Point) -> Step
     requires { low < length poly.now }
     ensures { IsStep poly.now (spot_of p) low result }
 {
-    if let Some(step) = told(poly, low, 4096, p) {
+    if let Some(step) = told(poly, low, FOURTH_RUN, p) {
         step
-    } else if let Some(step) = told(poly, low, 512, p) {
+    } else if let Some(step) = told(poly, low, THIRD_RUN, p) {
         step
-    } else if let Some(step) = told(poly, low, 64, p) {
+    } else if let Some(step) = told(poly, low, SECOND_RUN, p) {
         step
-    } else if let Some(step) = told(poly, low, 8, p) {
+    } else if let Some(step) = told(poly, low, FIRST_RUN, p) {
         step
     } else {
         short_step(poly, low, p)
@@ -138,7 +138,7 @@ pub(crate) fn is_enclosed(poly: &Poly, p: Point) -> bool
     ensures { IsTrue result ↔ IsEnclosed poly.now (spot_of p) }
 {
     let corners = poly.corners();
-    if poly.run_box(0, 8).is_none() {
+    if poly.run_box(0, FIRST_RUN).is_none() {
         return path_odd(before(corners, 0), corners, p);
     }
     let all = corners.len();

@@ -11,7 +11,9 @@ ghost use Rattle.geo_poly.specs.Parts.{IsPartOf, edges_of};
 
 use crate::edges::{before, path_apart, path_within};
 use crate::walks::end;
-use geo_seg::{Bounds, Point, Poly, Seg, corner_box};
+use geo_seg::{
+    Bounds, FIRST_RUN, FOURTH_RUN, Point, Poly, RUN_PARTS, SECOND_RUN, Seg, THIRD_RUN, corner_box,
+};
 
 // The edges from `low` up to `high` of an outline, and their box. Where the outline keeps one, it is
 // that of the run of `size` edges from `low` on.
@@ -54,20 +56,25 @@ pub(crate) fn part_of(poly: &Poly, low: usize, high: usize, size: usize) -> Part
     }
 }
 
+// Two sizes more, of parts for which no box is kept.
+const FIFTH: usize = RUN_PARTS * FOURTH_RUN;
+
+const SIXTH: usize = RUN_PARTS * FIFTH;
+
 // The size from which a walk over so many edges begins to divide them.
 fn first_size(all: usize) -> usize {
-    if all <= 8 {
-        8
-    } else if all <= 64 {
-        64
-    } else if all <= 512 {
-        512
-    } else if all <= 4096 {
-        4096
-    } else if all <= 32768 {
-        32768
+    if all <= FIRST_RUN {
+        FIRST_RUN
+    } else if all <= SECOND_RUN {
+        SECOND_RUN
+    } else if all <= THIRD_RUN {
+        THIRD_RUN
+    } else if all <= FOURTH_RUN {
+        FOURTH_RUN
+    } else if all <= FIFTH {
+        FIFTH
     } else {
-        262_144
+        SIXTH
     }
 }
 
@@ -146,14 +153,14 @@ fn parts_apart(a: &Poly, p: Part, b: &Poly, q: Part, d: i64) -> bool
     if q.bounds.is_clear(p.bounds, d) {
         return true;
     }
-    if p.size <= 8 && q.size <= 8 {
+    if p.size <= FIRST_RUN && q.size <= FIRST_RUN {
         return short_apart(a, p, b, q, d);
     }
     if p.size >= q.size {
         let mut low = p.low;
         'first: while low < p.high {
-            let high = end(low, p.size / 8, p.high);
-            if !parts_apart(a, part_of(a, low, high, p.size / 8), b, q, d) {
+            let high = end(low, p.size / RUN_PARTS, p.high);
+            if !parts_apart(a, part_of(a, low, high, p.size / RUN_PARTS), b, q, d) {
                 return false;
             }
             low = high;
@@ -161,8 +168,8 @@ fn parts_apart(a: &Poly, p: Part, b: &Poly, q: Part, d: i64) -> bool
     } else {
         let mut low = q.low;
         'second: while low < q.high {
-            let high = end(low, q.size / 8, q.high);
-            if !parts_apart(a, p, b, part_of(b, low, high, q.size / 8), d) {
+            let high = end(low, q.size / RUN_PARTS, q.high);
+            if !parts_apart(a, p, b, part_of(b, low, high, q.size / RUN_PARTS), d) {
                 return false;
             }
             low = high;
@@ -240,14 +247,14 @@ fn parts_within(a: &Poly, p: Part, b: &Poly, q: Part, d: i64) -> bool
     if q.bounds.is_clear(p.bounds, d + 1) {
         return false;
     }
-    if p.size <= 8 && q.size <= 8 {
+    if p.size <= FIRST_RUN && q.size <= FIRST_RUN {
         return short_within(a, p, b, q, d);
     }
     if p.size >= q.size {
         let mut low = p.low;
         'first: while low < p.high {
-            let high = end(low, p.size / 8, p.high);
-            if parts_within(a, part_of(a, low, high, p.size / 8), b, q, d) {
+            let high = end(low, p.size / RUN_PARTS, p.high);
+            if parts_within(a, part_of(a, low, high, p.size / RUN_PARTS), b, q, d) {
                 return true;
             }
             low = high;
@@ -255,8 +262,8 @@ fn parts_within(a: &Poly, p: Part, b: &Poly, q: Part, d: i64) -> bool
     } else {
         let mut low = q.low;
         'second: while low < q.high {
-            let high = end(low, q.size / 8, q.high);
-            if parts_within(a, p, b, part_of(b, low, high, q.size / 8), d) {
+            let high = end(low, q.size / RUN_PARTS, q.high);
+            if parts_within(a, p, b, part_of(b, low, high, q.size / RUN_PARTS), d) {
                 return true;
             }
             low = high;

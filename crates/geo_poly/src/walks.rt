@@ -11,7 +11,7 @@ ghost use Rattle.geo_poly.specs.Outlines.{IsApart, IsReached};
 ghost use Rattle.geo_poly.specs.Runs.{between, LiesClear};
 
 use crate::edges::{before, path_apart, path_within};
-use geo_seg::{Bounds, Poly, Seg};
+use geo_seg::{Bounds, FIRST_RUN, FOURTH_RUN, Poly, SECOND_RUN, Seg, THIRD_RUN};
 
 // Where the run of `size` edges from `low` on ends, of so many in all.
 pub(crate) fn end(low: usize, size: usize, all: usize) -> usize
@@ -47,14 +47,14 @@ fn clear_end(poly: &Poly, low: usize, near: Bounds, d: i64) -> usize
     ensures clear { EachEdge (LiesClear near d) (between low result (outline poly.now)) }
 {
     let all = poly.corners().len();
-    if is_run_clear(poly, low, 4096, near, d) {
-        end(low, 4096, all)
-    } else if is_run_clear(poly, low, 512, near, d) {
-        end(low, 512, all)
-    } else if is_run_clear(poly, low, 64, near, d) {
-        end(low, 64, all)
-    } else if is_run_clear(poly, low, 8, near, d) {
-        end(low, 8, all)
+    if is_run_clear(poly, low, FOURTH_RUN, near, d) {
+        end(low, FOURTH_RUN, all)
+    } else if is_run_clear(poly, low, THIRD_RUN, near, d) {
+        end(low, THIRD_RUN, all)
+    } else if is_run_clear(poly, low, SECOND_RUN, near, d) {
+        end(low, SECOND_RUN, all)
+    } else if is_run_clear(poly, low, FIRST_RUN, near, d) {
+        end(low, FIRST_RUN, all)
     } else {
         low
     }
@@ -77,7 +77,7 @@ pub(crate) fn apart_until(poly: &Poly, low: usize, s: Seg, near: Bounds, d: i64)
         return clear;
     }
     let corners = poly.corners();
-    let high = end(low, 8, corners.len());
+    let high = end(low, FIRST_RUN, corners.len());
     if path_apart(before(corners, low), &corners[low..high], s, d) {
         high
     } else {
@@ -91,7 +91,7 @@ pub(crate) fn outline_apart(poly: &Poly, s: Seg, d: i64) -> bool
     ensures { IsTrue result ↔ EachEdge (λ e. IsApart e s d) (outline poly.now) }
 {
     let corners = poly.corners();
-    if poly.run_box(0, 8).is_none() {
+    if poly.run_box(0, FIRST_RUN).is_none() {
         return path_apart(before(corners, 0), corners, s, d);
     }
     let near = s.bounds();
@@ -124,7 +124,7 @@ fn beyond_until(poly: &Poly, low: usize, s: Seg, near: Bounds, d: i64) -> usize
         return clear;
     }
     let corners = poly.corners();
-    let high = end(low, 8, corners.len());
+    let high = end(low, FIRST_RUN, corners.len());
     if path_within(before(corners, low), &corners[low..high], s, d) {
         low
     } else {
@@ -138,7 +138,7 @@ pub(crate) fn outline_within(poly: &Poly, s: Seg, d: i64) -> bool
     ensures { IsTrue result ↔ SomeEdge (λ e. IsReached e s d) (outline poly.now) }
 {
     let corners = poly.corners();
-    if poly.run_box(0, 8).is_none() {
+    if poly.run_box(0, FIRST_RUN).is_none() {
         return path_within(before(corners, 0), corners, s, d);
     }
     let near = s.bounds();

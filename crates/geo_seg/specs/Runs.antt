@@ -1,5 +1,6 @@
 -- The boxes of runs of edges that a large polygon keeps.
 use Rattle.std.specs.Prelude.{ℕ, pos, List, [], ◌∷◌, take, drop}
+use Rattle.geo_seg.specs.declared.runs.TheConstants.{FIRST_RUN, SECOND_RUN, THIRD_RUN, FOURTH_RUN}
 use Rattle.geo_seg.specs.declared.points.Seg.{Seg}
 use Rattle.geo_seg.specs.declared.boxes.Bounds.{Bounds}
 use Rattle.geo_seg.specs.declared.frames.Frame.{Frame}
@@ -28,7 +29,7 @@ AreRuns size (f ∷ fs) es = IsRunBox (take size es) (sides_of f) × AreRuns siz
 
 pub record HasRuns (index : Indexed) : Type 0 where
   pub whole : IsCornerBox index.corners.items (sides_of index.whole)
-  pub first : AreRuns 8 index.first.items (outline index.corners.items)
-  pub second : AreRuns 64 index.second.items (outline index.corners.items)
-  pub third : AreRuns 512 index.third.items (outline index.corners.items)
-  pub fourth : AreRuns 4096 index.fourth.items (outline index.corners.items)
+  pub first : AreRuns FIRST_RUN index.first.items (outline index.corners.items)
+  pub second : AreRuns SECOND_RUN index.second.items (outline index.corners.items)
+  pub third : AreRuns THIRD_RUN index.third.items (outline index.corners.items)
+  pub fourth : AreRuns FOURTH_RUN index.fourth.items (outline index.corners.items)

@@ -21,6 +21,6 @@ pub use gaps::seg_gap;
 pub use near::{point_apart, point_within, seg_apart, seg_meet, seg_within};
 pub use points::{Point, Seg};
 pub use polygon::Poly;
-pub use runs::corner_box;
+pub use runs::{FIRST_RUN, FOURTH_RUN, RUN_PARTS, SECOND_RUN, THIRD_RUN, corner_box};
 pub use shapes::{Core, Shape};
 pub use shifts::Shift;

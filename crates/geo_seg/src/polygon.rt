@@ -110,7 +110,7 @@ impl Poly {
     }
 
     /// A box that holds the `size` edges from edge `low` on, where one is kept: the edge that leads to
-    /// the first corner is edge 0, and `size` is 8, 64, 512 or 4096.
+    /// the first corner is edge 0, and `size` is `FIRST_RUN`, `SECOND_RUN`, `THIRD_RUN` or `FOURTH_RUN`.
     pub fn run_box(&self, low: usize, size: usize) -> Option<Bounds>
         ensures { IfSome result (λ b. IsRunBox (take size (drop low (outline self.now))) b) }
     {

@@ -16,8 +16,19 @@ use crate::points::Point;
 use crate::shifts::{Shift, shift_outline, shift_row};
 use std::alloc::{AllocError, Global};
 
-// Frame `whole` holds all corners. Of each row frame k holds the edges from k times the row's size on, so many as that size is: 8, 64,
-// 512 or 4096.
+/// A run whose box is kept has so many parts: the shortest so many edges, and each longer one so many runs of the size before.
+pub const RUN_PARTS: usize = 8;
+
+/// How many edges the shortest runs have, and so on up to the longest.
+pub const FIRST_RUN: usize = RUN_PARTS;
+
+pub const SECOND_RUN: usize = RUN_PARTS * FIRST_RUN;
+
+pub const THIRD_RUN: usize = RUN_PARTS * SECOND_RUN;
+
+pub const FOURTH_RUN: usize = RUN_PARTS * THIRD_RUN;
+
+// Frame `whole` holds all corners. Of each row frame k holds the edges from k times the row's size on, so many as that size is.
 #[derive(Drop)]
 pub struct Indexed {
     pub corners: Vec<Point>,
@@ -92,10 +103,10 @@ impl Indexed {
         ensures runs { IfOk result HasRuns }
     {
         let whole = Frame::of(box_of(&corners));
-        let first = row(alloc, &corners, 8)?;
-        let second = row(alloc, &corners, 64)?;
-        let third = row(alloc, &corners, 512)?;
-        let fourth = row(alloc, &corners, 4096)?;
+        let first = row(alloc, &corners, FIRST_RUN)?;
+        let second = row(alloc, &corners, SECOND_RUN)?;
+        let third = row(alloc, &corners, THIRD_RUN)?;
+        let fourth = row(alloc, &corners, FOURTH_RUN)?;
         Ok(Indexed {
             corners,
             whole,
@@ -137,10 +148,10 @@ impl Indexed {
         ensures { IfSome result (λ b. IsRunBox (take size (drop low (outline self.now.corners.items))) b) }
     {
         match size {
-            8 => at(&self.first, low, 8),
-            64 => at(&self.second, low, 64),
-            512 => at(&self.third, low, 512),
-            4096 => at(&self.fourth, low, 4096),
+            FIRST_RUN => at(&self.first, low, FIRST_RUN),
+            SECOND_RUN => at(&self.second, low, SECOND_RUN),
+            THIRD_RUN => at(&self.third, low, THIRD_RUN),
+            FOURTH_RUN => at(&self.fourth, low, FOURTH_RUN),
             _ => None,
         }
     }

@@ -35,7 +35,7 @@ one_with board tree sort a b h k =
     ∙ ap (λ (items : Result (List Item) BoardError). items >>= λ found. Ok (with_items board found)) (one_items board board.next_unit tree sort h.0 k.0 h.1 k.1)
     ∙ sym k.2
 
-one_part : (reading : Reading) (tree : Tree) (sort : Option Sort) (a b : Result Reading BoardError) → SaysPartBy reading tree sort a → SaysPartBy reading tree sort b → a ≡ b
+pub one_part : (reading : Reading) (tree : Tree) (sort : Option Sort) (a b : Result Reading BoardError) → SaysPartBy reading tree sort a → SaysPartBy reading tree sort b → a ≡ b
 one_part reading tree None a b h k = h ∙ sym k
 one_part reading tree (Some sort) a b h k = h.2 ∙ ap (λ (board : Result PlainBoard BoardError). with_board reading board) (one_with reading.board tree sort h.0 k.0 h.1 k.1) ∙ sym k.2
 

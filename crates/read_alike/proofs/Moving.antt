@@ -6,6 +6,7 @@ use Rattle.exact_dec.specs.Computed.{mm_cut_answer}
 use Rattle.exact_dec.specs.Reading.{is_far}
 use Rattle.exact_dec.specs.Written.{mm_text}
 use Rattle.exact_dec.proofs.ReadBack.{read_back}
+use Rattle.sexpr_read.specs.declared.place.Span.{Span}
 use Rattle.sexpr_read.specs.Tree.{Forest, none, atom, list, leaf, value}
 use Rattle.tree_text.specs.Pieces.{SameTrees}
 use Rattle.tree_text.specs.Anew.{IsRespelled, AreAtoms}
@@ -55,14 +56,10 @@ no_numbers b n h = let k = (if_some b None n h).1 in cc
 
 -- ---- places that are moved are alike
 
-place_alike : (d : Shift) (i : Forest) (n : ℤ × ℤ) → place_moved d i ≡ Some n → IsPlaceMoved d i (put_numbers n (moved d i))
-place_alike d none n h = absurd cc
-place_alike d (list s inside others) n h = absurd cc
-place_alike d (atom s q c none) n h = absurd (no_numbers (is_place_head (value (leaf s q c))) n h)
-place_alike d (atom s q c (list t inside others)) n h = absurd (no_numbers (is_place_head (value (leaf s q c))) n h)
-place_alike d (atom s q c (atom t r x none)) n h = absurd (no_numbers (is_place_head (value (leaf s q c))) n h)
-place_alike d (atom s q c (atom t r x (list u inside others))) n h = absurd (no_numbers (is_place_head (value (leaf s q c))) n h)
-place_alike d (atom s q c (atom t r x (atom u p y others))) n h =
+-- a place with its numbers written anew
+numbers_put : (d : Shift) (s t u : Span) (q r p : Bool) (c x y : List ℕ) (others rest : Forest) (n : ℤ × ℤ) → place_moved d (atom s q c (atom t r x (atom u p y others))) ≡ Some n
+    → IsPlaceMoved d (atom s q c (atom t r x (atom u p y others))) (atom s q c (atom t r (mm_text n.0) (atom u p (mm_text n.1) rest)))
+numbers_put d s t u q r p c x y others rest n h =
     let k = if_some (is_place_head (value (leaf s q c))) (moved_numbers d x y) n h in
     let e = both_some (moved_by d.dx (mm_cut_answer x)) (moved_by d.dy (mm_cut_answer y)) n k.1 in
     let a = moved_number d.dx x n.0 (mm_cut_answer x) refl e.0 in
@@ -78,7 +75,7 @@ place_alike d (atom s q c (atom t r x (atom u p y others))) n h =
       new_x = mm_text n.0;
       new_y = mm_text n.1;
       rest = others;
-      other_rest = moved d others;
+      other_rest = rest;
       was = refl;
       is = refl;
       is_place = k.0;
@@ -90,6 +87,15 @@ place_alike d (atom s q c (atom t r x (atom u p y others))) n h =
       moved_y = read_back n.1 b.near ∙ ap (λ (z : ℤ). Ok z) b.is;
     }
 
+place_alike : (d : Shift) (i : Forest) (n : ℤ × ℤ) → place_moved d i ≡ Some n → IsPlaceMoved d i (put_numbers n (moved d i))
+place_alike d none n h = absurd cc
+place_alike d (list s inside others) n h = absurd cc
+place_alike d (atom s q c none) n h = absurd (no_numbers (is_place_head (value (leaf s q c))) n h)
+place_alike d (atom s q c (list t inside others)) n h = absurd (no_numbers (is_place_head (value (leaf s q c))) n h)
+place_alike d (atom s q c (atom t r x none)) n h = absurd (no_numbers (is_place_head (value (leaf s q c))) n h)
+place_alike d (atom s q c (atom t r x (list u inside others))) n h = absurd (no_numbers (is_place_head (value (leaf s q c))) n h)
+place_alike d (atom s q c (atom t r x (atom u p y others))) n h = numbers_put d s t u q r p c x y others (moved d others) n h
+
 -- only the numbers are written anew
 pub place_put : (d : Shift) (i : Forest) (n : ℤ × ℤ) → place_moved d i ≡ Some n → IsPlaceMoved d i (put_numbers n i)
 place_put d none n h = absurd cc
@@ -98,33 +104,7 @@ place_put d (atom s q c none) n h = absurd (no_numbers (is_place_head (value (le
 place_put d (atom s q c (list t inside others)) n h = absurd (no_numbers (is_place_head (value (leaf s q c))) n h)
 place_put d (atom s q c (atom t r x none)) n h = absurd (no_numbers (is_place_head (value (leaf s q c))) n h)
 place_put d (atom s q c (atom t r x (list u inside others))) n h = absurd (no_numbers (is_place_head (value (leaf s q c))) n h)
-place_put d (atom s q c (atom t r x (atom u p y others))) n h =
-    let k = if_some (is_place_head (value (leaf s q c))) (moved_numbers d x y) n h in
-    let e = both_some (moved_by d.dx (mm_cut_answer x)) (moved_by d.dy (mm_cut_answer y)) n k.1 in
-    let a = moved_number d.dx x n.0 (mm_cut_answer x) refl e.0 in
-    let b = moved_number d.dy y n.1 (mm_cut_answer y) refl e.1 in
-    record {
-      spans = (s, t, u);
-      other_spans = (s, t, u);
-      quotes = (q, r, p);
-      other_quotes = (r, p);
-      head = c;
-      x = x;
-      y = y;
-      new_x = mm_text n.0;
-      new_y = mm_text n.1;
-      rest = others;
-      other_rest = others;
-      was = refl;
-      is = refl;
-      is_place = k.0;
-      at_x = a.at;
-      at_y = b.at;
-      read_x = a.read;
-      read_y = b.read;
-      moved_x = read_back n.0 a.near ∙ ap (λ (z : ℤ). Ok z) a.is;
-      moved_y = read_back n.1 b.near ∙ ap (λ (z : ℤ). Ok z) b.is;
-    }
+place_put d (atom s q c (atom t r x (atom u p y others))) n h = numbers_put d s t u q r p c x y others others n h
 
 inside_alike : (d : Shift) (i : Forest) (o : Option (ℤ × ℤ)) → place_moved d i ≡ o → Alike (Some d) i (moved d i) → AlikeInside (Some d) i (put_if o (moved d i)) (Alike (Some d) i (put_if o (moved d i)))
 inside_alike d i None e h = inl (h, e)

@@ -190,16 +190,16 @@ pub fn write_whole<W: Sink>(
 struct Counts {
     rows: u64,
     notes: u64,
-    open: u64,
+    nets: u64,
 }
 
 /// Writes how many rows, notes and open nets there are.
 fn write_counts<W: Sink>(counts: Counts, out: &mut W) -> Result<(), Failed>
-    ensures { Writes (W.written out.old) (W.written out.new) (W.faults out.old) (W.faults out.new) (counts_text counts.rows counts.notes counts.open) result }
+    ensures { Writes (W.written out.old) (W.written out.new) (W.faults out.old) (W.faults out.new) (counts_text counts.rows counts.notes counts.nets) result }
 {
     write_line(b"rows ", counts.rows, b"", out)?;
     write_line(b"not checked ", counts.notes, b"", out)?;
-    write_line(b"open nets ", counts.open, b"", out)
+    write_line(b"open nets ", counts.nets, b"", out)
 }
 
 /// Writes the short report of this number: how many rows, notes and open nets there are, and the tiles. `Failed` is as above.
@@ -218,7 +218,7 @@ pub fn write_short<W: Sink>(
     let counts = Counts {
         rows: rows.len() as u64,
         notes: count_notes(board, rules),
-        open: count_open(parts),
+        nets: count_open(parts),
     };
     write_line(b"report ", number, b"", out)?;
     write_counts(counts, out)?;

@@ -11,7 +11,7 @@ use Rattle.steal_pool.specs.declared.rule.Fair.{Fair}
 use Rattle.tile_pool.specs.Answers.{AreValues, AreBatches}
 use Rattle.tile_pool.proofs.Batches.{none_of}
 use Rattle.steal_pool.specs.Seats.{IsOwner, AreOwners, AreLines, AreUnused, put_of, taken_of, taken_with, pushed_by, taken_by}
-use Rattle.steal_pool.specs.Members.{IsReady, HasRun}
+use Rattle.steal_pool.specs.Members.{IsReady, HaveRun}
 use Rattle.steal_pool.proofs.Related.{entry_at}
 
 -- a sum over two lists that agree place by place
@@ -44,7 +44,7 @@ module _ {X : Type 0} (G : ℕ → X → Type 0) (tiles parts : ℕ) (others : L
   is_at : (k : ℕ) (s : Stealer ℕ Global Hand Fair) (d : Member X) → k < length crew → IsOwner tiles parts (get_or others k s) (get_or crew k d).own
   is_at k s d l = subst (λ (o : Worker ℕ Global Hand Fair). IsOwner tiles parts (get_or others k s) o) (owner_at k d l) (of.1 k s d.own (omega (arith, l, long)))
 
-  pub ready_crew : 0 < parts → ((h : ℕ → ℕ) → taken_by h owners ≡ 0) → All (λ (m : Member X). AreUnused tiles others m.lines.items) crew → All (λ (m : Member X). (m.share.hand.items ≡ []) × (m.share.batch.items ≡ [])) crew → All (λ (m : Member X). IsReady G tiles others m) crew
+  pub ready_crew : 0 < parts → ((h : ℕ → ℕ) → taken_by h owners ≡ 0) → All (λ (m : Member X). AreUnused tiles others m.lines.items) crew → All (λ (m : Member X). (m.share.hand.items ≡ []) × (m.share.batch.items ≡ [])) crew → All (IsReady G tiles others) crew
   ready_crew some none unused fresh k d l =
       let s = (entry_at others k (omega (arith, l, long, of.0))).0 in
       let is = is_at k s d l in
@@ -62,7 +62,7 @@ module _ {X : Type 0} (G : ℕ → X → Type 0) (tiles parts : ℕ) (others : L
             (omega (arith, part, at, z), u.1 h),
       )
 
-  module _ (later : List (Member X)) (as_long : length later ≡ length crew) (ran : (k : ℕ) (d : Member X) → k < length crew → HasRun G tiles others (get_or crew k d) (get_or later k d)) where
+  module _ (later : List (Member X)) (as_long : length later ≡ length crew) (ran : HaveRun G tiles others crew later) where
     pub back_owners : AreOwners tiles parts others (map (λ (m : Member X). m.own) later)
     back_owners = (length-map later (λ (m : Member X). m.own) ∙ as_long ∙ long ∙ of.0, each)
       where

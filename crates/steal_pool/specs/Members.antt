@@ -1,5 +1,5 @@
 -- A worker before and after its run.
-use Rattle.std.specs.Prelude.{◌≡◌, ℕ, ◌+◌, ◌<◌, ◌≤◌, List, [], sum_by}
+use Rattle.std.specs.Prelude.{◌≡◌, ℕ, ◌+◌, ◌<◌, ◌≤◌, List, [], length, sum_by, slice_index_or}
 use Rattle.crossbeam_deque.specs.Handles.{worker_view, worker_flavor, worker_deque}
 use Rattle.crossbeam_deque.specs.declared.handles.Stealer.{Stealer}
 use Rattle.std.specs.declared.alloc.Global.{Global}
@@ -25,3 +25,7 @@ module _ {X P : Type 0} (G : ℕ → X → Type 0) (tiles : ℕ) where
       × AreLines tiles others m.lines.items
       × ((h : ℕ → ℕ) → sum_by h m.share.hand.items ≡ taken_of h m.own + taken_with h m.lines.items)
       × IsShare G m.share
+
+  -- each of the crew has run
+  abbrev pub HaveRun : List (Stealer ℕ Global Hand P) → List (Member X) → List (Member X) → Type 0
+  HaveRun others crew later = (k : ℕ) (d : Member X) → k < length crew → HasRun others (slice_index_or crew k d) (slice_index_or later k d)

@@ -3,6 +3,7 @@
 ghost use Rattle.std.specs.Prelude.{◌≡◌, ℕ, ◌+◌, ◌-◌, ◌<◌, ◌≤◌, [], false, length, map, sum_by, All, IfOk};
 ghost use Rattle.std.specs.Vec.{vec_len, vec_capacity};
 ghost use Rattle.tile_pool.specs.Answers.{AreBatches};
+ghost use Rattle.steal_pool.specs.Members.{IsReady, HaveRun};
 ghost use Rattle.steal_pool.specs.Seats.{AreOwners, AreLines, AreUnused, pushed_by, taken_by, taken_with};
 
 use crate::job::Job;
@@ -94,6 +95,23 @@ fn disband<X: Drop>(alloc: Global, crew: Vec<Member<X>>) -> Result<Left<X>, Allo
     })
 }
 
+// Workers run side by side: a crew that is handed over and comes back.
+fn run_members<R: Threads + Sync, T: TileWork, G: Gate>(
+    rt: &R,
+    job: &Job<'_, T, G>,
+    mut crew: Vec<Member<T::Out>>,
+) -> Vec<Member<T::Out>>
+    requires ready { T.ready job.now.work.now }
+    requires count { job.now.tiles ≤ T.count job.now.work.now }
+    requires some { 0 < length crew.items }
+    requires members { All (IsReady (T.gives job.now.work.now) job.now.tiles job.now.others.now) crew.items }
+    ensures long { length result.items ≡ length crew.items }
+    ensures run { HaveRun (T.gives job.now.work.now) job.now.tiles job.now.others.now crew.items result.items }
+{
+    run_all(rt, job, crew.as_mut_slice());
+    crew
+}
+
 // The workers run side by side, and leave what they have.
 pub(crate) fn run_crew<R: Threads + Sync, T: TileWork, G: Gate>(
     rt: &R,
@@ -112,8 +130,8 @@ pub(crate) fn run_crew<R: Threads + Sync, T: TileWork, G: Gate>(
     ensures values { IfOk result (λ left. left.failed ≡ false → AreBatches (T.gives job.now.work.now) (map (λ v. v.items) left.hands.items) left.batches.items) }
     ensures counts { IfOk result (λ left. (length left.hands.items ≡ length owners.items) × (length left.batches.items ≡ length owners.items)) }
 {
-    let mut crew = crew_of(job.alloc, job.others, owners, all, job.tiles)?;
-    run_all(rt, job, crew.as_mut_slice());
+    let crew = crew_of(job.alloc, job.others, owners, all, job.tiles)?;
+    let crew = run_members(rt, job, crew);
     let left = disband(job.alloc, crew)?;
     Ok(left)
 }

@@ -1,10 +1,10 @@
 //! A worker takes from its own deque until it is empty, and then steals.
 
-ghost use Rattle.std.specs.Prelude.{◌≡◌, ℕ, ◌+◌, ◌<◌, ◌≤◌, [], length, sum_by, All, IfSome, IfNone, slice_index_or};
+ghost use Rattle.std.specs.Prelude.{◌≡◌, ℕ, ◌+◌, ◌<◌, ◌≤◌, [], length, sum_by, All, IfSome, IfNone};
 ghost use Rattle.crossbeam_deque.specs.Handles.{worker_view, worker_flavor, worker_deque};
 ghost use Rattle.steal_pool.specs.Seats.{AreLines, taken_with, taken_of};
 ghost use Rattle.steal_pool.specs.Shares.{IsShare};
-ghost use Rattle.steal_pool.specs.Members.{IsReady, HasRun};
+ghost use Rattle.steal_pool.specs.Members.{IsReady, HasRun, HaveRun};
 
 use crate::job::Job;
 use crate::rule::{Line, Other, Own, Takes};
@@ -135,7 +135,7 @@ pub(crate) fn run_all<R: Threads + Sync, T: TileWork, G: Gate>(
     requires count { job.now.tiles ≤ T.count job.now.work.now }
     requires some { 0 < length members.old }
     requires members { All (λ m. IsReady (T.gives job.now.work.now) job.now.tiles job.now.others.now m) members.old }
-    ensures { (k : ℕ) (d : _) → k < length members.old → HasRun (T.gives job.now.work.now) job.now.tiles job.now.others.now (slice_index_or members.old k d) (slice_index_or members.new k d) }
+    ensures { HaveRun (T.gives job.now.work.now) job.now.tiles job.now.others.now members.old members.new }
 {
     let threads = members.len();
     thread::for_each_mut(

@@ -1,5 +1,5 @@
 -- What is in the slots after one more value is put there.
-use Rattle.std.proofs.Common.{◌≡◌, ℕ, zero, suc, ◌+◌, ◌<◌, ◌≤◌, Bool, true, List, [], ◌∷◌, ◌++◌, length, drop, set, get_or, if◌then◌else◌, nat_lt, nat_eq, replicate, Some, None, Option, sum_by, sym, ap, ◌∙◌, subst, refl, arith, eq-eqb, ne_eqb, add-one, lt-ltb, length-append, Vec, Global}
+use Rattle.std.proofs.Common.{◌≡◌, All, ℕ, zero, suc, ◌+◌, ◌<◌, ◌≤◌, Bool, true, List, [], ◌∷◌, ◌++◌, length, drop, set, get_or, if◌then◌else◌, nat_lt, nat_eq, replicate, Some, None, Option, sum_by, sym, ap, ◌∙◌, subst, refl, arith, eq-eqb, ne_eqb, add-one, lt-ltb, length-append, Vec, Global}
 use native.Mathlib.Decide.{ℕ_discrete, dec_lt}
 use Rattle.std.proofs.lemmas.Bool.Decides.{nat_tests}
 use Rattle.std.proofs.lemmas.List.{get_or-set_other, get_or-set_same}
@@ -110,6 +110,32 @@ one_batch_less {X} G hands batches less b h short cut = (n, omega (arith, n, sho
 
     last : AreValues G (get_or hands (length less) []) b.items
     last = subst (λ (v : Vec X Global). AreValues G (get_or hands (length less) []) v.items) (ap (λ xs. get_or xs (length less) b) cut ∙ get_or-append_seam less b [] b) (h (length less) [] b (omega (arith, n)))
+
+-- the last batch taken off, with the hand that it is of
+module _ {X : Type 0} (G : ℕ → X → Type 0) (hands : List (List ℕ)) (batches less : List (Vec X Global)) (b : Vec X Global) (of : AreBatches G hands batches) (short : length batches ≤ length hands) (cut : batches ≡ less ++ b ∷ []) (hand : List ℕ)
+    (is : hand ≡ get_or hands (length less) []) where
+  -- where the hands hold each number below the count once, its numbers have slots
+  pub batch_fits : (tiles : ℕ) → ((x : ℕ) → sum_by (times x) hands ≡ once_below x tiles) → (slots : List (Option X)) → length slots ≡ tiles → AreValues G hand b.items × All (λ k. k < length slots) hand
+  batch_fits tiles once slots long =
+      let l = one_batch_less G hands batches less b of short cut in (
+        subst (λ (h : List ℕ). AreValues G h b.items) (sym is) l.3,
+        λ k d q.
+            let x : ℕ = get_or hand k d in
+            let at = counted_at hand k d q in
+            let most = counted_in x hands (length less) l.1 in
+            let same : times x hand ≡ times x (get_or hands (length less) []) = ap (times x) is in
+            let low : x < tiles = below_tiles x tiles (omega (arith, at, most, same, once x)) in
+            omega (arith, low, long),
+      )
+
+  -- the slots after the batch is placed
+  pub batch_placed : (slots later old : List (Option X)) → length later ≡ length slots → ((k : ℕ) (d : Option X) → k < length slots → Slot G k (nat_lt 0 (times k hand)) (get_or later k d) (get_or slots k d))
+      → PlacedAll G slots old (drop (length batches) hands) → (length less ≤ length hands) × AreBatches G hands less × PlacedAll G later old (drop (length less) hands)
+  batch_placed slots later old long now before =
+      let l = one_batch_less G hands batches less b of short cut in
+      let step = place_all_step G hands slots later old (length less) l.1 long (λ k d q. subst (λ (h : List ℕ). Slot G k (nat_lt 0 (times k h)) (get_or later k d) (get_or slots k d)) is (now k d q))
+      (subst (λ j. PlacedAll G slots old (drop j hands)) l.0 before) in
+      (omega (arith, l.1), l.2, step)
 
 pub filled : {X : Type 0} (slots : List (Option X)) (n : ℕ) → slots ≡ replicate n None → length slots ≡ n
 filled {X} slots n e = ap length e ∙ length-replicate {A = Option X} n None

@@ -1,9 +1,10 @@
 //! Workers, and what they leave.
 
-ghost use Rattle.std.specs.Prelude.{◌≡◌, ℕ, ◌<◌, ◌≤◌, [], ◌∷◌, ◌++◌, true, false, length, map, All, IfOk, slice_index_or, replicate, None};
+ghost use Rattle.std.specs.Prelude.{◌≡◌, ◌<◌, ◌≤◌, [], ◌∷◌, ◌++◌, true, false, length, map, All, IfOk, replicate, None};
 ghost use Rattle.std.specs.Vec.{vec_len, vec_capacity};
 ghost use Rattle.claim_board.specs.Views.{IsSeatOf, AreSeatsOf, deal_tiles, deal_seats, seat_number, seat_hand, seat_done, dealt_tiles, dealt_seats};
 ghost use Rattle.tile_pool.specs.Answers.{AreAnswers, AreValues, AreBatches};
+ghost use Rattle.tile_pool.specs.Crews.{IsFresh, IsDone, HasRun};
 
 use crate::gate::Gate;
 use crate::gather::{place_all, slots_of, take_all};
@@ -128,16 +129,16 @@ fn run_crew<R: Threads + Sync, T: TileWork, G: Gate>(
     requires ready { T.ready work.now }
     requires threads { 0 < threads }
     requires count { deal_tiles deal.now ≤ T.count work.now }
-    requires fresh { All (λ w. IsSeatOf deal.now w.seat × (seat_done w.seat ≡ false) × (seat_hand w.seat ≡ []) × (w.batch.items ≡ []) × (w.failed ≡ false)) crew.old }
-    ensures { (k : ℕ) (d : _) → k < length crew.old → IsSeatOf deal.now (slice_index_or crew.new k d).seat × (seat_number (slice_index_or crew.new k d).seat ≡ seat_number (slice_index_or crew.old k d).seat) × (seat_done (slice_index_or crew.new k d).seat ≡ true) × ((slice_index_or crew.new k d).failed ≡ false → AreValues (T.gives work.now) (seat_hand (slice_index_or crew.new k d).seat) (slice_index_or crew.new k d).batch.items) }
+    requires fresh { All (IsFresh deal.now) crew.old }
+    ensures { HasRun deal.now (T.gives work.now) crew.old crew.new }
 {
     thread::for_each_mut(
         rt,
         crew,
         threads,
         &|_: usize, worker: &mut Worker<T::Out>|
-            requires { T.ready work.now × (deal_tiles deal.now ≤ T.count work.now) × IsSeatOf deal.now worker.now.seat × (seat_done worker.now.seat ≡ false) × (seat_hand worker.now.seat ≡ []) × (worker.now.batch.items ≡ []) × (worker.now.failed ≡ false) }
-            ensures { IsSeatOf deal.entry.now worker.exit.now.seat × (seat_number worker.exit.now.seat ≡ seat_number worker.entry.now.seat) × (seat_done worker.exit.now.seat ≡ true) × (worker.exit.now.failed ≡ false → AreValues (T.gives work.entry.now) (seat_hand worker.exit.now.seat) worker.exit.now.batch.items) }
+            requires { T.ready work.now × (deal_tiles deal.now ≤ T.count work.now) × IsFresh deal.now worker.now }
+            ensures { IsDone deal.entry.now (T.gives work.entry.now) worker.entry.now worker.exit.now }
         { draw_all(alloc, deal, work, gate, worker) },
     );
 }
@@ -155,9 +156,9 @@ fn run_all<R: Threads + Sync, T: TileWork, G: Gate>(
     requires ready { T.ready work.now }
     requires threads { 0 < threads }
     requires count { deal_tiles deal.now ≤ T.count work.now }
-    requires fresh { All (λ w. IsSeatOf deal.now w.seat × (seat_done w.seat ≡ false) × (seat_hand w.seat ≡ []) × (w.batch.items ≡ []) × (w.failed ≡ false)) crew.items }
+    requires fresh { All (IsFresh deal.now) crew.items }
     ensures long { length result.items ≡ length crew.items }
-    ensures run { (k : ℕ) (d : _) → k < length crew.items → IsSeatOf deal.now (slice_index_or result.items k d).seat × (seat_number (slice_index_or result.items k d).seat ≡ seat_number (slice_index_or crew.items k d).seat) × (seat_done (slice_index_or result.items k d).seat ≡ true) × ((slice_index_or result.items k d).failed ≡ false → AreValues (T.gives work.now) (seat_hand (slice_index_or result.items k d).seat) (slice_index_or result.items k d).batch.items) }
+    ensures run { HasRun deal.now (T.gives work.now) crew.items result.items }
 {
     run_crew(rt, alloc, deal, work, gate, crew.as_mut_slice(), threads);
     crew

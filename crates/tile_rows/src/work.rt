@@ -65,16 +65,17 @@ fn rows_of_tile(
 impl<'a> TileWork for Tiles<'a> {
     type Out = TileRows;
 
-    ghost use Rattle.std.specs.Prelude.{length, slice_index};
+    ghost use Rattle.std.specs.Prelude.{length};
     ghost use Rattle.std.specs.List.Sorted.{IsStrictlyIncreasing};
     ghost use Rattle.pair_check.specs.Views.{checked_by, IsWhole};
-    ghost use Rattle.row_check.specs.Tiles.{IsIndexOf, AreRowsOfTile};
+    ghost use Rattle.row_check.specs.Tiles.{IsIndexOf};
+    ghost use Rattle.tile_rows.specs.Work.{AreRowsAt};
 
     ghost ready = { λ work. IsWhole work.view × IsIndexOf (checked_by work.view) work.index.now × IsStrictlyIncreasing work.changed.now };
 
     ghost count = { λ work. length work.tiles.now };
 
-    ghost gives = { λ work number rows. AreRowsOfTile (checked_by work.view) work.index.now (slice_index work.tiles.now number) work.changed.now rows };
+    ghost gives = { AreRowsAt };
 
     fn test(&self, alloc: Global, number: u32) -> Result<TileRows, AllocError> {
         rows_of_tile(

@@ -1,11 +1,13 @@
 -- The changes that a history keeps, and the past that they lead through.
-use Rattle.std.specs.Prelude.{◌≡◌, Bool, List, [], ◌∷◌, map, reverse}
+use Rattle.std.specs.Prelude.{◌≡◌, Bool, false, List, [], ◌∷◌, map, reverse, Ok}
 use Rattle.board_edits.specs.Fitting.{AddsNone}
 use Rattle.drc_state.specs.declared.change.Change.{Change}
+use Rattle.edit_script.specs.Commands.{PlainCommand}
 use Rattle.drc_state.specs.States.{State}
+use Rattle.drc_state.specs.Steps.{Answers}
 use Rattle.drc_state.specs.Changes.{PlainChange, edit, replace, plain_change, is_replace, returned, LeadsBack}
 use Rattle.drc_session.specs.Sessions.{PlainSession}
-use Rattle.undo_log.specs.Past.{Past, Passed}
+use Rattle.undo_log.specs.Past.{Past, Passed, is_again}
 
 -- the changes that lead back and those that lead on, the nearest first on both sides; want of memory stops a history
 pub record PlainHistory : Type 0 where
@@ -28,6 +30,14 @@ pub record Leads (change : PlainChange) (state : State) (passed : Passed) : Type
   pub back : LeadsBack change state passed.state
   pub adds_none : AddsNoItems change
   pub kind : is_replace change ≡ passed.replaced
+
+-- the change leads from the state to the other, past a replacement of the rules or an edit
+abbrev pub LeadsTo : PlainChange → State → State → Bool → Type 0
+LeadsTo change state other replaced = Leads change state (record { state = other; replaced = replaced })
+
+-- the command edits the state, and leaves the other
+abbrev pub IsEdited : State → PlainCommand → State → Type 0
+IsEdited old command new = (is_again command ≡ false) × Answers old command (Ok new)
 
 -- the changes lead from the state through those that were passed, one after another, and to no others
 abbrev pub DoLead : State → List PlainChange → List Passed → Type 0

@@ -11,7 +11,7 @@ ghost use Rattle.drc_state.specs.Changes.{PlainChange, is_replace, Makes, return
 ghost use Rattle.drc_session.specs.Sessions.{PlainSession, IsChecked};
 ghost use Rattle.undo_log.specs.declared.error.HistoryError.{HistoryError};
 ghost use Rattle.undo_log.specs.Past.{Past, is_again, edited, undone, redone, StepAnswers, AreStepsTo};
-ghost use Rattle.undo_log.specs.Ways.{PlainHistory, Leads, AreWays, IsPastOf};
+ghost use Rattle.undo_log.specs.Ways.{PlainHistory, IsEdited, LeadsTo, AreWays, IsPastOf};
 ghost use Rattle.undo_log.specs.Taking.{AreCalls};
 
 use drc_state::laws::{one_answer, one_state};
@@ -63,7 +63,7 @@ pub fn taken_and_back()
 
 /// What a history keeps after an edit leads through its past.
 pub fn one_edit()
-    ensures { (old new : State) (command : PlainCommand) (change : PlainChange) (back on : List PlainChange) (past : Past) → AreWays old back on past → is_again command ≡ false → Answers old command (Ok new) → Leads change new (record { state = old; replaced = is_rules command }) → AreWays new (change ∷ back) [] (edited past command new) }
+    ensures { (old new : State) (command : PlainCommand) (change : PlainChange) (back on : List PlainChange) (past : Past) → AreWays old back on past → IsEdited old command new → LeadsTo change new old (is_rules command) → AreWays new (change ∷ back) [] (edited past command new) }
 {}
 
 /// A report again leaves the state as it is.
@@ -73,14 +73,14 @@ pub fn one_again()
 
 /// What a history keeps after what was done last is undone leads through its past.
 pub fn one_undo()
-    ensures { (old new : State) (change other : PlainChange) (back on : List PlainChange) (past : Past) → AreWays old (change ∷ back) on past → Makes change old new → Leads other new (record { state = old; replaced = is_replace change }) → (next : Past) × (undone past ≡ Ok next) × AreWays new back (other ∷ on) next }
+    ensures { (old new : State) (change other : PlainChange) (back on : List PlainChange) (past : Past) → AreWays old (change ∷ back) on past → Makes change old new → LeadsTo other new old (is_replace change) → (next : Past) × (undone past ≡ Ok next) × AreWays new back (other ∷ on) next }
 {
     one_state();
 }
 
 /// And after what was undone last is done again.
 pub fn one_redo()
-    ensures { (old new : State) (change other : PlainChange) (back on : List PlainChange) (past : Past) → AreWays old back (change ∷ on) past → Makes change old new → Leads other new (record { state = old; replaced = is_replace change }) → (next : Past) × (redone past ≡ Ok next) × AreWays new (other ∷ back) on next }
+    ensures { (old new : State) (change other : PlainChange) (back on : List PlainChange) (past : Past) → AreWays old back (change ∷ on) past → Makes change old new → LeadsTo other new old (is_replace change) → (next : Past) × (redone past ≡ Ok next) × AreWays new (other ∷ back) on next }
 {
     one_state();
 }

@@ -20,8 +20,8 @@ returns-then-is_clear n c =
     let e = at_more (λ (z : ℤ). AreClear q.bounds p.bounds z) d _ c.requires.range.from c.requires.range.to c.is_clear.ensures in
     surely_not _ refl (none_both q.bounds p.bounds d (edges_of c.args.a.now p) (edges_of c.args.b.now q) c.requires.range.from (e.0 c.if-is_clear.true) c.requires.first.hull c.requires.second.hull)
 
-pub returns-then-q-le8 : goal.returns-then-q-le8
-returns-then-q-le8 n c = at_d (λ (z : ℤ). SomeReached z (edges_of c.args.a.now c.args.p) (edges_of c.args.b.now c.args.q)) c.args.d _ c.requires.range.from c.requires.range.to c.short_within.ensures
+pub returns-then-q-le-FIRST_RUN : goal.returns-then-q-le-FIRST_RUN
+returns-then-q-le-FIRST_RUN n c = at_d (λ (z : ℤ). SomeReached z (edges_of c.args.a.now c.args.p) (edges_of c.args.b.now c.args.q)) c.args.d _ c.requires.range.from c.requires.range.to c.short_within.ensures
 
 pub first-init : goal.first-init
 first-init n c =

@@ -10,7 +10,7 @@ returns-in_err-write_line g c =
     let p = err_from_is_err_and c.from_residual.result c.from_residual.ensures.1 in
     let rows = number_line (codes "rows ") c.args.counts.rows [] in
     let notes = number_line (codes "not checked ") c.args.counts.notes [] in
-    let nets = number_line (codes "open nets ") c.args.counts.open [] in
+    let nets = number_line (codes "open nets ") c.args.counts.nets [] in
     Writes-cut _ _ _ _ rows (notes ++ nets) _ _ _ _ p.1 (append_assoc rows notes nets) c.in_err-write_line.ensures
 
 pub returns-in_err-write_line-2 : goal.returns-in_err-write_line-2
@@ -18,7 +18,7 @@ returns-in_err-write_line-2 g c =
     let p = err_from_is_err_and c.from_residual-in_err-write_line-2.result c.from_residual-in_err-write_line-2.ensures.1 in
     let rows = number_line (codes "rows ") c.args.counts.rows [] in
     let notes = number_line (codes "not checked ") c.args.counts.notes [] in
-    let nets = number_line (codes "open nets ") c.args.counts.open [] in
+    let nets = number_line (codes "open nets ") c.args.counts.nets [] in
     Writes-cut _ _ _ _ (rows ++ notes) nets _ _ _ _ p.1 refl (Writes-then _ _ _ _ _ _ _ _ _ _ c.in_ok-write_line.ensures c.in_err-write_line-2.ensures)
 
 pub returns : goal.returns

@@ -1,5 +1,6 @@
 use Rattle.std.proofs.Common.{◌≡◌, ◌++◌, length, take, drop, All, sym, ap, ◌∙◌, subst}
-use Rattle.tile_pool.proofs.Crew.{IsFresh, HasRun, written_back}
+use Rattle.tile_pool.specs.Crews.{IsFresh, HasRun}
+use Rattle.tile_pool.proofs.Crew.{written_back}
 use Rattle.tile_pool.proofs.pool.run_all.Goals as goal
 
 pub run_crew-requires-clause-fresh : goal.run_crew-requires-clause-fresh
