@@ -414,20 +414,24 @@ impl Board {
 
 // Makes room for one more in each list.
 fn make_room(
+    slots: &mut Vec<Option<Item>>,
     units: &mut Vec<u32>,
     marks: &mut Vec<u32>,
     notes: &mut Vec<u32>,
     of_net: &mut Vec<u32>,
 ) -> Result<(), AllocError>
+    ensures slots_stay { slots.new.items ≡ slots.old.items }
     ensures units_stay { units.new.items ≡ units.old.items }
     ensures marks_stay { marks.new.items ≡ marks.old.items }
     ensures notes_stay { notes.new.items ≡ notes.old.items }
     ensures of_net_stays { of_net.new.items ≡ of_net.old.items }
+    ensures slots { OnOk result (vec_len slots.new < vec_capacity slots.new) }
     ensures units { OnOk result (vec_len units.new < vec_capacity units.new) }
     ensures marks { OnOk result (vec_len marks.new < vec_capacity marks.new) }
     ensures notes { OnOk result (vec_len notes.new < vec_capacity notes.new) }
     ensures of_net { OnOk result (vec_len of_net.new < vec_capacity of_net.new) }
 {
+    slots.reserve(1)?;
     units.reserve(1)?;
     marks.reserve(1)?;
     notes.reserve(1)?;
@@ -459,8 +463,9 @@ fn push_slot(
     let unit = item.unit;
     let is_mark = item.what.is_mark();
     let is_note = item.what.is_note();
-    make_room(units, marks, notes, of_net)?;
-    slots.push(Some(item))?;
+    make_room(slots, units, marks, notes, of_net)?;
+    // Nothing is refused from here on, so the item is moved once.
+    slots.push_reserved(Some(item));
     units.push_reserved(unit);
     of_net.push_reserved(id);
     if is_mark {

@@ -50,15 +50,17 @@ pub fn behind_head<'d, 't>(list: Node<'d, 't>) -> Children<'d, 't>
     parts
 }
 
-/// Whether the word stands in the list.
+/// Of each of two words whether it stands in the list, found in one walk.
 #[tactic(auto, unfolding(crate::specs::Heads::has_word))]
-pub fn has_word(list: Node<'_, '_>, word: &[u8]) -> bool
-    ensures { result ≡ has_word word.now (tree_of list.entry) }
+pub fn has_words(list: Node<'_, '_>, first: &[u8], second: &[u8]) -> (bool, bool)
+    ensures first { result.0 ≡ has_word first.now (tree_of list.entry) }
+    ensures second { result.1 ≡ has_word second.now (tree_of list.entry) }
 {
+    let mut has_first = false;
+    let mut has_second = false;
     for part in list.children() {
-        if part.is(word) {
-            return true;
-        }
+        has_first = has_first || part.is(first);
+        has_second = has_second || part.is(second);
     }
-    false
+    (has_first, has_second)
 }

@@ -6,5 +6,5 @@ mod heads;
 mod names;
 
 pub use elements::{Wanted, element, find_elements, naming, pick};
-pub use heads::{behind_head, has_head, has_word, has_word_head, place};
+pub use heads::{behind_head, has_head, has_word_head, has_words, place};
 pub use names::name_from;

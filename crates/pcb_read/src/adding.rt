@@ -62,9 +62,14 @@ pub(crate) fn add_one(
     ensures not_below { OnOk result (board.old.next_unit ≤ board.new.next_unit) }
     ensures one_at_most { OnOk result (unit ≡ board.old.next_unit → board.new.next_unit ≤ suc board.old.next_unit) }
 {
-    let item = answer?;
-    if board.left() == 0 || unit == u32::MAX {
-        return Err(BoardError::TooMany { at: place(node) });
+    // A match moves the item less often than `?` does.
+    match answer {
+        Err(error) => Err(error),
+        Ok(item) => {
+            if board.left() == 0 || unit == u32::MAX {
+                return Err(BoardError::TooMany { at: place(node) });
+            }
+            add_item(board, item)
+        }
     }
-    add_item(board, item)
 }

@@ -9,7 +9,7 @@ ghost use Rattle.pcb_read.specs.Tracks.{track_of, via_of};
 use crate::items::{Origin, ViaForm, track_along, via_of_form};
 use board_items::{Board, BoardError, Item};
 use copper_layers::LayerSet;
-use list_read::{Wanted, find_elements, has_word, pick, place};
+use list_read::{Wanted, find_elements, has_words, pick, place};
 use part_read::{Strip, layer_of, layers_through, name_in, net_of, size_given, size_of, spot_of};
 use sexpr_read::Node;
 use std::alloc::Global;
@@ -87,12 +87,13 @@ pub(crate) fn via_of(
     let drill = size_given(pick(&found, 2))?;
     let layers = layers_through(board.copper(), node, pick(&found, 3))?;
     let net = net_of(board, pick(&found, 4))?;
+    let (micro, blind) = has_words(node, b"micro", b"blind");
     let form = ViaForm {
         at,
         size,
         drill,
-        micro: has_word(node, b"micro"),
-        blind: has_word(node, b"blind"),
+        micro,
+        blind,
     };
     let origin = Origin {
         name: name_in(alloc, pick(&found, 5))?,
