@@ -1,8 +1,8 @@
 -- What the refusals of items and boards are called, their codes and places: a report writes `NAME (CODE) at PLACE`. A refusal
 -- of the text is named behind that of the board and a point, and so is its code.
 use Rattle.std.specs.Prelude.{ℕ, List, ◌++◌, Option, codes}
-pub use Rattle.sexpr_read.specs.Reasons.{PlainReason, plain_reason, reason_alone, reason_behind, written}
-use Rattle.sexpr_read.specs.Reasons.{reason_at, carried_reason_in}
+use Rattle.plain_types.specs.Reasons.{PlainReason, reason_at, reason_alone, written}
+use Rattle.sexpr_read.specs.Reasons.{carried_reason_in}
 use Rattle.board_errors.specs.declared.in_two.ReasonInTwo.{ReasonInTwo}
 use Rattle.board_errors.specs.declared.errors.ItemError.{ItemError}
 use Rattle.board_errors.specs.declared.errors.ItemError.TheVariants.{OutOfBoard as ItemOutOfBoard, UnknownNet as ItemUnknownNet, UnknownLayer as ItemUnknownLayer, TooMany as ItemTooMany, OutOfMemory as ItemOutOfMemory}

@@ -1,6 +1,7 @@
 //! Why an item or a board is refused.
 
-use sexpr_read::{Reason, TextError};
+use plain_types::Reason;
+use sexpr_read::TextError;
 use std::alloc::{AllocError, AllocFailed};
 use std::error::Error;
 use std::fmt;
@@ -22,7 +23,7 @@ pub enum ItemError {
 
 impl ItemError {
     ghost use Rattle.std.specs.Prelude.{◌≡◌};
-    ghost use Rattle.sexpr_read.specs.Reasons.{plain_reason};
+    ghost use Rattle.plain_types.specs.Reasons.{plain_reason};
     ghost use Rattle.board_errors.specs.Reasons.{item_reason_in, item_name_of, item_code_of};
 
     // An item that is not taken stands in no text.
@@ -128,7 +129,7 @@ pub enum BoardError {
 
 impl BoardError {
     ghost use Rattle.std.specs.Prelude.{◌≡◌};
-    ghost use Rattle.sexpr_read.specs.Reasons.{plain_reason};
+    ghost use Rattle.plain_types.specs.Reasons.{plain_reason};
     ghost use Rattle.board_errors.specs.Reasons.{board_reason_in, board_name_of, board_code_of, board_place_of};
 
     /// Its name, its number and its place.

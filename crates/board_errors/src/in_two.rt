@@ -1,10 +1,10 @@
 //! The reason of a refusal that carries another.
 
 ghost use Rattle.std.specs.Prelude.{◌≡◌};
-ghost use Rattle.sexpr_read.specs.Reasons.{plain_reason, reason_alone, reason_behind};
+ghost use Rattle.plain_types.specs.Reasons.{plain_reason, reason_alone, reason_behind};
 ghost use Rattle.board_errors.specs.Reasons.{reason_in_one};
 
-use sexpr_read::Reason;
+use plain_types::Reason;
 use std::fmt;
 
 /// A text in two pieces, the one behind the other.

@@ -6,4 +6,3 @@ mod in_two;
 
 pub use errors::{BoardError, ItemError};
 pub use in_two::{InTwo, ReasonInTwo};
-pub use sexpr_read::Reason;

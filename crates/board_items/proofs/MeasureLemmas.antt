@@ -1,6 +1,6 @@
 -- That the kind of an item has lengths in range, kind by kind.
 use Rattle.std.proofs.Common.{◌≡◌, ℤ, Bool, subst}
-use Rattle.drc_io.specs.Lengths.{IsLength}
+use Rattle.plain_types.specs.Lengths.{IsLength}
 use Rattle.board_items.specs.declared.item.What.{What}
 use Rattle.board_items.specs.declared.item.What.TheVariants.{Track, Via}
 use Rattle.board_items.specs.Measures.{HasLengths}

@@ -2,7 +2,7 @@
 use Rattle.std.proofs.Common.{◌≡◌, ◌∙◌, ap, sym, subst, refl, ℕ, ◌≤◌, ℤ, ◌*ℤ◌, pos, ◌≤ℤ◌, Bool, true, false, List, [], ◌∷◌, Option, None, Some, unsigned_abs, MatchBool}
 use Rattle.std.specs.List.{AllZip}
 use Rattle.std.proofs.Props.{props}
-use Rattle.drc_io.specs.Lengths.{IsLength, IsLengthIfSome}
+use Rattle.plain_types.specs.Lengths.{IsLength, IsLengthIfSome}
 use Rattle.geo_seg.specs.declared.points.Point.{Point}
 use Rattle.geo_seg.specs.declared.shapes.Core.{Core}
 use Rattle.geo_seg.specs.declared.shapes.Core.TheVariants.{Line, Area as Polygon}

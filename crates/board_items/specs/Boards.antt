@@ -1,8 +1,9 @@
 -- A board as plain lists. Lengths are nanometres, and the places of its items are their ids.
-use Rattle.std.specs.Prelude.{◌≡◌, ℕ, ◌+◌, ◌<◌, ◌≤◌, max, ℤ, pos, neg_ℤ, Bool, true, false, ◌&&◌, List, [], ◌∷◌, ◌++◌, length, Option, None, Some, is_some, slice_get, nat_eq, map, filter, if◌then◌else◌}
+use Rattle.std.specs.Prelude.{◌≡◌, ℕ, ◌+◌, ◌<◌, ◌≤◌, max, ℤ, neg_ℤ, Bool, true, false, ◌&&◌, List, [], ◌∷◌, ◌++◌, length, Option, None, Some, is_some, slice_get, nat_eq, map, filter, if◌then◌else◌}
 use Rattle.std.specs.Int.Signed.{le_z}
 use Rattle.std.specs.List.{list_all}
 use Rattle.std.specs.Map.{lookup}
+use Rattle.plain_types.specs.Lengths.{greatest}
 use Rattle.copper_layers.specs.declared.set.LayerSet.{LayerSet}
 use Rattle.board_items.specs.declared.item.What.{What}
 use Rattle.board_items.specs.declared.item.What.TheVariants.{Area, Body}
@@ -46,7 +47,7 @@ with_item board item = record board {
 
 -- at most 500 mm from 0, in nanometres
 abbrev pub is_near : ℤ → Bool
-is_near z = le_z (neg_ℤ (pos 500000000)) z && le_z z (pos 500000000)
+is_near z = le_z (neg_ℤ greatest) z && le_z z greatest
 
 -- the position lies on the board; the points of all shapes do so by their type
 abbrev pub is_on_board : Item → Bool

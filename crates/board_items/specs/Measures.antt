@@ -1,6 +1,6 @@
 -- The lengths that the kind of an item has, in nanometres.
 use Rattle.std.specs.Prelude.{◌≡◌, ℤ, Bool}
-use Rattle.drc_io.specs.Lengths.{IsLength}
+use Rattle.plain_types.specs.Lengths.{IsLength}
 use Rattle.board_items.specs.declared.item.What.{What}
 use Rattle.board_items.specs.declared.item.What.TheVariants.{Track, Via}
 

@@ -28,6 +28,7 @@ use board_errors::ItemError;
 use copper_layers::LayerSet;
 use drc_io::Name;
 use indexmap::IndexMap;
+use plain_types::GREATEST_LENGTH;
 use std::alloc::{AllocError, Global};
 use std::cmp::Ordering;
 use std::marker::Model;
@@ -37,9 +38,6 @@ const MOST_ITEMS: usize = 200_000;
 
 /// All ids and unit numbers are below this.
 const LAST: u32 = 4_294_967_295;
-
-/// The greatest coordinate of a position, in nanometres.
-const GREATEST: i64 = 500_000_000;
 
 /// A board: the layers of its copper, its nets, and at most 200,000 items. Contracts see it as plain lists.
 ///
@@ -100,10 +98,11 @@ fn has_layers_of(copper: LayerSet, item: &Item) -> bool
         && are_within(second, copper)
 }
 
-pub(crate) fn is_near(z: i64) -> bool
+/// Whether a coordinate is at most 500 mm from 0.
+pub fn is_near(z: Nm) -> bool
     ensures { result ≡ is_near z }
 {
-    -GREATEST <= z && z <= GREATEST
+    -GREATEST_LENGTH <= z && z <= GREATEST_LENGTH
 }
 
 impl What {

@@ -1,6 +1,6 @@
 //! What lies on a board.
 
-ghost use Rattle.drc_io.specs.Lengths.{IsLength, IsLengthIfSome};
+ghost use Rattle.plain_types.specs.Lengths.{IsLength, IsLengthIfSome};
 ghost use Rattle.board_items.specs.Measures.{HasLengths};
 
 use crate::boxed::Boxed;

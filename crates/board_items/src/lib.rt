@@ -22,7 +22,7 @@ mod units;
 mod walk;
 
 pub use back::Kept;
-pub use board::Board;
+pub use board::{Board, is_near};
 pub use board_errors::{BoardError, ItemError};
 pub use boxed::Boxed;
 pub use found::Found;

@@ -1,6 +1,7 @@
 -- What the refusals of writing are called, their codes and places. That of the board stands behind a point.
 use Rattle.std.specs.Prelude.{ℕ, List, Option, codes}
-use Rattle.board_errors.specs.Reasons.{PlainReason, reason_alone, reason_behind, written, board_reason_in}
+use Rattle.plain_types.specs.Reasons.{PlainReason, reason_alone, reason_behind, written}
+use Rattle.board_errors.specs.Reasons.{board_reason_in}
 use Rattle.board_write.specs.declared.error.WriteError.{WriteError}
 use Rattle.board_write.specs.declared.error.WriteError.TheVariants.{Board, Failed, OutOfMemory}
 

@@ -1,7 +1,7 @@
 //! What a rule asks of one kind.
 
 ghost use Rattle.std.specs.Prelude.{◌≡◌, is_some};
-ghost use Rattle.drc_io.specs.Lengths.{IsLengthIfSome};
+ghost use Rattle.plain_types.specs.Lengths.{IsLengthIfSome};
 ghost use Rattle.cond_lang.specs.Kinds.{is_assertion};
 
 use crate::cond::Cond;

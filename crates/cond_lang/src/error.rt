@@ -1,5 +1,6 @@
 //! Why a text is no condition.
 
+use plain_types::{Reason, Reasons, reasons};
 use std::alloc::{AllocError, AllocFailed};
 use std::error::Error;
 use std::fmt;
@@ -19,55 +20,23 @@ pub enum CondError {
     OutOfMemory,
 }
 
-/// What a refusal is called, its number, and its byte of the text where it has one.
-#[derive(Clone, Copy, Debug, Drop, PartialEq, Eq)]
-pub struct Reason {
-    pub name: &'static str,
-    pub code: &'static str,
-    pub place: Option<u32>,
-}
-
-// The reason of a refusal of the condition by itself, and as the fourth reason of an error that carries it.
-#[derive(Clone, Copy, Drop)]
-struct Reasons {
-    own: Reason,
-    carried: Reason,
-}
-
-// A row of their table.
-macro_rules! reasons {
-    ($name:literal, $code:literal, $place:expr) => {
-        Reasons {
-            own: Reason {
-                name: $name,
-                code: $code,
-                place: $place,
-            },
-            carried: Reason {
-                name: concat!("Cond.", $name),
-                code: concat!("4.", $code),
-                place: $place,
-            },
-        }
-    };
-}
-
 impl CondError {
     ghost use Rattle.std.specs.Prelude.{◌≡◌};
-    ghost use Rattle.cond_lang.specs.Reasons.{plain_reason, reason_in, carried_reason_in, name_of, code_of, place_of};
+    ghost use Rattle.plain_types.specs.Reasons.{plain_reason};
+    ghost use Rattle.cond_lang.specs.Reasons.{reason_in, carried_reason_in, name_of, code_of, place_of};
 
     // Want of memory has no number, which is written 0, and no place.
     fn reasons(&self) -> Reasons
         ensures own { plain_reason result.own ≡ reason_in self.now }
         ensures carried { plain_reason result.carried ≡ carried_reason_in self.now }
     {
-        match self {
-            CondError::Bad { at } => reasons!("Bad", "1", Some(*at)),
-            CondError::UnknownName { at } => reasons!("UnknownName", "2", Some(*at)),
-            CondError::TypeClash { at } => reasons!("TypeClash", "3", Some(*at)),
-            CondError::TooDeep { at } => reasons!("TooDeep", "4", Some(*at)),
-            CondError::OutOfMemory => reasons!("OutOfMemory", "0", None),
-        }
+        reasons!(self, "Cond.", "4.", {
+            CondError::Bad { at } => ("Bad", "1", Some(*at)),
+            CondError::UnknownName { at } => ("UnknownName", "2", Some(*at)),
+            CondError::TypeClash { at } => ("TypeClash", "3", Some(*at)),
+            CondError::TooDeep { at } => ("TooDeep", "4", Some(*at)),
+            CondError::OutOfMemory => ("OutOfMemory", "0", None),
+        })
     }
 
     /// Its reason as the fourth of an error that carries it: `Cond.` stands before its name and `4.` before its number.

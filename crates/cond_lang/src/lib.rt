@@ -20,7 +20,7 @@ mod values;
 pub use cond::{Cond, Conds};
 pub use constraint::Constraint;
 pub use constraints::{Constraints, Rule};
-pub use error::{CondError, Reason};
+pub use error::CondError;
 pub use kind::{Family, Kind, Special};
 pub use reader::parse_cond;
 pub use rule::{Disallow, RuleLayer, Severity};

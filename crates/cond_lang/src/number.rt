@@ -9,9 +9,7 @@ ghost use Rattle.cond_lang.specs.Numbers.{digits as digits_of, are_zeros as are_
 use crate::error::CondError;
 use crate::scan::{byte, stuck};
 use exact_dec::{Nm, with_unit};
-
-/// The greatest length that a condition may name, in nanometres.
-const LONGEST: Nm = 500_000_000;
+use plain_types::GREATEST_LENGTH;
 
 fn skip_sign(text: &[u8]) -> &[u8]
     ensures value { result.now ≡ after_sign text.now }
@@ -168,7 +166,7 @@ pub fn measure<'t>(whole: usize, text: &'t [u8]) -> Result<(Nm, &'t [u8]), CondE
     let number = &text[..text.len() - rest.len()];
     match with_unit(number) {
         Ok(nm) => {
-            if nm < 0 || LONGEST < nm {
+            if nm < 0 || GREATEST_LENGTH < nm {
                 return Err(stuck(whole, text));
             }
             Ok((nm, rest))

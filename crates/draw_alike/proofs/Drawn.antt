@@ -18,7 +18,8 @@ use Rattle.part_read.specs.declared.figures.Figure.{Figure}
 use Rattle.part_read.specs.declared.figures.Figure.TheVariants.{Line, Rect, Circle, Outline}
 use Rattle.part_read.specs.declared.figures.Drawing.{Drawing}
 use Rattle.part_read.specs.Circles.{squared, square_between, root, radius_between}
-use Rattle.part_read.specs.OnBoard.{is_length, fits_board, point_at}
+use Rattle.plain_types.specs.Lengths.{is_length}
+use Rattle.part_read.specs.OnBoard.{fits_board, point_at}
 use Rattle.part_read.specs.Stances.{stood, point_stood}
 use Rattle.part_read.specs.Figures.{line_between, cores_between, cores_of, radius_at, radius_of, around, parts_around, radius_with, drawn, drawn_edge}
 use Rattle.read_alike.specs.Alike.{Shift}

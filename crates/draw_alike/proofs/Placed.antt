@@ -27,7 +27,8 @@ use Rattle.list_read.specs.Answers.{◌>>=◌, needed, check}
 use Rattle.list_read.specs.Heads.{place}
 use Rattle.list_read.specs.Elements.{element}
 use Rattle.part_read.specs.Elements.{name_among, name_in}
-use Rattle.part_read.specs.OnBoard.{tested, is_length, fits_board, point_at}
+use Rattle.plain_types.specs.Lengths.{is_length}
+use Rattle.part_read.specs.OnBoard.{tested, fits_board, point_at}
 use Rattle.part_read.specs.NetsOf.{net_of}
 use Rattle.part_read.specs.Numbers.{spot_of}
 use Rattle.part_read.specs.Stances.{stood, point_stood, with_point, points_stood}

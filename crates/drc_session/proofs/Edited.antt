@@ -1,7 +1,7 @@
 -- What is found anew after an edit, where the ids and the rules were lent.
 use Rattle.std.proofs.Common.{◌≡◌, ◌∙◌, sym, subst, ℕ, ℤ, false, List, map, Option}
 use Rattle.int_algebra.proofs.Scalars.{passed}
-use Rattle.drc_io.specs.Lengths.{IsLength}
+use Rattle.plain_types.specs.Lengths.{IsLength}
 use Rattle.board_items.specs.declared.item.Item.{Item}
 use Rattle.board_items.specs.Boards.{PlainBoard}
 use Rattle.board_laws.specs.Edits.{IsEdit}

@@ -1,7 +1,7 @@
 -- What a session holds, said of plain values.
 use Rattle.std.proofs.Common.{◌≡◌, sym, subst, ℕ, ◌<◌, ℤ, List, length, Option}
 use Rattle.std.proofs.lemmas.List.{length-map}
-use Rattle.drc_io.specs.Lengths.{IsLength}
+use Rattle.plain_types.specs.Lengths.{IsLength}
 use Rattle.board_items.specs.Boards.{PlainBoard}
 use Rattle.net_class.specs.Classes.{PlainClasses}
 use Rattle.cond_lang.specs.Rules.{plain_rule}

@@ -1,7 +1,7 @@
 -- The index of a board that is opened, where the rules were lent.
 use Rattle.std.proofs.Common.{◌≡◌, ◌∙◌, sym, subst, ℤ, List, map}
 use Rattle.int_algebra.proofs.Scalars.{passed}
-use Rattle.drc_io.specs.Lengths.{IsLength}
+use Rattle.plain_types.specs.Lengths.{IsLength}
 use Rattle.board_items.specs.Boards.{PlainBoard}
 use Rattle.net_class.specs.Classes.{PlainClasses}
 use Rattle.cond_lang.specs.declared.constraints.Rule.{Rule}

@@ -1,6 +1,6 @@
 -- What a session holds while it runs.
 use Rattle.std.specs.Prelude.{◌≡◌, ◌<◌, length}
-use Rattle.drc_io.specs.Lengths.{IsLength}
+use Rattle.plain_types.specs.Lengths.{IsLength}
 use Rattle.board_items.specs.Boards.{PlainBoard}
 use Rattle.rule_text.specs.Views.{plain_rules}
 use Rattle.rule_pick.specs.AllFacts.{HasFacts}

@@ -2,7 +2,7 @@
 
 ghost use Rattle.std.specs.Prelude.{◌≡◌, ◌≢◌, ◌<◌, ◌≤◌, pos, true, false, [], List, length, All, OnOk, IfOk};
 ghost use Rattle.std.specs.List.Sorted.{IsStrictlyIncreasing};
-ghost use Rattle.drc_io.specs.Lengths.{IsLength};
+ghost use Rattle.plain_types.specs.Lengths.{IsLength};
 ghost use Rattle.geo_seg.specs.declared.boxes.Bounds.{Bounds};
 ghost use Rattle.geo_seg.specs.Boxes.{FitsWithin};
 ghost use Rattle.board_items.specs.Boards.{PlainBoard};

@@ -1,7 +1,7 @@
 //! How far checks reach after an edit: only the items of the edit are looked at, unless one is gone that asked for as much as any.
 
 ghost use Rattle.std.specs.Prelude.{◌≡◌, ◌≢◌, ◌∷◌, [], false, Some, map};
-ghost use Rattle.drc_io.specs.Lengths.{IsLength, IsLengthIfSome};
+ghost use Rattle.plain_types.specs.Lengths.{IsLength, IsLengthIfSome};
 ghost use Rattle.board_items.specs.Boards.{PlainBoard};
 ghost use Rattle.board_laws.specs.Edits.{IsEdit};
 ghost use Rattle.cond_lang.specs.Rules.{plain_rule};

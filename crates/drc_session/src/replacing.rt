@@ -1,7 +1,7 @@
 //! Rules that take the place of others.
 
 ghost use Rattle.std.specs.Prelude.{◌≡◌, ◌<◌, ◌≤◌, true, length, OnOk, IfOk};
-ghost use Rattle.drc_io.specs.Lengths.{IsLength};
+ghost use Rattle.plain_types.specs.Lengths.{IsLength};
 ghost use Rattle.rule_text.specs.Views.{plain_rules};
 ghost use Rattle.board_index.specs.Holding.{IsIndexOfItems};
 ghost use Rattle.row_check.specs.Tiles.{IsIndexOf};

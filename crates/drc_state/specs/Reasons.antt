@@ -1,6 +1,7 @@
 -- What the refusals of commands are called, their codes and places. A refusal of an added list or of rules stands behind a point.
 use Rattle.std.specs.Prelude.{ℕ, List, Option, None, codes}
-pub use Rattle.board_errors.specs.Reasons.{PlainReason, reason_alone, reason_behind, reason_in_one, written}
+use Rattle.plain_types.specs.Reasons.{PlainReason, reason_alone, reason_behind, written}
+pub use Rattle.board_errors.specs.Reasons.{reason_in_one}
 use Rattle.board_errors.specs.Reasons.{board_reason_in}
 use Rattle.rule_text.specs.Reasons.{reason_in as rules_reason_in, inner_place_of as rules_inner_place_of}
 use Rattle.drc_state.specs.declared.error.EditError.{EditError}

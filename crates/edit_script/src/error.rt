@@ -1,6 +1,7 @@
 //! Why a script is refused.
 
-use sexpr_read::{Reason, TextError};
+use plain_types::Reason;
+use sexpr_read::TextError;
 use std::alloc::{AllocError, AllocFailed};
 use std::error::Error;
 use std::fmt;
@@ -19,7 +20,7 @@ pub enum ScriptError {
 
 impl ScriptError {
     ghost use Rattle.std.specs.Prelude.{◌≡◌};
-    ghost use Rattle.sexpr_read.specs.Reasons.{plain_reason};
+    ghost use Rattle.plain_types.specs.Reasons.{plain_reason};
     ghost use Rattle.edit_script.specs.Reasons.{reason_in, name_of, code_of, place_of};
 
     fn reason(&self) -> Reason

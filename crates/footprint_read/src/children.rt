@@ -14,11 +14,12 @@ ghost use Rattle.footprint_read.specs.FootprintOf.{items_of, with_items, with_dr
 
 use crate::contents::Contents;
 use crate::court_lists::with_graphic;
-use crate::notes::{note_on, one_item};
+use crate::notes::note_on;
 use board_items::{About, Board, BoardError, Item};
 use list_read::{has_head, place};
 use pad_read::{Head, pad_of};
 use part_read::{Ground, Kind, curve_by, ground_of, read_graphic, read_text};
+use plain_types::one;
 use sexpr_read::Node;
 use std::alloc::{AllocError, Global};
 
@@ -150,7 +151,7 @@ fn zone_notes(
     ensures ready { IfOk result (λ notes. All (IsReady board.now unit) notes.items) }
 {
     board.soundness();
-    let notes = one_item(alloc, note_on(alloc, unit, About::FootZone, "", node)?)?;
+    let notes = one(alloc, note_on(alloc, unit, About::FootZone, "", node)?)?;
     Ok(notes)
 }
 
@@ -200,7 +201,7 @@ fn with_child(
 {
     if has_head(node, b"pad") {
         let pad = pad_of(alloc, board, unit, head, node)?;
-        return Ok(with_items(contents, node, one_item(alloc, pad)?)?);
+        return Ok(with_items(contents, node, one(alloc, pad)?)?);
     }
     let Some(kind) = drawn_kind(node) else {
         return with_other(alloc, board, unit, contents, node);

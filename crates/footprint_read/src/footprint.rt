@@ -14,11 +14,12 @@ use crate::children::contents_of;
 use crate::contents::{AllGiven, Given};
 use crate::courts::{Court, court_of};
 use crate::head::head_of;
-use crate::notes::{note_on, one_item};
+use crate::notes::note_on;
 use board_items::{About, Board, BoardError, Boxed, Item, Parts, What};
 use list_read::place;
 use pad_read::Head;
 use part_read::{fits_board, name_of_list, no_parts, plain_item};
+use plain_types::one;
 use sexpr_read::Node;
 use std::alloc::{AllocError, Global};
 
@@ -78,7 +79,7 @@ fn court_notes(
     ensures { IfOk result (λ notes. notes.items ≡ court_notes unit (tree_of node.entry) layer.now court.now) }
 {
     if matches!(court, Court::Unchecked) {
-        return one_item(alloc, note_on(alloc, unit, About::Courtyard, layer, node)?);
+        return one(alloc, note_on(alloc, unit, About::Courtyard, layer, node)?);
     }
     Ok(Vec::new(alloc))
 }
@@ -98,7 +99,7 @@ fn all_given(
     let front_notes = court_notes(alloc, unit, node, "F.CrtYd", &front)?;
     let back_notes = court_notes(alloc, unit, node, "B.CrtYd", &back)?;
     let body = body_of(alloc, unit, head, node, front, back)?;
-    let first = AllGiven::new(alloc).with(place(node), one_item(alloc, body)?)?;
+    let first = AllGiven::new(alloc).with(place(node), one(alloc, body)?)?;
     let all = first.and(given)?;
     let all = all.with(place(node), front_notes)?;
     all.with(place(node), back_notes)

@@ -1,6 +1,6 @@
 //! Notes of what is not checked.
 
-ghost use Rattle.std.specs.Prelude.{◌≡◌, ◌∷◌, [], IfOk};
+ghost use Rattle.std.specs.Prelude.{◌≡◌, IfOk};
 ghost use Rattle.sexpr_read.specs.Views.{tree_of};
 ghost use Rattle.part_read.specs.Elements.{name_in};
 ghost use Rattle.part_read.specs.Graphics.{note_of};
@@ -32,13 +32,4 @@ pub fn note_on(
         no_parts(alloc),
         What::Note { about, layer },
     ))
-}
-
-/// The list of one item.
-pub fn one_item(alloc: Global, item: Item) -> Result<Vec<Item>, AllocError>
-    ensures { IfOk result (λ items. items.items ≡ item ∷ []) }
-{
-    let mut items = Vec::with_capacity(alloc, 1)?;
-    items.push(item)?;
-    Ok(items)
 }

@@ -2,7 +2,7 @@
 
 ghost use Rattle.std.specs.Prelude.{◌≡◌, ℤ, ◌*ℤ◌, pos, All, IsTrue, ◌↔◌, [], filter};
 ghost use Rattle.std.specs.List.{Any};
-ghost use Rattle.drc_io.specs.Lengths.{IsLength};
+ghost use Rattle.plain_types.specs.Lengths.{IsLength};
 ghost use Rattle.geo_seg.specs.Distances.{Apart, Meet, IsGap};
 ghost use Rattle.board_items.specs.Copper.{SomeMeet, Keeps};
 ghost use Rattle.item_copper.specs.Sides.{is_taken, parts_at};

@@ -9,7 +9,7 @@ use Rattle.std.proofs.lemmas.Int.{ints}
 use Rattle.std.proofs.lemmas.List.Elements.{All-nil, All-cons, All-head, All-tail, All-append, Contains-append_left, Contains-append_right}
 use Rattle.int_algebra.proofs.Order.{le_refl, le_trans}
 use Rattle.int_algebra.proofs.Scalars.{clean, cleaned, passed}
-use Rattle.drc_io.specs.Lengths.{IsLength}
+use Rattle.plain_types.specs.Lengths.{IsLength}
 use Rattle.net_class.specs.Classes.{PlainClass, PlainClasses, greatest_of, greatest_clearance}
 use Rattle.rule_pick.specs.Reach.{clearances_of, IsGreatestOf}
 use Rattle.item_facts.specs.Raised.{IsRaised, IsRaisedSoFar}

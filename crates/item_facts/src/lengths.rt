@@ -1,6 +1,6 @@
 //! Lengths.
 
-ghost use Rattle.drc_io.specs.Lengths.{IsLength};
+ghost use Rattle.plain_types.specs.Lengths.{IsLength};
 
 use board_items::Nm;
 

@@ -3,7 +3,7 @@
 ghost use Rattle.std.specs.Prelude.{◌≡◌, ◌∷◌, [], map};
 ghost use Rattle.std.specs.List.{flat_map};
 ghost use Rattle.std.specs.Option.{option_map};
-ghost use Rattle.drc_io.specs.Lengths.{IsLength};
+ghost use Rattle.plain_types.specs.Lengths.{IsLength};
 ghost use Rattle.net_class.specs.Classes.{greatest_clearance};
 ghost use Rattle.net_class.specs.Views.{mins_of};
 ghost use Rattle.cond_lang.specs.Rules.{plain_constraint, plain_rule};

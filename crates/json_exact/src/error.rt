@@ -1,4 +1,5 @@
 // Why a text was refused.
+use plain_types::{Reason, Reasons, reasons};
 use std::alloc::{AllocError, AllocFailed};
 use std::fmt;
 
@@ -15,65 +16,21 @@ pub enum JsonError {
     OutOfMemory,
 }
 
-/// What a refusal is called, its number, and its byte of the text where it has one.
-#[derive(Clone, Copy, Debug, Drop, PartialEq, Eq)]
-pub struct Reason {
-    pub name: &'static str,
-    pub code: &'static str,
-    pub place: Option<u32>,
-}
-
-impl Reason {
-    ghost use Rattle.std.specs.Prelude.{◌≡◌};
-    ghost use Rattle.json_exact.specs.Reasons.{plain_reason};
-
-    /// A name, a number and a place.
-    pub fn new(name: &'static str, code: &'static str, place: Option<u32>) -> Reason
-        ensures { plain_reason result ≡ record { name = name.now; code = code.now; place = place } }
-    {
-        Reason { name, code, place }
-    }
-}
-
-// The reason of a refusal of the text by itself, and as the first reason of an error that carries it.
-#[derive(Clone, Copy, Drop)]
-struct Reasons {
-    own: Reason,
-    carried: Reason,
-}
-
-// A row of their table.
-macro_rules! reasons {
-    ($name:literal, $code:literal, $place:expr) => {
-        Reasons {
-            own: Reason {
-                name: $name,
-                code: $code,
-                place: $place,
-            },
-            carried: Reason {
-                name: concat!("Json.", $name),
-                code: concat!("1.", $code),
-                place: $place,
-            },
-        }
-    };
-}
-
 impl JsonError {
     ghost use Rattle.std.specs.Prelude.{◌≡◌};
-    ghost use Rattle.json_exact.specs.Reasons.{plain_reason, reason_in, carried_reason_in, name_of, code_of, place_of};
+    ghost use Rattle.plain_types.specs.Reasons.{plain_reason};
+    ghost use Rattle.json_exact.specs.Reasons.{reason_in, carried_reason_in, name_of, code_of, place_of};
 
     // Want of memory has no number, which is written 0, and no place.
     fn reasons(&self) -> Reasons
         ensures own { plain_reason result.own ≡ reason_in self.now }
         ensures carried { plain_reason result.carried ≡ carried_reason_in self.now }
     {
-        match self {
-            JsonError::Bad { at } => reasons!("Bad", "1", Some(*at)),
-            JsonError::TooDeep { at } => reasons!("TooDeep", "2", Some(*at)),
-            JsonError::OutOfMemory => reasons!("OutOfMemory", "0", None),
-        }
+        reasons!(self, "Json.", "1.", {
+            JsonError::Bad { at } => ("Bad", "1", Some(*at)),
+            JsonError::TooDeep { at } => ("TooDeep", "2", Some(*at)),
+            JsonError::OutOfMemory => ("OutOfMemory", "0", None),
+        })
     }
 
     /// Its reason as the first of an error that carries it: `Json.` stands before its name and `1.` before its number.

@@ -11,6 +11,6 @@ mod reader;
 mod scan;
 mod strings;
 
-pub use error::{JsonError, Reason};
+pub use error::JsonError;
 pub use handles::{Items, Json, Span, Value};
 pub use parsing::{one_value, parse};

@@ -2,7 +2,7 @@
 use Rattle.std.proofs.Common.{◌≡◌, ◌⊎◌, inl, inr, refl, sym, subst, ◌∙◌, ℤ, pos, ◌≤ℤ◌, ◌<ℤ◌, true, List, [], All, arith}
 use Rattle.std.specs.List.{Any}
 use Rattle.std.proofs.lemmas.Int.{ints}
-use Rattle.drc_io.specs.Lengths.{IsLength}
+use Rattle.plain_types.specs.Lengths.{IsLength}
 use Rattle.int_algebra.proofs.Scalars.{passed, passed_length}
 use Rattle.item_copper.proofs.Gaps.{gap_same}
 use Rattle.geo_seg.specs.Distances.{IsGap}

@@ -1,6 +1,7 @@
 -- The lengths of a single item that kinds limit, in nanometres.
 use Rattle.std.specs.Prelude.{ℤ, pos, neg_ℤ, ◌+ℤ◌, ◌-ℤ◌, ◌*ℤ◌, ◌≤ℤ◌, ◌<ℤ◌, Option, None, Some}
 use Rattle.std.specs.Option.{option_map}
+use Rattle.plain_types.specs.Lengths.{greatest}
 use Rattle.board_items.specs.declared.item.Hole.{Hole}
 use Rattle.board_items.specs.declared.item.What.{What}
 use Rattle.board_items.specs.declared.item.What.TheVariants.{Track, Via}
@@ -14,8 +15,8 @@ use Rattle.kind_subjects.specs.Subjects.{subject_of}
 
 -- within 500 mm of 0: the copper round a hole is narrower than nothing where the drill is wider than the via
 pub record IsWithin (n : ℤ) : Type 0 where
-  pub from : neg_ℤ (pos 500000000) ≤ℤ n
-  pub to : n ≤ℤ pos 500000000
+  pub from : neg_ℤ greatest ≤ℤ n
+  pub to : n ≤ℤ greatest
 
 -- the copper round the hole of a via, on both sides of it together
 abbrev pub ring_of : What → Option Hole → Option ℤ

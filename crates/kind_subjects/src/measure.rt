@@ -1,7 +1,7 @@
 //! What faces each other: whether it meets, and how near it is.
 
 ghost use Rattle.std.specs.Prelude.{◌≡◌, ◌<◌, ◌⊎◌, ℤ, ◌↔◌, IsTrue, false, [], ◌∷◌};
-ghost use Rattle.drc_io.specs.Lengths.{IsLength};
+ghost use Rattle.plain_types.specs.Lengths.{IsLength};
 ghost use Rattle.geo_seg.specs.Distances.{IsGap};
 ghost use Rattle.board_items.specs.Copper.{on_layer};
 ghost use Rattle.board_items.specs.Parts.{hole_parts};

@@ -1,7 +1,7 @@
 //! How near two items are to each other.
 
 ghost use Rattle.std.specs.Prelude.{◌≡◌, MatchOption};
-ghost use Rattle.drc_io.specs.Lengths.{IsLength};
+ghost use Rattle.plain_types.specs.Lengths.{IsLength};
 ghost use Rattle.geo_seg.specs.Distances.{IsGap};
 ghost use Rattle.kind_subjects.specs.Facing.{facings, apart_by, may_not_meet, KeepAt, TooNear};
 ghost use Rattle.kind_subjects.specs.Sides.{facings_of};

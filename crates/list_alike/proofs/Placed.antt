@@ -18,7 +18,8 @@ use Rattle.part_read.specs.Elements.{in_needed, in_given, name_in}
 use Rattle.part_read.specs.Numbers.{spot_of, size_at, size_of}
 use Rattle.part_read.specs.LayersOf.{layer_of, layers_through}
 use Rattle.part_read.specs.NetsOf.{net_of}
-use Rattle.part_read.specs.OnBoard.{fits_board, is_length, is_strip}
+use Rattle.plain_types.specs.Lengths.{is_length}
+use Rattle.part_read.specs.OnBoard.{fits_board, is_strip}
 use Rattle.part_read.specs.Drawings.{corners_of}
 use Rattle.part_read.specs.Figures.{first_of}
 use Rattle.part_read.specs.PlainItems.{plain_item}

@@ -26,7 +26,8 @@ use Rattle.part_read.specs.Elements.{name_in}
 use Rattle.part_read.specs.Numbers.{spot_of, size_of}
 use Rattle.part_read.specs.LayersOf.{layer_of}
 use Rattle.part_read.specs.NetsOf.{net_of}
-use Rattle.part_read.specs.OnBoard.{is_length, fits_board, point_at, is_strip, strip_shape}
+use Rattle.plain_types.specs.Lengths.{is_length}
+use Rattle.part_read.specs.OnBoard.{fits_board, point_at, is_strip, strip_shape}
 use Rattle.part_read.proofs.Shapes.{one_line, one_shape, is_tested}
 use Rattle.read_alike.specs.Alike.{Shift, Alike}
 use Rattle.read_alike.specs.Agreeing.{Agrees, Same}

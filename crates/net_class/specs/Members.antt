@@ -1,7 +1,8 @@
 -- The members of the objects in a project, by their names. A member that is null counts as not there, and of two of one name
 -- the first counts. One of another kind than is wanted is refused as Shape, and a number that is none or too great or below 0 as
 -- BadNumber, each at the place where the member's value begins.
-use Rattle.std.specs.Prelude.{ℕ, ℤ, pos, int_le, int_lt, List, [], Bool, ◌&&◌, Option, None, Some, Result, Ok, Err, if◌then◌else◌}
+use Rattle.std.specs.Prelude.{ℕ, ℤ, pos, int_lt, List, [], Bool, Option, None, Some, Result, Ok, Err, if◌then◌else◌}
+use Rattle.plain_types.specs.Lengths.{is_length}
 use Rattle.json_exact.specs.Json.{Json, begins_at, items, member, number_of, text_of, is_null, is_list, is_object}
 use Rattle.json_exact.specs.Bytes.{same_bytes}
 use Rattle.exact_dec.specs.Computed.{mm_near_answer}
@@ -69,9 +70,6 @@ unfoldable pub nanometres_at : Json → Result ℤ ProjectError
 nanometres_at v = do
   digits ← needed (Shape (begins_at v)) (number_of v)
   read_as (BadNumber (begins_at v)) (mm_near_answer digits)
-
-abbrev pub is_length : ℤ → Bool
-is_length n = int_le (pos 0) n && int_le n (pos 500000000)
 
 -- a length from 0 to 500 mm
 unfoldable pub length_at : Json → Result ℤ ProjectError

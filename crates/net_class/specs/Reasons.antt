@@ -1,6 +1,7 @@
 -- What a refusal is called, its code, and its place: a report writes `NAME (CODE) at PLACE`.
 use Rattle.std.specs.Prelude.{ℕ, List, Option, codes}
-use Rattle.json_exact.specs.Reasons.{PlainReason, reason_at, reason_alone, written, carried_reason_in}
+use Rattle.plain_types.specs.Reasons.{PlainReason, reason_at, reason_alone, written}
+use Rattle.json_exact.specs.Reasons.{carried_reason_in}
 use Rattle.net_class.specs.declared.error.ProjectError.{ProjectError}
 use Rattle.net_class.specs.declared.error.ProjectError.TheVariants.{Json, Shape, BadNumber, OutOfMemory}
 

@@ -2,7 +2,7 @@
 
 ghost use Rattle.std.specs.Prelude.{◌≡◌, map, find, IfOk};
 ghost use Rattle.std.specs.Option.{option_map};
-ghost use Rattle.drc_io.specs.Lengths.{IsLength};
+ghost use Rattle.plain_types.specs.Lengths.{IsLength};
 ghost use Rattle.json_exact.specs.Handles.{json_of};
 ghost use Rattle.net_class.specs.Classes.{class_named, pattern_of, class_by, class_of, greatest_of, greatest_clearance, plain_classes, plain_default};
 ghost use Rattle.net_class.specs.ClassesOf.{classes_of, with_rest};

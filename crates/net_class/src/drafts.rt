@@ -3,7 +3,7 @@
 ghost use Rattle.std.specs.Prelude.{◌≡◌, Some, map, find, IfOk, OnOk};
 ghost use Rattle.std.specs.Option.{option_map};
 ghost use Rattle.net_class.specs.ClassesOf.{is_named, with_written, default_clearance, class_from};
-ghost use Rattle.drc_io.specs.Lengths.{IsLengthIfSome};
+ghost use Rattle.plain_types.specs.Lengths.{IsLengthIfSome};
 ghost use Rattle.std.specs.String.{string_bytes};
 ghost use Rattle.net_class.specs.Views.{written_class, plain_class};
 

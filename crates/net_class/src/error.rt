@@ -1,6 +1,7 @@
 //! Why a project is refused.
 
-use json_exact::{JsonError, Reason};
+use json_exact::JsonError;
+use plain_types::Reason;
 use std::alloc::{AllocError, AllocFailed};
 use std::error::Error;
 use std::fmt;
@@ -21,7 +22,7 @@ pub enum ProjectError {
 
 impl ProjectError {
     ghost use Rattle.std.specs.Prelude.{◌≡◌};
-    ghost use Rattle.json_exact.specs.Reasons.{plain_reason};
+    ghost use Rattle.plain_types.specs.Reasons.{plain_reason};
     ghost use Rattle.net_class.specs.Reasons.{reason_in, name_of, code_of, place_of};
 
     fn reason(&self) -> Reason

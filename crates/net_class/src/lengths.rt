@@ -1,6 +1,6 @@
 //! Classes, patterns and least sizes. Each length is in nanometres, from 0 to 500 mm.
 
-ghost use Rattle.drc_io.specs.Lengths.{IsLength, IsLengthIfSome};
+ghost use Rattle.plain_types.specs.Lengths.{IsLength, IsLengthIfSome};
 
 use drc_io::Name;
 

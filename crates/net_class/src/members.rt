@@ -3,7 +3,7 @@
 ghost use Rattle.std.specs.Prelude.{◌≡◌, ℤ, IfOk, IfSome};
 ghost use Rattle.json_exact.specs.Json.{begins_at, is_object};
 ghost use Rattle.json_exact.specs.Handles.{json_of};
-ghost use Rattle.drc_io.specs.Lengths.{IsLength, IsLengthIfSome};
+ghost use Rattle.plain_types.specs.Lengths.{IsLength, IsLengthIfSome};
 ghost use Rattle.net_class.specs.Members.{unless_null, read_if, of_kind, member_in, object_in, list_in, entry_of, text_in, nanometres_at, length_at, length_in, length_or_none_at, length_or_none_in};
 ghost use Rattle.net_class.specs.Views.{json_if, json_in, Gives};
 
@@ -12,10 +12,8 @@ use crate::lengths::Nm;
 use drc_io::Name;
 use exact_dec::mm_near;
 use json_exact::Value;
+use plain_types::is_length;
 use std::alloc::Global;
-
-/// The greatest length: 500 mm.
-const GREATEST: Nm = 500_000_000;
 
 fn shape(v: Value<'_, '_>) -> ProjectError
     ensures { result ≡ ProjectError.Shape (begins_at (json_of v.entry)) }
@@ -140,7 +138,7 @@ fn length_at(v: Value<'_, '_>) -> Result<Nm, ProjectError>
     ensures in_range { IfOk result IsLength }
 {
     let n = nanometres_at(v)?;
-    if 0 <= n && n <= GREATEST {
+    if is_length(n) {
         Ok(n)
     } else {
         Err(bad_number(v))
@@ -174,7 +172,7 @@ fn length_or_none_at(v: Value<'_, '_>) -> Result<Option<Nm>, ProjectError>
     let n = nanometres_at(v)?;
     if n < 0 {
         Ok(None)
-    } else if n <= GREATEST {
+    } else if is_length(n) {
         Ok(Some(n))
     } else {
         Err(bad_number(v))

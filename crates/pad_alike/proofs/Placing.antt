@@ -17,7 +17,8 @@ use Rattle.part_read.specs.declared.numbers.Spot.{Spot}
 use Rattle.part_read.specs.declared.stances.Stance.{Stance}
 use Rattle.part_read.specs.declared.radii.Radius.{Radius}
 use Rattle.part_read.specs.declared.figures.Drawing.{Drawing}
-use Rattle.part_read.specs.OnBoard.{tested, is_length, fits_board}
+use Rattle.plain_types.specs.Lengths.{is_length}
+use Rattle.part_read.specs.OnBoard.{tested, fits_board}
 use Rattle.part_read.specs.Figures.{box_core, radius_of, around, added, drawn}
 use Rattle.part_read.proofs.Shapes.{one_point, one_shape, is_tested}
 use Rattle.pad_read.specs.declared.sizes.Sizes.{Sizes}

@@ -24,7 +24,8 @@ use Rattle.list_read.specs.Elements.{element}
 use Rattle.part_read.specs.Elements.{atom_of, in_needed}
 use Rattle.part_read.specs.LayersOf.{layers_named}
 use Rattle.part_read.specs.NetsOf.{net_of}
-use Rattle.part_read.specs.OnBoard.{tested, is_length, fits_board}
+use Rattle.plain_types.specs.Lengths.{is_length}
+use Rattle.part_read.specs.OnBoard.{tested, fits_board}
 use Rattle.part_read.specs.Figures.{around, parts_around, radius_of, radius_with, cores_of}
 use Rattle.part_read.specs.Ready.{IsReady}
 use Rattle.pad_read.specs.declared.sizes.Sizes.{Sizes}

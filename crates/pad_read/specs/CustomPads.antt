@@ -11,7 +11,7 @@ use Rattle.list_read.specs.Answers.{◌>>=◌, check}
 use Rattle.list_read.specs.Heads.{place, is_text, has_head}
 use Rattle.list_read.specs.Elements.{element}
 use Rattle.part_read.specs.Elements.{atom_of}
-use Rattle.part_read.specs.OnBoard.{is_length}
+use Rattle.plain_types.specs.Lengths.{is_length}
 use Rattle.part_read.specs.Figures.{is_ring, radius_with}
 use Rattle.part_read.specs.Drawings.{drawing_of}
 use Rattle.pad_read.specs.declared.sizes.Sizes.{Sizes}

@@ -4,7 +4,7 @@ use Rattle.std.specs.Prelude.{◌≡◌, ℕ, ℤ, pos, int_lt, Bool, true, fals
 use Rattle.std.proofs.Common.{subst}
 use Rattle.sexpr_read.specs.Tree.{Tree}
 use Rattle.geo_seg.specs.declared.shapes.Shape.{Shape}
-use Rattle.drc_io.specs.Lengths.{IsLengthIfSome}
+use Rattle.plain_types.specs.Lengths.{IsLengthIfSome, is_length}
 use Rattle.board_errors.specs.declared.errors.BoardError.{BoardError}
 use Rattle.board_errors.specs.declared.errors.BoardError.TheVariants.{OutOfBoard}
 use Rattle.copper_layers.specs.declared.set.LayerSet.{LayerSet}
@@ -20,7 +20,8 @@ use Rattle.list_read.specs.Answers.{◌>>=◌, needed}
 use Rattle.list_read.specs.Heads.{place, text_of}
 use Rattle.list_read.specs.Elements.{element}
 use Rattle.part_read.specs.Elements.{atom_of, in_needed, name_in}
-use Rattle.part_read.specs.OnBoard.{tested, is_length, fits_board, length_in_range}
+use Rattle.plain_types.proofs.LengthTests.{length_in_range}
+use Rattle.part_read.specs.OnBoard.{tested, fits_board}
 use Rattle.part_read.specs.LayersOf.{layers_named}
 use Rattle.part_read.specs.NetsOf.{net_of}
 use Rattle.part_read.specs.Stances.{stood}

@@ -51,7 +51,7 @@ least_number a b = if int_le a b then a else b
 unfoldable pub share_of : ℤ → Tree → Result ℤ BoardError
 share_of size atom = do
   text ← needed (BadNumber (place atom)) (content atom)
-  read_as (BadNumber (place atom)) (ratio_near_answer text (least_number size (pos 500000000)))
+  read_as (BadNumber (place atom)) (ratio_near_answer text (least_number size greatest))
 
 abbrev pub ratio_in : ℤ → Tree → Result ℤ BoardError
 ratio_in least atom = share_of least atom >>= λ share. Ok (least_number (pos 2 *ℤ share) least)

@@ -1,6 +1,7 @@
 //! The shapes of pads that are all within a radius of a box.
 
 ghost use Rattle.std.specs.Prelude.{◌≡◌, ◌≤◌, ◌≤ℤ◌, ◌+ℤ◌, ◌-ℤ◌, ◌*ℤ◌, pos, unsigned_abs, IfOk};
+ghost use Rattle.plain_types.specs.Lengths.{greatest};
 ghost use Rattle.sexpr_read.specs.Views.{tree_of};
 ghost use Rattle.part_read.specs.Stances.{IsWithin};
 ghost use Rattle.pad_read.specs.PadSizes.{AreRead, least_of};
@@ -13,11 +14,9 @@ use exact_dec::ratio_near;
 use geo_seg::{Point, Shape};
 use list_read::element;
 use part_read::{Spot, around, bad_number, box_core, first_atom, radius_of};
+use plain_types::GREATEST_LENGTH;
 use sexpr_read::Node;
 use std::alloc::{AllocError, Global};
-
-/// The greatest size that is not refused: 500 mm.
-const GREATEST: Nm = 500_000_000;
 
 /// A disc as wide as the first size.
 pub fn circle_cushion(sizes: Sizes) -> Cushion
@@ -94,12 +93,16 @@ pub fn turned_cushion(quarter: u32, cushion: Cushion) -> Cushion
 /// The smaller size, or 500 mm where it is above that.
 fn capped(sizes: Sizes) -> Nm
     requires { AreRead sizes }
-    ensures size { result ≡ least_number (least_of sizes) (pos 500000000) }
+    ensures size { result ≡ least_number (least_of sizes) greatest }
     ensures from { pos 0 ≤ℤ result }
-    ensures to { result ≤ℤ pos 500000000 }
+    ensures to { result ≤ℤ greatest }
 {
     let least = least_of(sizes);
-    if least <= GREATEST { least } else { GREATEST }
+    if least <= GREATEST_LENGTH {
+        least
+    } else {
+        GREATEST_LENGTH
+    }
 }
 
 /// The ratio times the smaller size, to the nearest nanometre.

@@ -1,6 +1,6 @@
 //! Custom pads.
 
-ghost use Rattle.std.specs.Prelude.{◌≡◌, ◌++◌, ◌∷◌, [], OnOk, IfOk, All};
+ghost use Rattle.std.specs.Prelude.{◌≡◌, ◌++◌, OnOk, IfOk, All};
 ghost use Rattle.sexpr_read.specs.Tree.{parts};
 ghost use Rattle.sexpr_read.specs.Views.{tree_of};
 ghost use Rattle.part_read.specs.Lists.{GivesItems};
@@ -17,6 +17,7 @@ use crate::sizes::{Cushion, Sizes};
 use board_items::BoardError;
 use list_read::{element, has_head, place};
 use part_read::{Drawing, Kind, drawing_of, first_atom, is_ring};
+use plain_types::one;
 use sexpr_read::Node;
 use std::alloc::{AllocError, Global};
 
@@ -36,14 +37,6 @@ fn primitive_kind(node: Node<'_, '_>) -> Option<Kind>
         return Some(Kind::Outline);
     }
     None
-}
-
-fn one_drawing(alloc: Global, drawing: Drawing) -> Result<Vec<Drawing>, AllocError>
-    ensures { IfOk result (λ drawings. drawings.items ≡ drawing ∷ []) }
-{
-    let mut drawings = Vec::with_capacity(alloc, 1)?;
-    drawings.push(drawing)?;
-    Ok(drawings)
 }
 
 /// What a primitive draws: an open circle is refused at the pad, and a curve where it stands.
@@ -66,7 +59,7 @@ fn primitive_by(
     if is_ring(&drawing) {
         return Err(BoardError::Ring { at: place(pad) });
     }
-    Ok(one_drawing(alloc, drawing)?)
+    Ok(one(alloc, drawing)?)
 }
 
 fn anchor_by_word(

@@ -1,7 +1,8 @@
 //! The holes of pads.
 
 ghost use Rattle.std.specs.Prelude.{◌≡◌, IfOk, IfSome};
-ghost use Rattle.part_read.specs.OnBoard.{tested, is_length};
+ghost use Rattle.plain_types.specs.Lengths.{is_length};
+ghost use Rattle.part_read.specs.OnBoard.{tested};
 ghost use Rattle.part_read.specs.Stances.{IsWithin};
 ghost use Rattle.pad_read.specs.PadSizes.{AreRead, least_of};
 ghost use Rattle.pad_read.specs.PadFrames.{IsFramed, is_plated};
@@ -14,7 +15,8 @@ use crate::turning::hole_sizes;
 use board_items::Hole;
 use copper_layers::LayerSet;
 use geo_seg::Shape;
-use part_read::{Spot, is_length};
+use part_read::Spot;
+use plain_types::is_length;
 use std::alloc::{AllocError, Global};
 
 fn is_plated(pad_type: PadType) -> bool

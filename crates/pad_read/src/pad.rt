@@ -34,9 +34,8 @@ use board_items::{Board, BoardError, Boxed, Hole, Item, Nm, Parts, What};
 use copper_layers::LayerSet;
 use drc_io::Name;
 use list_read::{element, name_from, place};
-use part_read::{
-    Spot, first_atom, fits_board, is_length, layers_named, missing, name_of_list, net_of,
-};
+use part_read::{Spot, first_atom, fits_board, layers_named, missing, name_of_list, net_of};
+use plain_types::is_length;
 use sexpr_read::Node;
 use std::alloc::{AllocError, Global};
 

@@ -4,7 +4,8 @@ ghost use Rattle.std.specs.Prelude.{◌≡◌, [], All};
 ghost use Rattle.part_read.specs.Figures.{IsDrawable};
 ghost use Rattle.pad_read.specs.CustomPads.{primitive_fits, primitives_fit};
 
-use part_read::{Drawing, Figure, is_length};
+use part_read::{Drawing, Figure};
+use plain_types::is_length;
 use std::alloc::Global;
 use std::marker::Model;
 

@@ -10,7 +10,8 @@ use crate::sizes::{Drilling, Sizes, are_equal};
 use crate::words::has_hole;
 use board_items::Nm;
 use copper_layers::LayerSet;
-use part_read::{Spot, is_length};
+use part_read::Spot;
+use plain_types::is_length;
 
 /// The sizes of the hole of a pad, if it has one.
 pub fn hole_sizes(pad_type: PadType, sizes: Option<Sizes>) -> Option<Sizes>

@@ -1,7 +1,7 @@
 //! Rows.
 
 ghost use Rattle.std.specs.Prelude.{◌≡◌, ◌↔◌, IsTrue};
-ghost use Rattle.drc_io.specs.Lengths.{IsLength};
+ghost use Rattle.plain_types.specs.Lengths.{IsLength};
 ghost use Rattle.kind_subjects.specs.KindLayers.{IsLayerOf};
 ghost use Rattle.kind_subjects.specs.Lengths.{IsWithin};
 ghost use Rattle.pair_check.specs.PlainRow.{AreInOrder, Counts};

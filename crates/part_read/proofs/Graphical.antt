@@ -30,7 +30,8 @@ use Rattle.list_read.specs.Heads.{place}
 use Rattle.list_read.specs.Elements.{element}
 use Rattle.part_read.specs.Elements.{atom_of, name_among, name_in}
 use Rattle.board_errors.specs.declared.errors.BoardError.TheVariants.{Missing, OutOfBoard, Ring}
-use Rattle.part_read.specs.OnBoard.{tested, is_length, fits_board, point_at}
+use Rattle.plain_types.specs.Lengths.{is_length}
+use Rattle.part_read.specs.OnBoard.{tested, fits_board, point_at}
 use Rattle.part_read.specs.NetsOf.{declared_in, net_among, net_of}
 use Rattle.part_read.specs.Numbers.{number_in, spot_of}
 use Rattle.part_read.specs.Stances.{stood, point_stood, with_point, points_stood}

@@ -1,7 +1,7 @@
 -- Plain items from what was read of them.
 use Rattle.std.proofs.Common.{◌≡◌, ◌∙◌, refl, ap, subst, ℕ, ℤ, List, None, false, arith}
 use Rattle.std.proofs.Props.{props}
-use Rattle.drc_io.specs.Lengths.{IsLengthIfSome}
+use Rattle.plain_types.specs.Lengths.{IsLengthIfSome}
 use Rattle.board_items.specs.declared.parts.Part.{Part}
 use Rattle.board_items.specs.declared.item.What.{What}
 use Rattle.board_items.specs.declared.item.Item.{Item}

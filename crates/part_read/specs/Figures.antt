@@ -8,7 +8,7 @@ use Rattle.geo_seg.specs.declared.points.Seg.{Seg}
 use Rattle.geo_seg.specs.declared.shapes.Core.{Core}
 use Rattle.geo_seg.specs.declared.shapes.Core.TheVariants.{Line as LineCore, Area}
 use Rattle.geo_seg.specs.declared.shapes.Shape.{Shape}
-use Rattle.drc_io.specs.Lengths.{IsLength}
+use Rattle.plain_types.specs.Lengths.{IsLength, is_length}
 use Rattle.copper_layers.specs.declared.set.LayerSet.{LayerSet}
 use Rattle.board_items.specs.declared.parts.Part.{Part}
 use Rattle.part_read.specs.declared.numbers.Spot.{Spot}
@@ -17,7 +17,8 @@ use Rattle.part_read.specs.declared.figures.Figure.{Figure}
 use Rattle.part_read.specs.declared.figures.Figure.TheVariants.{Line, Rect, Circle, Outline}
 use Rattle.part_read.specs.declared.figures.Drawing.{Drawing}
 use Rattle.part_read.specs.declared.radii.Radius.{Radius}
-use Rattle.part_read.specs.OnBoard.{tested, is_length, length_in_range}
+use Rattle.plain_types.proofs.LengthTests.{length_in_range}
+use Rattle.part_read.specs.OnBoard.{tested}
 use Rattle.part_read.specs.Stances.{IsWithin, point_stood, points_stood}
 
 -- ---- cores of points

@@ -2,13 +2,13 @@
 -- and a shape are made where the test holds. They count half nanometres, so a coordinate is doubled, and half of a width is the
 -- width itself.
 use Rattle.std.specs.Prelude.{◌≡◌, ℤ, pos, ◌*ℤ◌, ◌≤◌, unsigned_abs, Bool, true, false, ◌&&◌, Option, None, Some, refl}
-use Rattle.std.specs.Int.Signed.{le_z}
 use Rattle.geo_seg.specs.declared.points.Point.{Point}
 use Rattle.geo_seg.specs.declared.shapes.Core.{Core}
 use Rattle.geo_seg.specs.declared.shapes.Core.TheVariants.{Line}
 use Rattle.geo_seg.specs.declared.shapes.Shape.{Shape}
-use Rattle.drc_io.specs.Lengths.{IsLength}
-use Rattle.int_algebra.proofs.Tested.{front, back, le_by_test, doubled_by_tests}
+use Rattle.plain_types.specs.Lengths.{IsLength, is_length}
+use Rattle.plain_types.proofs.LengthTests.{length_in_range}
+use Rattle.int_algebra.proofs.Tested.{front, back, doubled_by_tests}
 use Rattle.board_items.specs.Boards.{is_near}
 use Rattle.part_read.specs.declared.numbers.Spot.{Spot}
 use Rattle.part_read.specs.declared.on_board.Strip.{Strip}
@@ -17,13 +17,6 @@ use Rattle.part_read.specs.declared.on_board.Strip.{Strip}
 abbrev pub tested : {A : Type 0} (test : Bool) → (test ≡ true → A) → Option A
 tested true make = Some (make refl)
 tested false make = None
-
--- 0 to 500 mm
-abbrev pub is_length : ℤ → Bool
-is_length n = le_z (pos 0) n && le_z n (pos 500000000)
-
-pub length_in_range : (n : ℤ) → is_length n ≡ true → IsLength n
-length_in_range n h = record { from = le_by_test (pos 0) n (front _ _ h); to = le_by_test n (pos 500000000) (back _ _ h) }
 
 pub doubled_in_range : (z : ℤ) → is_near z ≡ true → unsigned_abs (pos 2 *ℤ z) ≤ 1000000000
 doubled_in_range z h = doubled_by_tests z (front _ _ h) (back _ _ h)

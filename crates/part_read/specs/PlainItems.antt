@@ -1,7 +1,7 @@
 -- Items without a hole, a clearance of their own, or lengths.
 use Rattle.std.specs.Prelude.{◌≡◌, ℕ, Bool, true, false, List, None}
 use Rattle.std.proofs.Common.{ap}
-use Rattle.drc_io.specs.Lengths.{IsLengthIfSome}
+use Rattle.plain_types.specs.Lengths.{IsLengthIfSome}
 use Rattle.board_items.specs.declared.parts.Part.{Part}
 use Rattle.board_items.specs.declared.item.What.{What}
 use Rattle.board_items.specs.declared.item.What.TheVariants.{Track, Via}

@@ -1,7 +1,7 @@
 //! What graphics draw, and the parts that they give where they lie on a board.
 
 ghost use Rattle.std.specs.Prelude.{◌≡◌, ◌<◌, ◌≤◌, pos, ◌∷◌, ◌++◌, [], true, OnOk, Some, None, if◌then◌else◌, length, option_map, IfOk};
-ghost use Rattle.part_read.specs.OnBoard.{is_length};
+ghost use Rattle.plain_types.specs.Lengths.{is_length};
 ghost use Rattle.part_read.specs.Stances.{IsWithin};
 ghost use Rattle.part_read.specs.declared.figures.Figure.{Figure};
 ghost use Rattle.part_read.specs.declared.figures.Drawing.{Drawing};
@@ -9,13 +9,13 @@ ghost use Rattle.part_read.specs.Figures.{sides, box_corners, box_core, line_cor
 
 use crate::corners::Corners;
 use crate::numbers::Spot;
-use crate::on_board::is_length;
 use crate::radii::Radius;
 use crate::rounding::{around, radius_of};
 use crate::stances::{Stance, point_stood, points_stood};
 use board_items::{Nm, Part, Parts};
 use copper_layers::LayerSet;
 use geo_seg::{Core, Point, Poly, Seg, Shape};
+use plain_types::{is_length, one};
 use smallvec::SmallVec;
 use std::alloc::{AllocError, Global};
 
@@ -39,14 +39,6 @@ pub struct Drawing {
 }
 
 // ---- cores
-
-fn one_core(alloc: Global, core: Core) -> Result<Vec<Core>, AllocError>
-    ensures { IfOk result (λ cores. cores.items ≡ core ∷ []) }
-{
-    let mut cores = Vec::with_capacity(alloc, 1)?;
-    cores.push(core)?;
-    Ok(cores)
-}
 
 // The lines between the corners, of which there is one at least.
 fn side_cores(alloc: Global, corners: &[Point]) -> Result<Vec<Core>, AllocError>
@@ -99,7 +91,7 @@ fn line_between(
     let Some(b) = q else {
         return Ok(None);
     };
-    Ok(Some(one_core(alloc, Core::Line(Seg { a, b }))?))
+    Ok(Some(one(alloc, Core::Line(Seg { a, b }))?))
 }
 
 fn box_between(
@@ -117,7 +109,7 @@ fn box_between(
         return Ok(None);
     };
     if filled {
-        return Ok(Some(one_core(alloc, box_core(alloc, a, b)?)?));
+        return Ok(Some(one(alloc, box_core(alloc, a, b)?)?));
     }
     let corners = box_corners(a, b);
     Ok(Some(side_cores(alloc, &corners)?))
@@ -128,7 +120,7 @@ fn cores_around(alloc: Global, filled: bool, points: Vec<Point>) -> Result<Vec<C
     ensures { IfOk result (λ cores. Some cores.items ≡ cores_around filled (Some points.items)) }
 {
     if filled {
-        return one_core(alloc, Core::Area(Poly::indexed(alloc, points)?));
+        return one(alloc, Core::Area(Poly::indexed(alloc, points)?));
     }
     side_cores(alloc, &points)
 }

@@ -26,6 +26,7 @@ use copper_layers::LayerSet;
 use drc_io::Name;
 use geo_seg::Shape;
 use list_read::{element, naming, place};
+use plain_types::one;
 use sexpr_read::Node;
 use smallvec::SmallVec;
 use std::alloc::{AllocError, Global};
@@ -215,14 +216,6 @@ pub fn name_of_list(alloc: Global, node: Node<'_, '_>) -> Result<Name, AllocErro
 
 // ---- by where they lie
 
-fn one_item(alloc: Global, item: Item) -> Result<Vec<Item>, AllocError>
-    ensures { IfOk result (λ items. items.items ≡ item ∷ []) }
-{
-    let mut items = Vec::with_capacity(alloc, 1)?;
-    items.push(item)?;
-    Ok(items)
-}
-
 /// The items that a graphic gives by where it lies: one on copper or on Edge.Cuts, and none elsewhere.
 fn graphic_by(
     alloc: Global,
@@ -241,11 +234,11 @@ fn graphic_by(
     match lies {
         Ground::Copper(layer) => {
             let item = copper_graphic(alloc, board, unit, stance, kind, layer, node)?;
-            Ok(one_item(alloc, item)?)
+            Ok(one(alloc, item)?)
         }
         Ground::Outlines => {
             let item = edge_graphic(alloc, unit, stance, kind, node)?;
-            Ok(one_item(alloc, item)?)
+            Ok(one(alloc, item)?)
         }
         Ground::Front | Ground::Back | Ground::Elsewhere => Ok(Vec::new(alloc)),
     }
@@ -274,7 +267,7 @@ fn text_by(
     match lies {
         Ground::Copper(_) => {
             let note = note_of(alloc, unit, about, node)?;
-            Ok(one_item(alloc, note)?)
+            Ok(one(alloc, note)?)
         }
         Ground::Outlines | Ground::Front | Ground::Back | Ground::Elsewhere => {
             Ok(Vec::new(alloc))

@@ -38,7 +38,7 @@ pub use nets::{declared_in, net_of};
 pub use numbers::{
     Spot, length_in, number_in, size_at, size_given, size_in, size_of, spot_at, spot_of,
 };
-pub use on_board::{Strip, fits_board, is_length, point_at, strip_shape};
+pub use on_board::{Strip, fits_board, point_at, strip_shape};
 pub use radii::Radius;
 pub use rounding::{around, no_radius, radius_of};
 pub use stances::{Stance, point_stood, points_stood, stand};

@@ -1,15 +1,12 @@
 //! Points and shapes, from numbers in nanometres.
 
 ghost use Rattle.std.specs.Prelude.{◌≡◌, true, ◌*ℤ◌, pos};
-ghost use Rattle.board_items.specs.Boards.{is_near};
-ghost use Rattle.part_read.specs.OnBoard.{tested, is_length, fits_board, point_at, is_strip, strip_shape};
+ghost use Rattle.part_read.specs.OnBoard.{tested, fits_board, point_at, is_strip, strip_shape};
 
 use crate::numbers::Spot;
-use board_items::Nm;
+use board_items::{Nm, is_near};
 use geo_seg::{Core, Point, Seg, Shape};
-
-/// The greatest coordinate and the greatest length: 500 mm.
-const GREATEST: Nm = 500_000_000;
+use plain_types::is_length;
 
 /// A line, with all that lies within half its width, in nanometres. It may lie off the board.
 #[derive(Clone, Copy, Debug, PartialEq, Eq, Drop)]
@@ -19,24 +16,11 @@ pub struct Strip {
     pub width: Nm,
 }
 
-/// Whether it is 0 to 500 mm.
-pub fn is_length(n: Nm) -> bool
-    ensures { result ≡ is_length n }
-{
-    0 <= n && n <= GREATEST
-}
-
 /// Whether the spot is at most 500 mm from 0 in x and in y.
 pub fn fits_board(spot: Spot) -> bool
     ensures { result ≡ fits_board spot }
 {
     is_near(spot.x) && is_near(spot.y)
-}
-
-fn is_near(n: Nm) -> bool
-    ensures { result ≡ is_near n }
-{
-    -GREATEST <= n && n <= GREATEST
 }
 
 /// The point at a spot, unless it lies off the board.

@@ -1,13 +1,13 @@
 //! Shapes around cores.
 
 ghost use Rattle.std.specs.Prelude.{◌≡◌};
-ghost use Rattle.part_read.specs.OnBoard.{is_length};
+ghost use Rattle.plain_types.specs.Lengths.{is_length};
 ghost use Rattle.part_read.specs.Figures.{radius_of, no_radius, around};
 
-use crate::on_board::is_length;
 use crate::radii::Radius;
 use board_items::Nm;
 use geo_seg::{Core, Shape};
+use plain_types::is_length;
 
 /// The radius, unless it is above 500 mm in diameter, or negative.
 pub fn radius_of(width: Nm) -> Option<Radius>

@@ -6,7 +6,7 @@ use Rattle.std.proofs.Math.Dec.{T_prop}
 use mathlib.Core.Bool.{Bool-set}
 use Rattle.int_algebra.proofs.Tested.{front, back}
 use Rattle.geo_seg.specs.declared.shapes.Shape.{Shape}
-use Rattle.drc_io.specs.Lengths.{IsLength, IsLengthIfSome}
+use Rattle.plain_types.specs.Lengths.{IsLength, IsLengthIfSome}
 use Rattle.copper_layers.specs.declared.set.LayerSet.{LayerSet}
 use Rattle.board_items.specs.declared.parts.Part.{Part}
 use Rattle.board_items.specs.declared.item.Hole.{Hole}
@@ -19,7 +19,8 @@ use Rattle.copper_layers.specs.Layers.{is_within}
 use Rattle.board_items.specs.Parts.{hole_parts}
 use Rattle.board_items.specs.Boards.{PlainBoard, name_of, is_near, is_on_board, has_layers_of, is_admitted}
 use Rattle.part_read.specs.declared.on_board.Strip.{Strip}
-use Rattle.part_read.specs.OnBoard.{tested, length_in_range, is_strip, strip_shape}
+use Rattle.plain_types.proofs.LengthTests.{length_in_range}
+use Rattle.part_read.specs.OnBoard.{tested, is_strip, strip_shape}
 use Rattle.pcb_read.specs.declared.items.Origin.{Origin}
 use Rattle.pcb_read.specs.declared.items.ViaForm.{ViaForm}
 use Rattle.pcb_read.specs.Tracks.{track_along, disc, is_hole, is_drill, hole_by, hole_through, drill_in_range, via_at}

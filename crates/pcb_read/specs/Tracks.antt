@@ -3,7 +3,7 @@ use Rattle.std.specs.Prelude.{◌≡◌, ℕ, ℤ, pos, [], ◌∷◌, codes, Bo
 use Rattle.std.proofs.lemmas.Option.{none-some}
 use Rattle.sexpr_read.specs.Tree.{Tree}
 use Rattle.int_algebra.proofs.Tested.{front, back}
-use Rattle.drc_io.specs.Lengths.{IsLength, IsLengthIfSome}
+use Rattle.plain_types.specs.Lengths.{IsLength, IsLengthIfSome}
 use Rattle.board_errors.specs.declared.errors.BoardError.{BoardError}
 use Rattle.board_errors.specs.declared.errors.BoardError.TheVariants.{OutOfBoard}
 use Rattle.copper_layers.specs.declared.set.LayerSet.{LayerSet}
@@ -23,7 +23,8 @@ use Rattle.part_read.specs.Elements.{name_in, in_needed, in_given}
 use Rattle.part_read.specs.Numbers.{spot_of, size_at, size_of}
 use Rattle.part_read.specs.LayersOf.{layer_of, layers_through}
 use Rattle.part_read.specs.NetsOf.{net_of}
-use Rattle.part_read.specs.OnBoard.{tested, length_in_range, is_strip, strip_shape}
+use Rattle.plain_types.proofs.LengthTests.{length_in_range}
+use Rattle.part_read.specs.OnBoard.{tested, is_strip, strip_shape}
 
 -- a length that is missing has no range
 abbrev pub no_length : IsLengthIfSome None

@@ -1,6 +1,6 @@
 //! The items of a list of a board, by its sort.
 
-ghost use Rattle.std.specs.Prelude.{◌≡◌, ◌∷◌, [], All, IfOk, Result, Ok};
+ghost use Rattle.std.specs.Prelude.{◌≡◌, All, IfOk, Result, Ok};
 ghost use Rattle.board_items.specs.Boards.{IsSound};
 ghost use Rattle.sexpr_read.specs.Views.{tree_of};
 ghost use Rattle.board_errors.specs.declared.errors.BoardError.{BoardError};
@@ -19,6 +19,7 @@ use board_items::{About, Board, BoardError, Item};
 use footprint_read::read_footprint;
 use list_read::place;
 use part_read::{Kind, Spot, Stance, curve_by, ground_of, read_graphic, read_text};
+use plain_types::one;
 use sexpr_read::Node;
 use std::alloc::{AllocError, Global};
 use zone_read::read_zone;
@@ -51,14 +52,6 @@ fn in_room(
     Ok(items)
 }
 
-fn one_item(alloc: Global, item: Item) -> Result<Vec<Item>, AllocError>
-    ensures { IfOk result (λ items. items.items ≡ item ∷ []) }
-{
-    let mut items = Vec::with_capacity(alloc, 1)?;
-    items.push(item)?;
-    Ok(items)
-}
-
 /// The one item that was read of a list, where there is room for it.
 fn one_in_room(
     alloc: Global,
@@ -71,7 +64,7 @@ fn one_in_room(
     ensures items { (said : Result Item BoardError) → Gives answer said → GivesItems result (in_room board.now unit (tree_of node.entry) (one_item said)) }
     ensures ready { IfOk result (λ items. AreReady board.now unit items.items) }
 {
-    let items = one_item(alloc, answer?)?;
+    let items = one(alloc, answer?)?;
     in_room(board, unit, node, items)
 }
 

@@ -6,7 +6,7 @@ use Rattle.std.proofs.lemmas.Int.{ints}
 use Rattle.int_algebra.proofs.Tested.{front, back, le_by_test}
 use Rattle.exact_dec.specs.Reading.{is_far}
 use Rattle.geo_seg.specs.declared.shapes.Shape.{Shape}
-use Rattle.drc_io.specs.Lengths.{IsLength, IsLengthIfSome}
+use Rattle.plain_types.specs.Lengths.{IsLength, IsLengthIfSome}
 use Rattle.board_errors.specs.declared.errors.BoardError.{BoardError}
 use Rattle.copper_layers.specs.declared.set.LayerSet.{LayerSet}
 use Rattle.board_items.specs.declared.parts.Part.{Part}

@@ -4,7 +4,7 @@ use Rattle.std.proofs.Props.{props}
 use Rattle.std.proofs.lemmas.Bool.{cases_eq}
 use Rattle.std.proofs.lemmas.Nat.Bits.{bit_at-lt, same_from_bits}
 use Rattle.std.specs.Int.{bit_at}
-use Rattle.drc_io.specs.Lengths.{IsLength}
+use Rattle.plain_types.specs.Lengths.{IsLength}
 use Rattle.copper_layers.specs.declared.set.LayerSet.{LayerSet}
 use Rattle.board_items.specs.declared.item.Item.{Item}
 use Rattle.board_items.specs.declared.item.What.{What}

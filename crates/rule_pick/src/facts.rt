@@ -1,6 +1,6 @@
 //! What rules may ask of an item.
 
-ghost use Rattle.drc_io.specs.Lengths.{IsLength};
+ghost use Rattle.plain_types.specs.Lengths.{IsLength};
 
 use crate::kinds::ItemKind;
 use crate::lengths::LengthIf;

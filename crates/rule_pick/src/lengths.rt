@@ -1,7 +1,7 @@
 //! Lengths.
 
 ghost use Rattle.std.specs.Prelude.{◌≡◌, Some};
-ghost use Rattle.drc_io.specs.Lengths.{IsLength, IsLengthIfSome};
+ghost use Rattle.plain_types.specs.Lengths.{IsLength, IsLengthIfSome};
 ghost use Rattle.rule_pick.specs.KeptLengths.{length_of};
 
 use board_items::Nm;
@@ -27,7 +27,7 @@ const _: () = prove!(size_of::<LengthIf>() == 4);
 
 impl Model for LengthIf {
     ghost use Rattle.std.specs.Prelude.{ℤ, Option};
-    ghost use Rattle.drc_io.specs.Lengths.{IsLengthIfSome};
+    ghost use Rattle.plain_types.specs.Lengths.{IsLengthIfSome};
     ghost use Rattle.rule_pick.specs.KeptLengths.{length_of};
 
     ghost Value = { Option ℤ };

@@ -1,6 +1,6 @@
 //! What was picked.
 
-ghost use Rattle.drc_io.specs.Lengths.{IsLength, IsLengthIfSome};
+ghost use Rattle.plain_types.specs.Lengths.{IsLength, IsLengthIfSome};
 
 use crate::kinds::Source;
 use board_items::Nm;

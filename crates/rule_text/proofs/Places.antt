@@ -18,7 +18,8 @@ use Rattle.list_read.specs.Answers.{◌>>=◌, needed, check}
 use Rattle.list_read.specs.Heads.{place, text_of, is_text, has_head, has_word_head, behind_head}
 use Rattle.rule_text.specs.Forms.{bad, as_atom, second_among, name_at, single_among, atom_at, clauses}
 use Rattle.rule_text.specs.LayersOf.{layer_named, layer_in}
-use Rattle.rule_text.specs.Limits.{kind_named, is_length, length_from, length_in, PlainLimits, with_least, with_wished, with_most, with_limit, with_limits, unlimited, bans_nothing, with_ban, with_bans, cond_from, cond_in}
+use Rattle.plain_types.specs.Lengths.{is_length}
+use Rattle.rule_text.specs.Limits.{kind_named, length_from, length_in, PlainLimits, with_least, with_wished, with_most, with_limit, with_limits, unlimited, bans_nothing, with_ban, with_bans, cond_from, cond_in}
 use Rattle.rule_text.specs.RulesOf.{PlainRules, PlainDraft, severity_named, severity_in, limited, banned, claim_among, claimed, constraint_by, constraint_in, has_kind, with_layer, with_severity, with_cond, with_kind, with_constraint, with_clause, with_clauses, is_asked, blank, with_rule, with_rules, is_version, no_rules, rules_of}
 use Rattle.rule_text.specs.ListText.{no_form, nothing_more, list_among, list_of}
 use Rattle.rule_text.specs.Short.{AllShort, IsShort}

@@ -1,5 +1,6 @@
 -- What a constraint says of its kind: lengths, or words of what is banned, or a condition.
-use Rattle.std.specs.Prelude.{ℕ, ℤ, pos, int_le, List, [], ◌∷◌, codes, Bool, true, false, ◌&&◌, is_some, Option, None, Some, Result, Ok, Err, if◌then◌else◌}
+use Rattle.std.specs.Prelude.{ℕ, ℤ, List, [], ◌∷◌, codes, Bool, true, false, is_some, Option, None, Some, Result, Ok, Err, if◌then◌else◌}
+use Rattle.plain_types.specs.Lengths.{is_length}
 use Rattle.sexpr_read.specs.Tree.{Tree, content}
 use Rattle.exact_dec.specs.declared.DecError.{DecError}
 use Rattle.exact_dec.specs.Computed.{with_unit_answer}
@@ -37,10 +38,6 @@ kind_named atom =
     else None
 
 -- ---- lengths
-
--- from 0 to 500 mm
-abbrev pub is_length : ℤ → Bool
-is_length n = int_le (pos 0) n && int_le n (pos 500000000)
 
 abbrev pub length_from : RuleError → Result ℤ DecError → Result ℤ RuleError
 length_from e (Ok n) = if is_length n then Ok n else Err e

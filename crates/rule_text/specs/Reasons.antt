@@ -1,7 +1,8 @@
 -- What a refusal is called, its code, and its places: a report writes `NAME (CODE) at PLACE`, and for a condition
 -- `NAME (CODE) at PLACE + INNER`.
 use Rattle.std.specs.Prelude.{ℕ, List, Option, None, codes}
-use Rattle.sexpr_read.specs.Reasons.{PlainReason, reason_at, reason_alone, written, carried_reason_in}
+use Rattle.plain_types.specs.Reasons.{PlainReason, reason_at, reason_alone, written}
+use Rattle.sexpr_read.specs.Reasons.{carried_reason_in}
 use Rattle.cond_lang.specs.Reasons.{place_of as cond_place_of, carried_reason_in as carried_cond_reason_in}
 use Rattle.rule_text.specs.declared.error.RuleError.{RuleError}
 use Rattle.rule_text.specs.declared.error.RuleError.TheVariants.{Text, Version, Bad, Cond, BadNumber, OutOfMemory}

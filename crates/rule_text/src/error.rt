@@ -1,7 +1,8 @@
 //! Why a rule file is refused.
 
 use cond_lang::CondError;
-use sexpr_read::{Reason, TextError};
+use plain_types::Reason;
+use sexpr_read::TextError;
 use std::alloc::{AllocError, AllocFailed};
 use std::error::Error;
 use std::fmt;
@@ -26,7 +27,7 @@ pub enum RuleError {
 
 impl RuleError {
     ghost use Rattle.std.specs.Prelude.{◌≡◌};
-    ghost use Rattle.sexpr_read.specs.Reasons.{plain_reason};
+    ghost use Rattle.plain_types.specs.Reasons.{plain_reason};
     ghost use Rattle.rule_text.specs.Reasons.{reason_in, name_of, code_of, place_of, inner_place_of};
 
     /// Its name, its number and its place.

@@ -1,7 +1,7 @@
 //! The lengths of a constraint.
 
 ghost use Rattle.std.specs.Prelude.{◌≡◌};
-ghost use Rattle.drc_io.specs.Lengths.{IsLengthIfSome};
+ghost use Rattle.plain_types.specs.Lengths.{IsLengthIfSome};
 ghost use Rattle.sexpr_read.specs.Views.{tree_of, trees_left};
 ghost use Rattle.list_read.specs.Heads.{place};
 ghost use Rattle.rule_text.specs.Forms.{clauses};
@@ -13,10 +13,8 @@ use crate::forms::{atom_at, bad, clauses};
 use crate::limits::{Length, Limits};
 use exact_dec::{Nm, with_unit};
 use list_read::{has_head, place};
+use plain_types::is_length;
 use sexpr_read::Node;
-
-/// 500 mm.
-const LONGEST: Nm = 500_000_000;
 
 /// BadNumber, at this atom.
 fn bad_number(atom: Node<'_, '_>) -> RuleError
@@ -34,7 +32,7 @@ fn length_in(atom: Node<'_, '_>) -> Result<Length, RuleError>
         return Err(bad_number(atom));
     };
     match with_unit(text) {
-        Ok(nm) if 0 <= nm && nm <= LONGEST => Ok(Length { nm }),
+        Ok(nm) if is_length(nm) => Ok(Length { nm }),
         _ => Err(bad_number(atom)),
     }
 }

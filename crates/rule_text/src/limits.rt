@@ -1,6 +1,6 @@
 //! What is known so far of the lengths of a constraint.
 
-ghost use Rattle.drc_io.specs.Lengths.{IsLength};
+ghost use Rattle.plain_types.specs.Lengths.{IsLength};
 
 use exact_dec::Nm;
 

@@ -17,6 +17,6 @@ mod room;
 mod runs;
 mod view;
 
-pub use place::{Reason, Span, TextError};
+pub use place::{Span, TextError};
 pub use reader::{parse_all, parse_one};
 pub use view::{Children, Doc, Node};

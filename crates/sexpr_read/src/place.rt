@@ -1,3 +1,4 @@
+use plain_types::{Reason, Reasons, reasons};
 use std::alloc::AllocError;
 use std::error::Error;
 use std::fmt;
@@ -29,69 +30,25 @@ pub enum TextError {
     OutOfMemory,
 }
 
-/// What a refusal is called, its number, and its byte of the text where it has one.
-#[derive(Clone, Copy, Debug, Drop, PartialEq, Eq)]
-pub struct Reason {
-    pub name: &'static str,
-    pub code: &'static str,
-    pub place: Option<u32>,
-}
-
-impl Reason {
-    ghost use Rattle.std.specs.Prelude.{◌≡◌};
-    ghost use Rattle.sexpr_read.specs.Reasons.{plain_reason};
-
-    /// A name, a number and a place.
-    pub fn new(name: &'static str, code: &'static str, place: Option<u32>) -> Reason
-        ensures { plain_reason result ≡ record { name = name.now; code = code.now; place = place } }
-    {
-        Reason { name, code, place }
-    }
-}
-
-// The reason of a refusal of the text by itself, and as the first reason of an error that carries it.
-#[derive(Clone, Copy, Drop)]
-struct Reasons {
-    own: Reason,
-    carried: Reason,
-}
-
-// A row of their table.
-macro_rules! reasons {
-    ($name:literal, $code:literal, $place:expr) => {
-        Reasons {
-            own: Reason {
-                name: $name,
-                code: $code,
-                place: $place,
-            },
-            carried: Reason {
-                name: concat!("Text.", $name),
-                code: concat!("1.", $code),
-                place: $place,
-            },
-        }
-    };
-}
-
 impl TextError {
     ghost use Rattle.std.specs.Prelude.{◌≡◌};
-    ghost use Rattle.sexpr_read.specs.Reasons.{plain_reason, reason_in, carried_reason_in, name_of, code_of, place_of};
+    ghost use Rattle.plain_types.specs.Reasons.{plain_reason};
+    ghost use Rattle.sexpr_read.specs.Reasons.{reason_in, carried_reason_in, name_of, code_of, place_of};
 
     // Want of memory has no number, which is written 0, and no place. An empty text is refused at 0.
     fn reasons(&self) -> Reasons
         ensures own { plain_reason result.own ≡ reason_in self.now }
         ensures carried { plain_reason result.carried ≡ carried_reason_in self.now }
     {
-        match self {
-            TextError::NotUtf8 { at } => reasons!("NotUtf8", "1", Some(*at)),
-            TextError::CloseWithoutOpen { at } => reasons!("CloseWithoutOpen", "2", Some(*at)),
-            TextError::EndInside { at } => reasons!("EndInside", "3", Some(*at)),
-            TextError::TooDeep { at } => reasons!("TooDeep", "4", Some(*at)),
-            TextError::ExtraText { at } => reasons!("ExtraText", "5", Some(*at)),
-            TextError::EmptyText => reasons!("EmptyText", "6", Some(0)),
-            TextError::OutOfMemory => reasons!("OutOfMemory", "0", None),
-        }
+        reasons!(self, "Text.", "1.", {
+            TextError::NotUtf8 { at } => ("NotUtf8", "1", Some(*at)),
+            TextError::CloseWithoutOpen { at } => ("CloseWithoutOpen", "2", Some(*at)),
+            TextError::EndInside { at } => ("EndInside", "3", Some(*at)),
+            TextError::TooDeep { at } => ("TooDeep", "4", Some(*at)),
+            TextError::ExtraText { at } => ("ExtraText", "5", Some(*at)),
+            TextError::EmptyText => ("EmptyText", "6", Some(0)),
+            TextError::OutOfMemory => ("OutOfMemory", "0", None),
+        })
     }
 
     /// Its reason as the first of an error that carries it: `Text.` stands before its name and `1.` before its number.

@@ -1,6 +1,7 @@
 -- What the refusals of steps are called, their codes and places. That of a command stands behind a point.
 use Rattle.std.specs.Prelude.{ℕ, List, ◌++◌, Option, None, codes}
-use Rattle.drc_state.specs.Reasons.{PlainReason, reason_alone, reason_behind, written, edit_reason_in, edit_inner_place_of}
+use Rattle.plain_types.specs.Reasons.{PlainReason, reason_alone, reason_behind, written}
+use Rattle.drc_state.specs.Reasons.{edit_reason_in, edit_inner_place_of}
 use Rattle.undo_log.specs.declared.error.ReasonInThree.{ReasonInThree}
 use Rattle.undo_log.specs.declared.error.HistoryError.{HistoryError}
 use Rattle.undo_log.specs.declared.error.HistoryError.TheVariants.{Edit, NothingToUndo, NothingToRedo, Stopped, OutOfMemory}

@@ -1,7 +1,8 @@
 //! Why a step of a history is not taken.
 
 ghost use Rattle.std.specs.Prelude.{◌≡◌};
-ghost use Rattle.drc_state.specs.Reasons.{reason_in_one, reason_alone, reason_behind};
+ghost use Rattle.plain_types.specs.Reasons.{reason_alone, reason_behind};
+ghost use Rattle.drc_state.specs.Reasons.{reason_in_one};
 ghost use Rattle.undo_log.specs.Reasons.{three_in_one};
 
 use drc_state::{EditError, InTwo, ReasonInTwo};

@@ -1,6 +1,6 @@
 -- What a refusal of a trial is called, and its number.
 use Rattle.std.specs.Prelude.{ℕ, List, codes}
-use Rattle.board_errors.specs.Reasons.{PlainReason, reason_alone, written}
+use Rattle.plain_types.specs.Reasons.{PlainReason, reason_alone, written}
 use Rattle.what_if.specs.declared.error.TrialError.{TrialError}
 use Rattle.what_if.specs.declared.error.TrialError.TheVariants.{Refused, OutOfMemory}
 

@@ -1,7 +1,7 @@
 //! Why there is no trial.
 
-use board_errors::Reason;
 use drc_state::EditError;
+use plain_types::Reason;
 use std::alloc::AllocError;
 use std::error::Error;
 use std::fmt;
@@ -17,7 +17,7 @@ pub enum TrialError {
 
 impl TrialError {
     ghost use Rattle.std.specs.Prelude.{◌≡◌};
-    ghost use Rattle.board_errors.specs.Reasons.{plain_reason};
+    ghost use Rattle.plain_types.specs.Reasons.{plain_reason};
     ghost use Rattle.what_if.specs.Reasons.{reason_in, name_of, code_of};
 
     // A command is told by its step and has no place here.

@@ -24,6 +24,7 @@ use part_read::{
     Corners, Spot, Stance, around, corners_of, first_atom, layer_in, layers_named, missing,
     name_of_list, named, net_of, no_parts, no_radius, one_part, plain_item, points_stood,
 };
+use plain_types::one;
 use sexpr_read::Node;
 use std::alloc::{AllocError, Global};
 
@@ -361,14 +362,6 @@ fn fills_of(alloc: Global, owner: &Owner<'_>, node: Node<'_, '_>) -> Result<Vec<
     Ok(fills)
 }
 
-fn one_item(alloc: Global, item: Item) -> Result<Vec<Item>, AllocError>
-    ensures { IfOk result (λ items. items.items ≡ item ∷ []) }
-{
-    let mut items = Vec::with_capacity(alloc, 1)?;
-    items.push(item)?;
-    Ok(items)
-}
-
 /// The items of a zone: its rule area where it has `keepout`, else one fill for each filled polygon on copper.
 ///
 /// Its refusals are those of [`BoardError`], exactly where the items of a zone (`specs/ZoneOf`) have them, with their
@@ -391,7 +384,7 @@ pub fn read_zone(
         None => fills_of(alloc, &owner, node),
         Some(keepout) => {
             let area = rule_area(alloc, &owner, node, layers, title, keepout)?;
-            Ok(one_item(alloc, area)?)
+            Ok(one(alloc, area)?)
         }
     }
 }

@@ -1,7 +1,7 @@
 use Rattle.std.proofs.Common.{◌∙◌, refl, ℤ, List, sym, subst, false}
 use Rattle.std.proofs.lemmas.List.{with_items_is}
 use Rattle.net_groups.specs.NetParts.{NetPart, AreParts}
-use Rattle.drc_io.specs.Lengths.{IsLength}
+use Rattle.plain_types.specs.Lengths.{IsLength}
 use Rattle.rule_text.specs.Views.{plain_rules}
 use Rattle.board_edits.specs.Fitting.{plain_deed}
 use Rattle.drc_state.specs.Changes.{edit, LeadsBack}

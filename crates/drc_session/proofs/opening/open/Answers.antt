@@ -1,5 +1,5 @@
 use Rattle.std.proofs.Common.{◌∙◌, ℤ, sym, subst}
-use Rattle.drc_io.specs.Lengths.{IsLength}
+use Rattle.plain_types.specs.Lengths.{IsLength}
 use Rattle.rule_text.specs.Views.{plain_rules}
 use Rattle.drc_session.proofs.Clearances.{as_passed}
 use Rattle.drc_session.proofs.Opened.{opened_index, opened_rows}

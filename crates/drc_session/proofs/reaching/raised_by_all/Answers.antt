@@ -1,5 +1,5 @@
 use Rattle.std.proofs.Common.{ℤ, ◌+◌, take, subst}
-use Rattle.drc_io.specs.Lengths.{IsLength}
+use Rattle.plain_types.specs.Lengths.{IsLength}
 use Rattle.int_algebra.proofs.Scalars.{passed}
 use Rattle.drc_session.specs.Looks.{IsRaisedBy}
 use Rattle.drc_session.proofs.Clearances.{as_passed, raised_more}

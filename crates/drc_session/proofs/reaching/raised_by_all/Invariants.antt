@@ -1,5 +1,5 @@
 use Rattle.std.proofs.Common.{take}
-use Rattle.drc_io.specs.Lengths.{IsLength}
+use Rattle.plain_types.specs.Lengths.{IsLength}
 use Rattle.drc_session.specs.Looks.{IsRaisedBy}
 use Rattle.drc_session.proofs.reaching.raised_by_all.Given as goal
 

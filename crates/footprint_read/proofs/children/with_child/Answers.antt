@@ -9,4 +9,4 @@ returns-then-has_head-clause-ready c =
     let board = c.args.board.now in
     let unit = c.args.unit in
     c.in_ok-with_items.ensures.ready board unit c.requires.ready
-    (subst (λ (is : List Item). All (IsReady board unit) is) (sym c.in_ok-one_item.ensures) (one_ready board unit c.in_ok-pad.pad c.in_ok-pad.ensures.ready))
+    (subst (λ (is : List Item). All (IsReady board unit) is) (sym c.in_ok-one.ensures) (one_ready board unit c.in_ok-pad.pad c.in_ok-pad.ensures.ready))

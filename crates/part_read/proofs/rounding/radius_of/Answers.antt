@@ -1,5 +1,5 @@
 use Rattle.std.proofs.Common.{ℤ, ◌∙◌, ap, sym}
-use Rattle.part_read.specs.OnBoard.{is_length}
+use Rattle.plain_types.specs.Lengths.{is_length}
 use Rattle.part_read.specs.Figures.{radius_at}
 use Rattle.part_read.proofs.Shapes.{is_tested, clean}
 use Rattle.part_read.proofs.Boxing.{one_radius}
@@ -9,4 +9,4 @@ pub returns : goal.returns
 returns c =
     is_tested (is_length c.args.width) (radius_at c.args.width) _
     (λ h. one_radius _ (radius_at c.args.width h) (clean c.args.width c.ranges.width))
-    (ap (λ (z : ℤ). is_length z) (sym (clean c.args.width c.ranges.width)) ∙ sym c.is_length.ensures ∙ c.if-not-is_length.false)
+    (ap (λ (z : ℤ). is_length z) (sym (clean c.args.width c.ranges.width)) ∙ sym c.is_length.ensures.value ∙ c.if-not-is_length.false)
