@@ -405,6 +405,8 @@ module _ (one_reading : (text : List ℕ) (a b : Result PlainBoard BoardError) �
     front_of call text out (whole other is e) k = ([], ap (λ (o : Output). o.text) (one_output_of call out other k is) ∙ (sym e ∙ sym (append-nil text)))
     front_of call text out (begun_by values p b) k = begun_front call values text out p b k
 
-  pub one_output : ((call : Call) (files : List (List ℕ × List ℕ)) (a b : Output) → IsOutputFor call (Some files) a → IsOutputFor call (Some files) b → a ≡ b)
-      × ((call : Call) (files : List (List ℕ × List ℕ)) (text : List ℕ) (out : Output) → IsBegunFor call (Some files) text → IsOutputFor call (Some files) out → (rest : List ℕ) × (out.text ≡ text ++ rest))
-  one_output = (λ call files a b p q. one_output_of files call a b p q, λ call files text out b k. front_of files call text out b k)
+  pub one_output : (call : Call) (files : List (List ℕ × List ℕ)) (a b : Output) → IsOutputFor call (Some files) a → IsOutputFor call (Some files) b → a ≡ b
+  one_output call files a b p q = one_output_of files call a b p q
+
+  pub begun_is_front : (call : Call) (files : List (List ℕ × List ℕ)) (text : List ℕ) (out : Output) → IsBegunFor call (Some files) text → IsOutputFor call (Some files) out → (rest : List ℕ) × (out.text ≡ text ++ rest)
+  begun_is_front call files text out b k = front_of files call text out b k

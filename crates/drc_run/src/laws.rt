@@ -14,10 +14,27 @@ use rule_text::laws::one_reading as one_rules_reading;
 use undo_log::laws::one_step;
 use what_if::laws::{one_survey, one_trial};
 
-/// The words and the files have one output at most, and what it begins with after some of the commands is a front part of it.
+/// The words and the files have one output at most.
 pub fn one_output()
-    ensures one { (call : Call) (files : List (List ℕ × List ℕ)) (a b : Output) → IsOutputFor call (Some files) a → IsOutputFor call (Some files) b → a ≡ b }
-    ensures front { (call : Call) (files : List (List ℕ × List ℕ)) (text : List ℕ) (out : Output) → IsBegunFor call (Some files) text → IsOutputFor call (Some files) out → (rest : List ℕ) × (out.text ≡ text ++ rest) }
+    ensures { (call : Call) (files : List (List ℕ × List ℕ)) (a b : Output) → IsOutputFor call (Some files) a → IsOutputFor call (Some files) b → a ≡ b }
+{
+    one_reading();
+    one_rules_reading();
+    one_script_reading();
+    one_list();
+    one_list_of_parts();
+    one_list_held();
+    one_answer();
+    one_recheck();
+    one_step();
+    one_trial();
+    one_survey();
+    one_outcome();
+}
+
+/// What the output begins with after some of the commands is a front part of it, where there is an output.
+pub fn begun_is_front()
+    ensures { (call : Call) (files : List (List ℕ × List ℕ)) (text : List ℕ) (out : Output) → IsBegunFor call (Some files) text → IsOutputFor call (Some files) out → (rest : List ℕ) × (out.text ≡ text ++ rest) }
 {
     one_reading();
     one_rules_reading();

@@ -23,7 +23,7 @@ mod undoing;
 
 use crate::check::check;
 use crate::finish::usage;
-use crate::laws::one_output;
+use crate::laws::{begun_is_front, one_output};
 use crate::rewriting::rewrite;
 use crate::status::Status;
 use crate::stealing::steal;
@@ -80,6 +80,7 @@ pub fn run<R: Threads + Sync + AllocGlobal, F: Shelf, W: Sink, G: Gate>(
 {
     // What is written whole is the one output, and what is begun a front part of it.
     one_output();
+    begun_is_front();
     let status = match check_call(rt.alloc(), words) {
         Ok(call) => carry_out(rt, gate, call, shelf, out),
         Err(_) => Status::OutOfMemory,
@@ -108,6 +109,7 @@ pub fn run_all<R: Threads + Sync + AllocGlobal, F: Shelf, W: Sink, G: Gate>(
     ensures same { F.files shelf.new ≡ F.files shelf.old }
 {
     one_output();
+    begun_is_front();
     let status = match call_of(rt.alloc(), words) {
         Ok(call) => carry_out(rt, gate, call, shelf, out),
         Err(_) => Status::OutOfMemory,

@@ -9,12 +9,13 @@ use Rattle.sexpr_read.specs.Refusals.{refusal_of_all}
 use Rattle.edit_script.specs.declared.error.ScriptError.{ScriptError}
 use Rattle.edit_script.specs.declared.error.ScriptError.TheVariants.{Text}
 use Rattle.edit_script.specs.Commands.{PlainCommand, PlainStep, again, edit, undo, redo, as_steps}
-use Rattle.list_read.specs.Answers.{◌>>=◌}
+use Rattle.list_read.specs.Answers.{◌>>=◌, each_of}
 use Rattle.list_read.specs.Heads.{place, has_word_head}
+use Rattle.list_read.specs.Texts.{Behind}
 use Rattle.edit_script.specs.Forms.{bad}
-use Rattle.edit_script.specs.CommandsOf.{is_turn, bad_behind, alone, command_of, step_of, each_of, commands_of, steps_of}
+use Rattle.edit_script.specs.CommandsOf.{is_turn, bad_behind, alone, command_of, step_of, commands_of, steps_of}
 use Rattle.edit_script.specs.Grammar.{IsCommand, IsStep, edits}
-use Rattle.edit_script.specs.ScriptText.{Says, SaysSteps, SaysAfter}
+use Rattle.edit_script.specs.ScriptText.{Says, SaysSteps}
 use Rattle.edit_script.proofs.Accepting.{form_of, head_of, commands_accepted, steps_accepted}
 
 -- the step of any other form is its command
@@ -87,8 +88,11 @@ apart (Err x) (Err y) e = let same : x ≡ y = grind (arith, e) in ap (λ (z : S
 
 -- ---- what a text says
 
+abbrev Told : {A : Type 0} → (List ℕ → Tree → Result A ScriptError) → List ℕ → Option TextError → Result A ScriptError → Type 0
+Told of text r answer = Behind Text (SpellsAll text) (λ tree told. told ≡ of text tree) r answer
+
 alike_after : (text : List ℕ) → ((tree : Tree) → SpellsAll text tree → NoTurns (parts tree)) → (r : Option TextError) (answer : Result (List PlainCommand) ScriptError)
-    → SaysAfter commands_of text r answer ↔ SaysAfter steps_of text r (as_steps answer)
+    → Told commands_of text r answer ↔ Told steps_of text r (as_steps answer)
 unfolding commands_of steps_of
 alike_after text none (Some e) answer = (λ h. ap as_steps h, λ h. apart answer (Err (Text e)) h)
 alike_after text none None answer = (
@@ -116,7 +120,7 @@ from_edits script [] (c ∷ cs) h = absurd h
 from_edits script (t ∷ ts) [] h = absurd h
 from_edits script (t ∷ ts) (c ∷ cs) h = (command_from script t c h.0, from_edits script ts cs h.1)
 
-accepted_after : (text : List ℕ) (r : Option TextError) (cs : List PlainCommand) → SaysAfter commands_of text r (Ok cs) ↔ SaysAfter steps_of text r (Ok (map (λ command. edit command) cs))
+accepted_after : (text : List ℕ) (r : Option TextError) (cs : List PlainCommand) → Told commands_of text r (Ok cs) ↔ Told steps_of text r (Ok (map (λ command. edit command) cs))
 accepted_after text (Some e) cs = (λ h. absurd (grind (arith, h)), λ h. absurd (grind (arith, h)))
 accepted_after text None cs = (
   λ h. (h.0, h.1, sym ((steps_accepted text h.0 (map (λ command. edit command) cs)).1 (to_edits text (parts h.0) cs ((commands_accepted text h.0 cs).0 (sym h.2))))),

@@ -12,7 +12,7 @@ use Rattle.std.specs.Prelude.{ℕ, Bool, ◌||◌, List, [], ◌∷◌, codes, s
 use Rattle.sexpr_read.specs.Tree.{Tree, span, parts}
 use Rattle.edit_script.specs.declared.error.ScriptError.{ScriptError}
 use Rattle.edit_script.specs.Commands.{PlainCommand, PlainStep, add, delete, move, rules, again, edit, undo, redo}
-use Rattle.list_read.specs.Answers.{◌>>=◌}
+use Rattle.list_read.specs.Answers.{◌>>=◌, each_of}
 use Rattle.list_read.specs.Heads.{place, text_of, has_word_head, behind_head}
 use Rattle.edit_script.specs.Forms.{bad, as_atom, as_list, no_more, shift_of}
 
@@ -85,14 +85,6 @@ step_of text form =
 -- a form that only a history has
 abbrev pub is_turn : Tree → Bool
 is_turn form = has_word_head (codes "undo") form || has_word_head (codes "redo") form
-
--- what each form gives, in their order, or the first refusal
-unfoldable pub each_of : {A : Type 0} → (Tree → Result A ScriptError) → List Tree → Result (List A) ScriptError
-each_of read [] = Ok []
-each_of read (t ∷ ts) = do
-  x ← read t
-  xs ← each_of read ts
-  Ok (x ∷ xs)
 
 -- bad there, unless it is refused before
 abbrev pub bad_behind : {A B : Type 0} → Tree → Result A ScriptError → Result B ScriptError

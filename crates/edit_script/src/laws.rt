@@ -3,10 +3,11 @@
 ghost use Rattle.std.specs.Prelude.{◌≡◌, ◌↔◌, ℕ, true, false, List, ◌∷◌, ◌++◌, All, map, Result, Ok};
 ghost use Rattle.std.specs.List.{AllZip};
 ghost use Rattle.sexpr_read.specs.Tree.{Tree, parts};
+ghost use Rattle.list_read.specs.Answers.{each_of};
 ghost use Rattle.edit_script.specs.declared.error.ScriptError.{ScriptError};
 ghost use Rattle.sexpr_read.specs.Spelling.{SpellsAll};
 ghost use Rattle.edit_script.specs.Commands.{PlainCommand, PlainStep, edit, as_steps};
-ghost use Rattle.edit_script.specs.CommandsOf.{is_turn, bad_behind, step_of, each_of, commands_of, steps_of};
+ghost use Rattle.edit_script.specs.CommandsOf.{is_turn, bad_behind, step_of, commands_of, steps_of};
 ghost use Rattle.edit_script.specs.Grammar.{IsCommand, IsStep};
 ghost use Rattle.edit_script.specs.ScriptText.{Says, SaysSteps};
 

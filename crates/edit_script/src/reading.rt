@@ -4,8 +4,9 @@ ghost use Rattle.std.specs.Prelude.{◌≡◌, ◌≤◌, length, map, sum_by, I
 ghost use Rattle.sexpr_read.specs.Tree.{parts};
 ghost use Rattle.sexpr_read.specs.Views.{tree_of, trees_left};
 ghost use Rattle.list_read.specs.Heads.{place};
+ghost use Rattle.list_read.specs.Answers.{each_of};
 ghost use Rattle.edit_script.specs.Commands.{again, plain_command, plain_step};
-ghost use Rattle.edit_script.specs.CommandsOf.{standing, added, deleted, moved, alone, command_of, step_of, each_of};
+ghost use Rattle.edit_script.specs.CommandsOf.{standing, added, deleted, moved, alone, command_of, step_of};
 ghost use Rattle.edit_script.specs.Fits.{Fits, StepFits, added_by, added_by_step, size_of, StandsIn, FormStandsIn, FormsStandIn, HaveRoom, AllShallow, FormsShallow};
 ghost use Rattle.edit_script.specs.Views.{Gives};
 

@@ -1,6 +1,6 @@
 -- Reading step by step: each step has an answer or a refusal, and the first refusal counts. What refusals there are is each reader's
 -- own.
-use Rattle.std.specs.Prelude.{Bool, true, false, Option, None, Some, Result, Ok, Err}
+use Rattle.std.specs.Prelude.{List, [], ◌∷◌, Bool, true, false, Option, None, Some, Result, Ok, Err}
 
 infixl 10 ◌>>=◌
 abbrev pub ◌>>=◌ : {E A B : Type 0} → Result A E → (A → Result B E) → Result B E
@@ -16,3 +16,11 @@ needed e (Some x) = Ok x
 abbrev pub check : {E : Type 0} → E → Bool → Result (Unit {0}) E
 check e true = Ok tt
 check e false = Err e
+
+-- what each gives, in their order, or the first refusal
+unfoldable pub each_of : {E A B : Type 0} → (A → Result B E) → List A → Result (List B) E
+each_of read [] = Ok []
+each_of read (t ∷ ts) = do
+  x ← read t
+  xs ← each_of read ts
+  Ok (x ∷ xs)

@@ -4,3 +4,4 @@ pub mod Elements
 pub mod Nodes
 pub mod Wanted
 pub mod Walk
+pub mod Texts

@@ -1,3 +1,4 @@
+pub mod InOrder
 pub mod Matching
 pub mod Named
 pub mod Searching

@@ -4,11 +4,11 @@
 --    "board": {"design_settings": {"rules": {"min_clearance": NUMBER, ..}}}}
 -- Each member may be missing, and others are passed over. They are looked at in this order, and what is wrong first is the
 -- refusal. A project that is no object has none of them.
-use Rattle.std.specs.Prelude.{ℕ, ℤ, List, [], ◌∷◌, ◌++◌, map, find, codes, bytes_eq, Bool, Option, None, Some, is_some, unwrap_or, Result, Ok, if◌then◌else◌}
+use Rattle.std.specs.Prelude.{ℕ, ℤ, List, [], ◌∷◌, map, filter, find, codes, bytes_eq, Bool, not, Option, None, Some, unwrap_or, option_map, option_and_then, Result, Ok}
 use Rattle.json_exact.specs.Json.{Json}
 use Rattle.net_class.specs.declared.error.ProjectError.{ProjectError}
 use Rattle.net_class.specs.Classes.{PlainClass, PlainPattern, PlainMins, PlainClasses, plain_default, plain_mins}
-use Rattle.net_class.specs.Members.{◌>>=◌, object_in, list_in, entries, entry_of, text_in, length_in, length_or_none_in}
+use Rattle.net_class.specs.Members.{◌>>=◌, object_in, list_in, entries, each_in, entry_of, text_in, length_in, length_or_none_in}
 
 -- a class as it is written
 pub record Written : Type 0 where
@@ -18,23 +18,18 @@ pub record Written : Type 0 where
 abbrev pub is_named : List ℕ → Written → Bool
 is_named name w = bytes_eq w.name name
 
--- A class is kept where it has a name that none before it has.
-unfoldable pub with_written : List Written → Option (List ℕ) → Option ℤ → List Written
-with_written before None clearance = before
-with_written before (Some name) clearance =
-    if is_some (find (is_named name) before) then before else before ++ record { name = name; clearance = clearance } ∷ []
-
--- one entry of the list of classes
-unfoldable pub with_class : List Written → Json → Result (List Written) ProjectError
-with_class before v = do
+-- an entry of the list of classes; one without a name gives none
+unfoldable pub class_in : Json → Result (Option Written) ProjectError
+class_in v = do
   object ← entry_of v
   name ← text_in (codes "name") object
   clearance ← length_in (codes "clearance") object
-  Ok (with_written before name clearance)
+  Ok (option_map (λ n. record { name = n; clearance = clearance }) name)
 
-abbrev pub with_classes : List Written → List Json → Result (List Written) ProjectError
-with_classes before [] = Ok before
-with_classes before (v ∷ vs) = with_class before v >>= λ more. with_classes more vs
+-- of each name the first
+abbrev pub firsts : List Written → List Written
+firsts [] = []
+firsts (w ∷ ws) = w ∷ filter (λ x. not (is_named x.name w)) (firsts ws)
 
 abbrev pub clearance_of : Option Written → Option ℤ
 clearance_of None = None
@@ -49,23 +44,13 @@ class_from default w = record { name = w.name; clearance = unwrap_or w.clearance
 
 -- ---- patterns
 
--- A pattern is kept where it has both its texts.
-abbrev pub with_texts : List PlainPattern → Option (List ℕ) → Option (List ℕ) → List PlainPattern
-with_texts before None pattern = before
-with_texts before (Some class) None = before
-with_texts before (Some class) (Some pattern) = before ++ record { class = class; pattern = pattern } ∷ []
-
--- one entry of the list of patterns
-unfoldable pub with_pattern : List PlainPattern → Json → Result (List PlainPattern) ProjectError
-with_pattern before v = do
+-- an entry of the list of patterns; one that lacks a text gives none
+unfoldable pub pattern_in : Json → Result (Option PlainPattern) ProjectError
+pattern_in v = do
   object ← entry_of v
   class ← text_in (codes "netclass") object
   pattern ← text_in (codes "pattern") object
-  Ok (with_texts before class pattern)
-
-abbrev pub with_patterns : List PlainPattern → List Json → Result (List PlainPattern) ProjectError
-with_patterns before [] = Ok before
-with_patterns before (v ∷ vs) = with_pattern before v >>= λ more. with_patterns more vs
+  Ok (option_and_then (λ c. option_map (λ p. record { class = c; pattern = p }) pattern) class)
 
 -- ---- least sizes
 
@@ -119,15 +104,18 @@ mins_in rules = do
 
 -- ---- the whole
 
+-- the classes in their order
 unfoldable pub written_in : Option Json → Result (List Written) ProjectError
 written_in settings = do
   list ← list_in (codes "classes") settings
-  with_classes [] (entries list)
+  classes ← each_in class_in (entries list)
+  Ok (firsts classes)
 
+-- the patterns in their order
 unfoldable pub patterns_in : Option Json → Result (List PlainPattern) ProjectError
 patterns_in settings = do
   list ← list_in (codes "netclass_patterns") settings
-  with_patterns [] (entries list)
+  each_in pattern_in (entries list)
 
 unfoldable pub rules_in : Option Json → Result PlainMins ProjectError
 rules_in root = do

@@ -3,6 +3,7 @@ pub mod Runs
 pub mod Classes
 pub mod Members
 pub mod ClassesOf
+pub mod Walk
 pub mod ProjectText
 pub mod Reasons
 pub mod Views

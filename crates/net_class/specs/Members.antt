@@ -1,7 +1,8 @@
 -- The members of the objects in a project, by their names. A member that is null counts as not there, and of two of one name
 -- the first counts. One of another kind than is wanted is refused as Shape, and a number that is none or too great or below 0 as
 -- BadNumber, each at the place where the member's value begins.
-use Rattle.std.specs.Prelude.{ℕ, ℤ, pos, int_lt, List, [], Bool, Option, None, Some, Result, Ok, Err, if◌then◌else◌}
+use Rattle.std.specs.Prelude.{ℕ, ℤ, pos, int_lt, List, [], ◌∷◌, Bool, Option, None, Some, Result, Ok, Err, if◌then◌else◌}
+use Rattle.std.specs.List.{cons_option}
 use Rattle.plain_types.specs.Lengths.{is_length}
 use Rattle.json_exact.specs.Json.{Json, begins_at, items, member, number_of, text_of, is_null, is_list, is_object}
 use Rattle.json_exact.specs.Bytes.{same_bytes}
@@ -52,6 +53,14 @@ list_in name v = read_if (of_kind is_list) (member_in name v)
 abbrev pub entries : Option Json → List Json
 entries None = []
 entries (Some v) = items v
+
+-- what the values give, in their order, where they give something
+abbrev pub each_in : {A : Type 0} → (Json → Result (Option A) ProjectError) → List Json → Result (List A) ProjectError
+each_in read [] = Ok []
+each_in read (v ∷ vs) = do
+  x ← read v
+  xs ← each_in read vs
+  Ok (cons_option x xs)
 
 -- an entry of a list of objects
 unfoldable pub entry_of : Json → Result (Option Json) ProjectError

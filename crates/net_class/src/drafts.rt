@@ -2,7 +2,8 @@
 
 ghost use Rattle.std.specs.Prelude.{◌≡◌, Some, map, find, IfOk, OnOk};
 ghost use Rattle.std.specs.Option.{option_map};
-ghost use Rattle.net_class.specs.ClassesOf.{is_named, with_written, default_clearance, class_from};
+ghost use Rattle.net_class.specs.ClassesOf.{is_named, default_clearance, class_from};
+ghost use Rattle.net_class.specs.Walk.{with_written};
 ghost use Rattle.plain_types.specs.Lengths.{IsLengthIfSome};
 ghost use Rattle.std.specs.String.{string_bytes};
 ghost use Rattle.net_class.specs.Views.{written_class, plain_class};
@@ -110,7 +111,7 @@ impl Drafts {
     }
 
     /// Adds a class, if it has a name that none has.
-    #[tactic(auto, unfolding(crate::specs::ClassesOf::with_written))]
+    #[tactic(auto, unfolding(crate::specs::Walk::with_written))]
     pub(crate) fn with(
         self,
         alloc: Global,

@@ -3,7 +3,8 @@
 ghost use Rattle.std.specs.Prelude.{◌≡◌, [], map, OnOk};
 ghost use Rattle.json_exact.specs.Json.{items};
 ghost use Rattle.json_exact.specs.Handles.{json_of, items_left};
-ghost use Rattle.net_class.specs.ClassesOf.{with_written, with_class, with_classes, with_texts, with_pattern, with_patterns, written_in, patterns_in};
+ghost use Rattle.net_class.specs.ClassesOf.{written_in, patterns_in};
+ghost use Rattle.net_class.specs.Walk.{with_written, with_class, with_classes, with_texts, with_pattern, with_patterns};
 ghost use Rattle.net_class.specs.Views.{plain_pattern, json_if, Gives, GivesPatterns, Leaves};
 
 use crate::drafts::Drafts;
@@ -17,7 +18,7 @@ use std::alloc::{AllocError, Global};
 // ---- classes
 
 /// One entry of the list of classes.
-#[tactic(auto, unfolding(crate::specs::ClassesOf::with_class))]
+#[tactic(auto, unfolding(crate::specs::Walk::with_class))]
 fn with_class(alloc: Global, drafts: Drafts, v: Value<'_, '_>) -> Result<Drafts, ProjectError>
     ensures { Gives result (with_class drafts (json_of v.entry)) }
 {
@@ -39,7 +40,7 @@ fn read_classes(alloc: Global, list: Value<'_, '_>) -> Result<Drafts, ProjectErr
 }
 
 /// The classes of `net_settings`.
-#[tactic(auto, unfolding(crate::specs::ClassesOf::written_in))]
+#[tactic(auto, using(crate::proofs::InOrder::classes_in_order), unfolding(crate::specs::ClassesOf::written_in))]
 pub(crate) fn written_in(
     alloc: Global,
     settings: Option<Value<'_, '_>>,
@@ -73,7 +74,7 @@ fn add_pattern(
 }
 
 /// One entry of the list of patterns.
-#[tactic(auto, unfolding(crate::specs::ClassesOf::with_pattern))]
+#[tactic(auto, unfolding(crate::specs::Walk::with_pattern))]
 fn read_pattern(
     alloc: Global,
     patterns: &mut Vec<Pattern>,
@@ -99,7 +100,7 @@ fn read_patterns(alloc: Global, list: Value<'_, '_>) -> Result<Vec<Pattern>, Pro
 }
 
 /// The patterns of `net_settings`.
-#[tactic(auto, unfolding(crate::specs::ClassesOf::patterns_in))]
+#[tactic(auto, using(crate::proofs::InOrder::patterns_in_order), unfolding(crate::specs::ClassesOf::patterns_in))]
 pub(crate) fn patterns_in(
     alloc: Global,
     settings: Option<Value<'_, '_>>,

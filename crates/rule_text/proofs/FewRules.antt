@@ -6,14 +6,17 @@ use Rattle.sexpr_read.specs.Spelling.{SpellsAll}
 use Rattle.sexpr_read.specs.Refusals.{refusal_of_all}
 use Rattle.sexpr_read.specs.Places.{PartsStandBetween}
 use Rattle.rule_text.specs.declared.error.RuleError.{RuleError}
-use Rattle.rule_text.specs.declared.error.RuleError.TheVariants.{Version, Bad}
+use Rattle.rule_text.specs.declared.error.RuleError.TheVariants.{Text, Version, Bad}
 use Rattle.rule_text.specs.Short.{AllShort}
-use Rattle.list_read.specs.Answers.{◌>>=◌, check}
+use Rattle.list_read.specs.Answers.{◌>>=◌, check, each_of}
 use Rattle.list_read.specs.Heads.{place, text_of, has_head, has_word_head, behind_head}
+use Rattle.list_read.specs.Texts.{Behind}
 use Rattle.rule_text.specs.Forms.{name_at, clauses}
-use Rattle.rule_text.specs.RulesOf.{PlainRules, PlainDraft, rule_by, blank, is_asked, is_version, no_rules, with_clauses, with_rule, with_rules, rules_of, file_of}
-use Rattle.rule_text.specs.RuleText.{Says, SaysAfter}
-use Rattle.rule_text.specs.ListText.{no_form, nothing_more, list_among, list_of, moved, SaysListAfter, SaysList}
+use Rattle.rule_text.specs.RulesOf.{PlainRules, is_asked, is_version, no_rules, rules_of, file_of, rule_in, all_rules}
+use Rattle.rule_text.specs.Walk.{PlainDraft, rule_by, blank, with_clauses, with_rule, with_rules}
+use Rattle.rule_text.specs.RuleText.{Says}
+use Rattle.rule_text.specs.ListText.{no_form, nothing_more, list_among, list_of, moved, Here, SaysList}
+use Rattle.rule_text.proofs.InOrder.{rules_in_order}
 use Rattle.rule_text.proofs.Shortness.{forms_few, forms_short, behind_head_few}
 
 -- where both steps give a value, so does the first
@@ -61,8 +64,8 @@ of_forms : (none : RuleError) (forms : List Tree) (rules : PlainRules) → rules
 unfolding rules_of
 of_forms none [] rules h = absurd (cc)
 of_forms none (form ∷ forms) rules h =
-    let version = both_give (check (Version (place form)) (is_version form)) (λ version. with_rules no_rules forms) rules h in
-    let many = as_many no_rules rules forms version.2 in
+    let version = both_give (check (Version (place form)) (is_version form)) (λ version. each_of rule_in forms >>= λ read. given (all_rules read)) rules h in
+    let many = as_many no_rules rules forms (rules_in_order forms ∙ version.2) in
     omega (arith, many)
 
 -- ---- a list
@@ -96,7 +99,7 @@ unmoved by (Err e) rules h = absurd (cc)
 -- ---- texts
 
 module _ (in_order : (text : List ℕ) (t : Tree) → SpellsAll text t → PartsStandBetween text 0 (length text) t) where
-  file_after : (text : List ℕ) (e : Option TextError) (rules : PlainRules) → length text ≤ 33554432 → SaysAfter text e (Ok rules) → length rules.rules ≤ 33554432
+  file_after : (text : List ℕ) (e : Option TextError) (rules : PlainRules) → length text ≤ 33554432 → Behind Text (SpellsAll text) (λ tree told. told ≡ file_of (length text) tree) e (Ok rules) → length rules.rules ≤ 33554432
   unfolding file_of
   file_after text (Some e) rules short says = absurd (cc)
   file_after text None rules short says =
@@ -107,11 +110,11 @@ module _ (in_order : (text : List ℕ) (t : Tree) → SpellsAll text t → Parts
   pub few_in_file : (text : List ℕ) (rules : PlainRules) → length text ≤ 33554432 → Says text (Ok rules) → length rules.rules ≤ 33554432
   few_in_file text rules short says = file_after text (refusal_of_all text) rules short says
 
-  list_after : (text : List ℕ) (e : Option TextError) (rules : PlainRules) → length text ≤ 33554432 → SaysListAfter text e (Ok rules) → length rules.rules ≤ 33554432
+  list_after : (text : List ℕ) (e : Option TextError) (rules : PlainRules) → length text ≤ 33554432 → Behind Text (SpellsAll text) (λ tree told. told ≡ list_of (length text) tree) e (Ok rules) → length rules.rules ≤ 33554432
   list_after text (Some e) rules short says = absurd (cc)
   list_after text None rules short says =
       here_few (length text) says.0 rules (forms_short text says.0 (in_order text says.0 says.1) short) (sym says.2)
 
   pub few_in_list : (text : List ℕ) (by : ℕ) (rules : PlainRules) → length text ≤ 33554432 → SaysList text by (Ok rules) → length rules.rules ≤ 33554432
   few_in_list text by rules short says =
-      list_after text (refusal_of_all text) rules short (subst (SaysListAfter text (refusal_of_all text)) (unmoved by says.0 rules says.2) says.1)
+      list_after text (refusal_of_all text) rules short (subst (Here text) (unmoved by says.0 rules says.2) says.1)

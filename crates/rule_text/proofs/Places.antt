@@ -20,10 +20,12 @@ use Rattle.rule_text.specs.Forms.{bad, as_atom, second_among, name_at, single_am
 use Rattle.rule_text.specs.LayersOf.{layer_named, layer_in}
 use Rattle.plain_types.specs.Lengths.{is_length}
 use Rattle.rule_text.specs.Limits.{kind_named, length_from, length_in, PlainLimits, with_least, with_wished, with_most, with_limit, with_limits, unlimited, bans_nothing, with_ban, with_bans, cond_from, cond_in}
-use Rattle.rule_text.specs.RulesOf.{PlainRules, PlainDraft, severity_named, severity_in, limited, banned, claim_among, claimed, constraint_by, constraint_in, has_kind, with_layer, with_severity, with_cond, with_kind, with_constraint, with_clause, with_clauses, is_asked, blank, with_rule, with_rules, is_version, no_rules, rules_of}
+use Rattle.rule_text.specs.RulesOf.{PlainRules, severity_named, severity_in, limited, banned, claim_among, claimed, constraint_by, constraint_in, is_asked, is_version, no_rules, rules_of}
+use Rattle.rule_text.specs.Walk.{PlainDraft, has_kind, with_layer, with_severity, with_cond, with_kind, with_constraint, with_clause, with_clauses, blank, with_rule, with_rules}
 use Rattle.rule_text.specs.ListText.{no_form, nothing_more, list_among, list_of}
 use Rattle.rule_text.specs.Short.{AllShort, IsShort}
 use Rattle.rule_text.specs.Near.{IsNear, NearIfErr}
+use Rattle.rule_text.proofs.InOrder.{rules_in_order}
 use Rattle.rule_text.proofs.Shortness.{head_short, tail_short, parts_short, behind_head_short, clauses_short, atom_short, claim_short}
 
 -- ---- one after another
@@ -225,7 +227,7 @@ pub near_rules_of : (e : RuleError) (ts : List Tree) → IsNear e → AllShort t
 unfolding rules_of
 near_rules_of e [] n h = n
 near_rules_of e (t ∷ ts) n h =
-    near_then (check (Version (place t)) (is_version t)) _ (near_check (Version (place t)) (is_version t) (near_place t h.0)) (λ u k. near_rules no_rules ts h.1)
+    near_then (check (Version (place t)) (is_version t)) _ (near_check (Version (place t)) (is_version t) (near_place t h.0)) (λ u k. subst NearIfErr (rules_in_order ts) (near_rules no_rules ts h.1))
 
 -- ---- the list in another text
 

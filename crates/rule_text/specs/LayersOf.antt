@@ -1,5 +1,5 @@
 -- The layers that a rule acts on, by their names.
-use Rattle.std.specs.Prelude.{ℕ, ◌∷◌, codes, Option, Some, Result, if◌then◌else◌}
+use Rattle.std.specs.Prelude.{ℕ, codes, Option, Some, Result, if◌then◌else◌}
 use Rattle.std.specs.List.{position_from}
 use Rattle.std.specs.Option.{option_map}
 use Rattle.sexpr_read.specs.Tree.{Tree}

@@ -8,3 +8,4 @@ pub mod RulesOf
 pub mod RuleText
 pub mod Short
 pub mod Views
+pub mod Walk

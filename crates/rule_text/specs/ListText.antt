@@ -1,15 +1,14 @@
 -- What a list (rules FORM ..) says that stands in another text: its head is a word and not in quotes, and what follows the head is
 -- as the forms of a file.
-use Rattle.std.specs.Prelude.{◌≡◌, ℕ, ◌+◌, List, [], ◌∷◌, codes, length, Option, None, Some, Result, Ok, Err}
+use Rattle.std.specs.Prelude.{◌≡◌, ℕ, ◌+◌, List, [], ◌∷◌, codes, length, Result, Ok, Err}
 use Rattle.sexpr_read.specs.declared.place.TextError.{TextError}
 use Rattle.sexpr_read.specs.declared.place.TextError.TheVariants.{NotUtf8, CloseWithoutOpen, EndInside, TooDeep, ExtraText, EmptyText, OutOfMemory as NoMemory}
 use Rattle.sexpr_read.specs.Tree.{Tree, parts}
-use Rattle.sexpr_read.specs.Spelling.{SpellsAll}
-use Rattle.sexpr_read.specs.Refusals.{refusal_of_all}
 use Rattle.rule_text.specs.declared.error.RuleError.{RuleError}
 use Rattle.rule_text.specs.declared.error.RuleError.TheVariants.{Text, Version, Bad, Cond, BadNumber, OutOfMemory}
 use Rattle.list_read.specs.Answers.{◌>>=◌, check}
 use Rattle.list_read.specs.Heads.{place, has_word_head, behind_head}
+use Rattle.list_read.specs.Texts.{OfForms}
 use Rattle.rule_text.specs.Forms.{bad}
 use Rattle.rule_text.specs.RulesOf.{PlainRules, rules_of}
 
@@ -61,14 +60,10 @@ moved by (Err e) = Err (moved_error by e)
 
 -- ---- what the text says
 
-abbrev pub SaysListAfter : List ℕ → Option TextError → Result PlainRules RuleError → Type 0
-SaysListAfter text (Some e) answer = answer ≡ Err (Text e)
-SaysListAfter text None answer = (tree : Tree) × SpellsAll text tree × (answer ≡ list_of (length text) tree)
-
 -- by places of the list's own text
-abbrev pub SaysHere : List ℕ → Result PlainRules RuleError → Type 0
-SaysHere text answer = SaysListAfter text (refusal_of_all text) answer
+abbrev pub Here : List ℕ → Result PlainRules RuleError → Type 0
+Here text answer = OfForms Text (λ tree told. told ≡ list_of (length text) tree) text answer
 
 -- by places of the text in which it begins at `by`
 abbrev pub SaysList : List ℕ → ℕ → Result PlainRules RuleError → Type 0
-SaysList text by answer = (here : Result PlainRules RuleError) × SaysHere text here × (answer ≡ moved by here)
+SaysList text by answer = (here : Result PlainRules RuleError) × Here text here × (answer ≡ moved by here)

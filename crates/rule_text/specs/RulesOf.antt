@@ -1,7 +1,7 @@
 -- The rules of a rule file: (version 1), and then forms (rule NAME CLAUSE ..). The language is that of the custom design rules
 -- of KiCad 7 (PCB editor manual). A second clause with one head is passed over unread, and so is a second constraint of one
 -- kind.
-use Rattle.std.specs.Prelude.{ℕ, List, [], ◌∷◌, ◌++◌, length, codes, Bool, false, ◌&&◌, ◌||◌, ◌==◌, not, is_some, unwrap_or, Option, None, Some, Result, Ok, Err, if◌then◌else◌}
+use Rattle.std.specs.Prelude.{ℕ, suc, List, [], ◌∷◌, ◌++◌, map, filter, filter_map, fold, codes, Bool, true, false, ◌&&◌, ◌||◌, ◌==◌, not, is_some, Option, None, Some, Result, Ok, Err, if◌then◌else◌}
 use Rattle.std.specs.List.{list_any}
 use Rattle.sexpr_read.specs.Tree.{Tree, parts, is_list}
 use Rattle.cond_lang.specs.declared.kind.Kind.{Kind}
@@ -16,7 +16,7 @@ use Rattle.cond_lang.specs.Rules.{PlainRule, PlainConstraint}
 use Rattle.cond_lang.specs.Trees.{Tree as CondTree}
 use Rattle.rule_text.specs.declared.error.RuleError.{RuleError}
 use Rattle.rule_text.specs.declared.error.RuleError.TheVariants.{Version, Bad}
-use Rattle.list_read.specs.Answers.{◌>>=◌, needed, check}
+use Rattle.list_read.specs.Answers.{◌>>=◌, needed, check, each_of}
 use Rattle.list_read.specs.Heads.{place, text_of, is_text, has_head}
 use Rattle.rule_text.specs.Forms.{bad, name_at, atom_at, clauses}
 use Rattle.rule_text.specs.LayersOf.{layer_in}
@@ -83,60 +83,58 @@ constraint_by Forbids kind clause = forbidding kind clause
 unfoldable pub constraint_in : Kind → Tree → Result PlainConstraint RuleError
 constraint_in kind clause = constraint_by (family kind) kind clause
 
--- a constraint of this kind is among them
-abbrev pub has_kind : Kind → List PlainConstraint → Bool
-has_kind kind constraints = list_any (λ c. kind_number c.kind == kind_number kind) constraints
+-- ---- clauses
 
--- ---- rules
+-- what a clause is of: a constraint of its kind, if rules may have it
+pub data Sort : Type 0 where
+  of_layer : Sort
+  of_severity : Sort
+  of_condition : Sort
+  of_kind : Kind → Sort
+  of_other : Sort
 
--- a rule so far: its number, what its clauses have said, and the notes of all rules up to here
-pub record PlainDraft : Type 0 where
-  pub number : ℕ
-  pub layer : Option RuleLayer
-  pub severity : Option Severity
-  pub cond : Option CondTree
-  pub constraints : List PlainConstraint
-  pub notes : List PlainNote
+abbrev pub sort_by : Option Kind → Sort
+sort_by None = of_other
+sort_by (Some kind) = of_kind kind
 
-unfoldable pub with_layer : PlainDraft → Tree → Result PlainDraft RuleError
-with_layer draft clause =
-    if is_some draft.layer then Ok draft
-    else (layer_in clause >>= λ layer. Ok (record draft { layer = Some layer }))
-
-unfoldable pub with_severity : PlainDraft → Tree → Result PlainDraft RuleError
-with_severity draft clause =
-    if is_some draft.severity then Ok draft
-    else (severity_in clause >>= λ severity. Ok (record draft { severity = Some severity }))
-
--- where no condition is asked, it is passed over
-unfoldable pub with_cond : Bool → PlainDraft → Tree → Result PlainDraft RuleError
-with_cond asked draft clause =
-    if not asked || is_some draft.cond then Ok draft
-    else (atom_at clause >>= λ atom. cond_in atom >>= λ cond. Ok (record draft { cond = Some cond }))
-
-abbrev pub noted : PlainDraft → Tree → PlainDraft
-noted draft name = record draft { notes = draft.notes ++ (record { rule = draft.number; constraint = text_of name } ∷ []) }
-
-abbrev pub with_kind : PlainDraft → Tree → Tree → Option Kind → Result PlainDraft RuleError
-with_kind draft clause name None = Ok (noted draft name)
-with_kind draft clause name (Some kind) =
-    if has_kind kind draft.constraints then Ok draft
-    else (constraint_in kind clause >>= λ constraint. Ok (record draft { constraints = draft.constraints ++ (constraint ∷ []) }))
-
-unfoldable pub with_constraint : PlainDraft → Tree → Result PlainDraft RuleError
-with_constraint draft clause = name_at clause >>= λ name. with_kind draft clause name (kind_named name)
-
-unfoldable pub with_clause : Bool → PlainDraft → Tree → Result PlainDraft RuleError
-with_clause asked draft clause =
-    if has_head (codes "layer") clause then with_layer draft clause
-    else if has_head (codes "severity") clause then with_severity draft clause
-    else if has_head (codes "condition") clause then with_cond asked draft clause
-    else if has_head (codes "constraint") clause then with_constraint draft clause
+unfoldable pub sort_in : Tree → Result Sort RuleError
+sort_in clause =
+    if has_head (codes "layer") clause then Ok of_layer
+    else if has_head (codes "severity") clause then Ok of_severity
+    else if has_head (codes "condition") clause then Ok of_condition
+    else if has_head (codes "constraint") clause then (name_at clause >>= λ name. Ok (sort_by (kind_named name)))
     else bad clause
 
-unfoldable pub with_clauses : Bool → PlainDraft → List Tree → Result PlainDraft RuleError
-with_clauses asked draft [] = Ok draft
-with_clauses asked draft (t ∷ ts) = with_clause asked draft t >>= λ more. with_clauses asked more ts
+-- a clause that is refused is of no sort, and no two other constraints are of one
+abbrev pub one_sort : Result Sort RuleError → Result Sort RuleError → Bool
+one_sort (Ok of_layer) (Ok of_layer) = true
+one_sort (Ok of_severity) (Ok of_severity) = true
+one_sort (Ok of_condition) (Ok of_condition) = true
+one_sort (Ok (of_kind k)) (Ok (of_kind m)) = kind_number k == kind_number m
+one_sort a b = false
+
+-- the first of each sort
+abbrev pub firsts : List Tree → List Tree
+firsts [] = []
+firsts (t ∷ ts) = t ∷ filter (λ u. not (one_sort (sort_in t) (sort_in u))) (firsts ts)
+
+-- what a clause says
+pub data Said : Type 0 where
+  says_layer : RuleLayer → Said
+  says_severity : Severity → Said
+  says_condition : CondTree → Said
+  says_constraint : PlainConstraint → Said
+  says_other : List ℕ → Said
+
+abbrev pub said_by : Tree → Sort → Result Said RuleError
+said_by clause of_layer = layer_in clause >>= λ layer. Ok (says_layer layer)
+said_by clause of_severity = severity_in clause >>= λ severity. Ok (says_severity severity)
+said_by clause of_condition = atom_at clause >>= λ atom. cond_in atom >>= λ cond. Ok (says_condition cond)
+said_by clause (of_kind kind) = constraint_in kind clause >>= λ constraint. Ok (says_constraint constraint)
+said_by clause of_other = name_at clause >>= λ name. Ok (says_other (text_of name))
+
+unfoldable pub said_in : Tree → Result Said RuleError
+said_in clause = sort_in clause >>= said_by clause
 
 -- ---- whether a rule's condition is asked
 
@@ -158,31 +156,56 @@ is_own clause = is_constraint clause && not (is_other clause)
 abbrev pub is_asked : List Tree → Bool
 is_asked ts = not (list_any is_constraint ts) || list_any is_own ts
 
+abbrev pub is_heard : Bool → Tree → Bool
+is_heard asked clause = asked || not (one_sort (Ok of_condition) (sort_in clause))
+
+-- The clauses that count: of each sort the first, and conditions where they are asked.
+abbrev pub counting : List Tree → List Tree
+counting ts = firsts (filter (is_heard (is_asked ts)) ts)
+
 -- ---- forms
 
-abbrev pub blank : ℕ → List PlainNote → PlainDraft
-blank number notes = record { number = number; layer = None; severity = None; cond = None; constraints = []; notes = notes }
+-- a rule, and the names of the constraints in it that no rule may have
+pub record Read : Type 0 where
+  pub rule : PlainRule
+  pub others : List (List ℕ)
 
-abbrev pub rule_by : List ℕ → PlainDraft → PlainRule
-rule_by name draft = record {
-  name = name;
-  layer = unwrap_or draft.layer Any;
-  severity = unwrap_or draft.severity Error;
-  cond = draft.cond;
-  constraints = draft.constraints;
-}
+abbrev pub with_said : PlainRule → Said → PlainRule
+with_said rule (says_layer layer) = record rule { layer = layer }
+with_said rule (says_severity severity) = record rule { severity = severity }
+with_said rule (says_condition cond) = record rule { cond = Some cond }
+with_said rule (says_constraint constraint) = record rule { constraints = rule.constraints ++ (constraint ∷ []) }
+with_said rule (says_other name) = rule
+
+abbrev pub other_in : Said → Option (List ℕ)
+other_in (says_other name) = Some name
+other_in said = None
+
+-- the rule that says nothing
+abbrev pub plain : List ℕ → PlainRule
+plain name = record { name = name; layer = Any; severity = Error; cond = None; constraints = [] }
 
 -- (rule NAME CLAUSE ..)
-unfoldable pub with_rule : PlainRules → Tree → Result PlainRules RuleError
-with_rule rules form = do
+unfoldable pub rule_in : Tree → Result Read RuleError
+rule_in form = do
   named ← check (Bad (place form)) (has_head (codes "rule") form)
   name ← name_at form
-  draft ← with_clauses (is_asked (clauses form)) (blank (length rules.rules) rules.notes) (clauses form)
-  Ok (record { rules = rules.rules ++ (rule_by (text_of name) draft ∷ []); notes = draft.notes })
+  said ← each_of said_in (counting (clauses form))
+  Ok (record { rule = fold with_said (plain (text_of name)) said; others = filter_map other_in said })
 
-unfoldable pub with_rules : PlainRules → List Tree → Result PlainRules RuleError
-with_rules rules [] = Ok rules
-with_rules rules (t ∷ ts) = with_rule rules t >>= λ more. with_rules more ts
+abbrev pub note : ℕ → List ℕ → PlainNote
+note rule name = record { rule = rule; constraint = name }
+
+-- the notes of the rules from this number on
+abbrev pub notes_from : ℕ → List Read → List PlainNote
+notes_from n [] = []
+notes_from n (r ∷ rs) = map (note n) r.others ++ notes_from (suc n) rs
+
+abbrev pub all_rules : List Read → PlainRules
+all_rules rs = record { rules = map (λ r. r.rule) rs; notes = notes_from 0 rs }
+
+abbrev pub no_rules : PlainRules
+no_rules = record { rules = []; notes = [] }
 
 abbrev pub is_one : Result Tree RuleError → Bool
 is_one (Err e) = false
@@ -192,15 +215,13 @@ is_one (Ok atom) = is_text atom (codes "1")
 unfoldable pub is_version : Tree → Bool
 is_version form = has_head (codes "version") form && is_one (atom_at form)
 
-abbrev pub no_rules : PlainRules
-no_rules = record { rules = []; notes = [] }
-
 -- The rules of these forms; the refusal is for where there is no form.
 unfoldable pub rules_of : RuleError → List Tree → Result PlainRules RuleError
 rules_of none [] = Err none
 rules_of none (t ∷ ts) = do
   version ← check (Version (place t)) (is_version t)
-  with_rules no_rules ts
+  rules ← each_of rule_in ts
+  Ok (all_rules rules)
 
 -- The rules of a file of this length.
 unfoldable pub file_of : ℕ → Tree → Result PlainRules RuleError

@@ -13,7 +13,8 @@ use Rattle.rule_text.specs.declared.rules.Rules.{Rules}
 use Rattle.rule_text.specs.declared.lists.Lists.{Lists}
 use Rattle.rule_text.specs.declared.notes.RuleNote.{RuleNote}
 use Rattle.rule_text.specs.Limits.{PlainLimits}
-use Rattle.rule_text.specs.RulesOf.{PlainNote, PlainDraft, PlainRules}
+use Rattle.rule_text.specs.RulesOf.{PlainNote, PlainRules}
+use Rattle.rule_text.specs.Walk.{PlainDraft}
 
 abbrev pub plain_note : RuleNote → PlainNote
 plain_note n = record { rule = n.rule; constraint = n.constraint }

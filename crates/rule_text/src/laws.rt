@@ -3,7 +3,7 @@
 ghost use Rattle.std.specs.Prelude.{◌≡◌, ℕ, List, Result};
 ghost use Rattle.rule_text.specs.declared.error.RuleError.{RuleError};
 ghost use Rattle.rule_text.specs.RulesOf.{PlainRules};
-ghost use Rattle.rule_text.specs.ListText.{SaysHere, SaysList};
+ghost use Rattle.rule_text.specs.ListText.{Here, SaysList};
 ghost use Rattle.rule_text.specs.RuleText.{Says};
 
 use sexpr_read::laws::one_tree;
@@ -17,7 +17,7 @@ pub fn one_reading()
 
 /// The same of a list of rules, by its own places.
 fn one_reading_here()
-    ensures { (text : List ℕ) (a b : Result PlainRules RuleError) → SaysHere text a → SaysHere text b → a ≡ b }
+    ensures { (text : List ℕ) (a b : Result PlainRules RuleError) → Here text a → Here text b → a ≡ b }
 {
     one_tree();
 }

@@ -6,7 +6,7 @@
 
 ghost use Rattle.std.specs.Prelude.{◌≡◌, ◌≤◌, ◌⊎◌, length, IfErr, MatchResult, Result, Ok, Err};
 ghost use Rattle.rule_text.specs.declared.error.RuleError.{RuleError};
-ghost use Rattle.rule_text.specs.ListText.{SaysHere, SaysList};
+ghost use Rattle.rule_text.specs.ListText.{Here, SaysList};
 ghost use Rattle.rule_text.specs.Near.{IsNear};
 ghost use Rattle.rule_text.specs.RulesOf.{PlainRules};
 ghost use Rattle.rule_text.specs.RuleText.{Says};
@@ -81,7 +81,7 @@ pub fn read_rule_list(alloc: Global, text: &[u8], at: u32) -> Result<Rules, Rule
 #[tactic(auto, using(crate::proofs::Shortness::forms_short, crate::proofs::Places::near_answer, crate::proofs::TextPlaces::near_text))]
 fn list_here(alloc: Global, text: &[u8]) -> Result<Rules, RuleError>
     requires { length text.now ≤ 33_554_432 }
-    ensures says { MatchResult result (λ rules. SaysHere text.now (Ok (plain_rules rules))) (λ e. (e ≡ RuleError.OutOfMemory) ⊎ SaysHere text.now (Err e)) }
+    ensures says { MatchResult result (λ rules. Here text.now (Ok (plain_rules rules))) (λ e. (e ≡ RuleError.OutOfMemory) ⊎ Here text.now (Err e)) }
     ensures near { IfErr result IsNear }
 {
     spans_in_order();

@@ -5,7 +5,8 @@ ghost use Rattle.sexpr_read.specs.Views.{tree_of, trees_left};
 ghost use Rattle.cond_lang.specs.Rules.{plain_rule};
 ghost use Rattle.list_read.specs.Heads.{place};
 ghost use Rattle.rule_text.specs.Forms.{clauses};
-ghost use Rattle.rule_text.specs.RulesOf.{severity_in, severity_named, with_layer, with_severity, with_cond, noted, with_constraint, with_clause, with_clauses, is_asked, rule_by, with_rule, with_rules, is_version, no_rules, rules_of};
+ghost use Rattle.rule_text.specs.RulesOf.{severity_in, severity_named, is_asked, is_version, no_rules, rules_of};
+ghost use Rattle.rule_text.specs.Walk.{with_layer, with_severity, with_cond, noted, with_constraint, with_clause, with_clauses, rule_by, with_rule, with_rules};
 ghost use Rattle.rule_text.specs.Short.{AllShort, IsShort};
 ghost use Rattle.rule_text.specs.Views.{plain_draft, plain_lists, plain_rules, Gives};
 
@@ -54,7 +55,7 @@ fn severity_in(clause: Node<'_, '_>) -> Result<Severity, RuleError>
     }
 }
 
-#[tactic(auto, unfolding(crate::specs::RulesOf::with_layer))]
+#[tactic(auto, unfolding(crate::specs::Walk::with_layer))]
 fn with_layer(draft: Draft, clause: Node<'_, '_>) -> Result<Draft, RuleError>
     ensures { Gives plain_draft result (with_layer (plain_draft draft) (tree_of clause.entry)) }
 {
@@ -66,7 +67,7 @@ fn with_layer(draft: Draft, clause: Node<'_, '_>) -> Result<Draft, RuleError>
     Ok(draft)
 }
 
-#[tactic(auto, unfolding(crate::specs::RulesOf::with_severity))]
+#[tactic(auto, unfolding(crate::specs::Walk::with_severity))]
 fn with_severity(draft: Draft, clause: Node<'_, '_>) -> Result<Draft, RuleError>
     ensures { Gives plain_draft result (with_severity (plain_draft draft) (tree_of clause.entry)) }
 {
@@ -79,7 +80,7 @@ fn with_severity(draft: Draft, clause: Node<'_, '_>) -> Result<Draft, RuleError>
 }
 
 /// Where no condition is asked, it is passed over.
-#[tactic(auto, unfolding(crate::specs::RulesOf::with_cond))]
+#[tactic(auto, unfolding(crate::specs::Walk::with_cond))]
 fn with_cond(
     alloc: Global,
     asked: bool,
@@ -112,7 +113,7 @@ fn with_note(alloc: Global, draft: Draft, name: Node<'_, '_>) -> Result<Draft, R
 }
 
 /// Of two constraints of one kind the first counts.
-#[tactic(auto, unfolding(crate::specs::RulesOf::with_constraint))]
+#[tactic(auto, unfolding(crate::specs::Walk::with_constraint))]
 fn with_constraint(alloc: Global, draft: Draft, clause: Node<'_, '_>) -> Result<Draft, RuleError>
     requires { IsShort (tree_of clause) }
     ensures { Gives plain_draft result (with_constraint (plain_draft draft) (tree_of clause.entry)) }
@@ -130,7 +131,7 @@ fn with_constraint(alloc: Global, draft: Draft, clause: Node<'_, '_>) -> Result<
     Ok(draft)
 }
 
-#[tactic(auto, unfolding(crate::specs::RulesOf::with_clause))]
+#[tactic(auto, unfolding(crate::specs::Walk::with_clause))]
 fn with_clause(
     alloc: Global,
     asked: bool,
@@ -154,7 +155,7 @@ fn with_clause(
 }
 
 /// What all clauses of a rule say.
-#[tactic(auto, using(crate::proofs::Shortness::clauses_short, crate::proofs::Shortness::first_short, crate::proofs::Shortness::rest_short), unfolding(crate::specs::RulesOf::with_clauses))]
+#[tactic(auto, using(crate::proofs::Shortness::clauses_short, crate::proofs::Shortness::first_short, crate::proofs::Shortness::rest_short), unfolding(crate::specs::Walk::with_clauses))]
 fn with_clauses(alloc: Global, draft: Draft, form: Node<'_, '_>) -> Result<Draft, RuleError>
     requires { IsShort (tree_of form) }
     ensures { Gives plain_draft result (with_clauses (is_asked (clauses (tree_of form.entry))) (plain_draft draft) (clauses (tree_of form.entry))) }
@@ -187,7 +188,7 @@ fn rule_by(name: Name, draft: Draft) -> (Rule, Vec<RuleNote>)
 }
 
 /// `(rule NAME CLAUSE ..)`.
-#[tactic(auto, unfolding(crate::specs::RulesOf::with_rule))]
+#[tactic(auto, unfolding(crate::specs::Walk::with_rule))]
 fn with_rule(alloc: Global, lists: Lists, form: Node<'_, '_>) -> Result<Lists, RuleError>
     requires short { IsShort (tree_of form) }
     requires few { length lists.rules.items < 33554432 }
@@ -214,7 +215,7 @@ fn with_rule(alloc: Global, lists: Lists, form: Node<'_, '_>) -> Result<Lists, R
 }
 
 /// The rules of the forms that are left.
-#[tactic(auto, using(crate::proofs::Shortness::first_short, crate::proofs::Shortness::rest_short), unfolding(crate::specs::RulesOf::with_rules))]
+#[tactic(auto, using(crate::proofs::Shortness::first_short, crate::proofs::Shortness::rest_short), unfolding(crate::specs::Walk::with_rules))]
 fn with_rules(alloc: Global, forms: Children<'_, '_>) -> Result<Lists, RuleError>
     requires short { AllShort (trees_left forms) }
     requires few { length (trees_left forms) ≤ 33554432 }
@@ -245,7 +246,7 @@ fn is_version(form: Node<'_, '_>) -> bool
 }
 
 /// The rules of these forms, or the refusal where there is none.
-#[tactic(auto, using(crate::proofs::Shortness::first_short, crate::proofs::Shortness::rest_short), unfolding(crate::specs::RulesOf::rules_of))]
+#[tactic(auto, using(crate::proofs::InOrder::rules_in_order, crate::proofs::Shortness::first_short, crate::proofs::Shortness::rest_short), unfolding(crate::specs::RulesOf::rules_of))]
 pub(crate) fn rules_of(
     alloc: Global,
     none: RuleError,

@@ -17,7 +17,7 @@ returns c =
     let opening = turns.one_opening rows parts held in
     let turn = turns.one_turn rows parts held c.one_answer.ensures c.one_recheck.ensures in
     let step = turns.one_step_turn rows parts held c.one_step.ensures c.one_recheck.ensures in
-    let both = once.one_output c.one_reading.ensures c.one_reading-2.ensures c.one_reading-3.ensures.commands c.one_reading-3.ensures.steps
+    once.one_output c.one_reading.ensures c.one_reading-2.ensures c.one_reading-3.ensures.commands c.one_reading-3.ensures.steps
     (λ short s. told.one_told rows opening (IsTurn short) (turn short) itself short s)
     (λ short s. told.front_of_told rows opening (IsTurn short) (turn short) itself short s)
     (λ s. told.one_told rows opening IsStepTurn step present_of false (begun s))
@@ -25,4 +25,4 @@ returns c =
     (λ s. trials.one_tried c.one_answer.ensures rows c.one_trial.ensures.rows s (c.one_survey.ensures s))
     (λ s. trials.front_of_tried c.one_answer.ensures rows c.one_trial.ensures.rows s)
     (told.one_stolen rows)
-    (written.one_written c.one_outcome.ensures) in record { one = both.0; front = both.1 }
+    (written.one_written c.one_outcome.ensures)

@@ -1,6 +1,7 @@
 use Rattle.std.proofs.Common.{◌≡◌, ◌≤◌, ◌+◌, length, map, sum_by, All}
 use Rattle.sexpr_read.specs.Views.{trees_left}
-use Rattle.edit_script.specs.CommandsOf.{step_of, each_of}
+use Rattle.list_read.specs.Answers.{each_of}
+use Rattle.edit_script.specs.CommandsOf.{step_of}
 use Rattle.edit_script.specs.Fits.{StepFits, FormsStandIn, FormsShallow, size_of, added_by_step}
 use Rattle.edit_script.specs.Commands.{plain_step}
 use Rattle.edit_script.proofs.OneByOne.{read_on}

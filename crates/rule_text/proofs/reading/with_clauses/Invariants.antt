@@ -1,7 +1,8 @@
 use Rattle.std.proofs.Common.{◌≡◌}
 use Rattle.sexpr_read.specs.Views.{tree_of, trees_left}
 use Rattle.rule_text.specs.Forms.{clauses}
-use Rattle.rule_text.specs.RulesOf.{is_asked, with_clauses}
+use Rattle.rule_text.specs.RulesOf.{is_asked}
+use Rattle.rule_text.specs.Walk.{with_clauses}
 use Rattle.rule_text.specs.Short.{AllShort}
 use Rattle.rule_text.specs.Views.{plain_draft}
 use Rattle.rule_text.proofs.reading.with_clauses.Given as goal

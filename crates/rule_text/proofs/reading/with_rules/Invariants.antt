@@ -1,6 +1,7 @@
 use Rattle.std.proofs.Common.{◌≡◌, ◌≤◌, ◌+◌, length}
 use Rattle.sexpr_read.specs.Views.{trees_left}
-use Rattle.rule_text.specs.RulesOf.{no_rules, with_rules}
+use Rattle.rule_text.specs.RulesOf.{no_rules}
+use Rattle.rule_text.specs.Walk.{with_rules}
 use Rattle.rule_text.specs.Short.{AllShort}
 use Rattle.rule_text.specs.Views.{plain_lists}
 use Rattle.rule_text.proofs.reading.with_rules.Given as goal
