@@ -1,5 +1,5 @@
 -- The cores of a figure that stands elsewhere are those of the figure, moved.
-use Rattle.std.proofs.Common.{◌≡◌, ◌∙◌, refl, sym, ap, subst, ℤ, pos, ◌+ℤ◌, ◌*ℤ◌, Bool, true, false, ◌||◌, cond, List, [], ◌∷◌, Option, None, Some, arith}
+use Rattle.std.proofs.Common.{◌≡◌, ◌∙◌, refl, sym, ap, subst, ℤ, pos, ◌+ℤ◌, ◌*ℤ◌, Bool, true, false, ◌||◌, cond, List, [], ◌∷◌, Option, Some, option_map, arith}
 use Rattle.std.specs.List.{AllZip}
 use Rattle.std.specs.Ordering.{int_eq}
 use Rattle.std.proofs.lemmas.Int.{ints}
@@ -9,12 +9,14 @@ use Rattle.geo_seg.specs.declared.shapes.Core.{Core}
 use Rattle.geo_seg.specs.declared.shapes.Core.TheVariants.{Line as LineCore, Area}
 use Rattle.part_read.specs.declared.numbers.Spot.{Spot}
 use Rattle.part_read.specs.declared.stances.Stance.{Stance}
+use Rattle.part_read.specs.There.{both}
 use Rattle.part_read.specs.Stances.{point_stood, points_stood}
-use Rattle.part_read.specs.Figures.{sides_from, sides, box_corners, line_cores, cores_between, box_between, cores_around}
+use Rattle.part_read.specs.Figures.{sides_from, sides, box_corners, line_cores, box_between, cores_around}
+use Rattle.part_read.proofs.There.{map_some, both_some}
 use Rattle.part_read.proofs.Shapes.{one_point}
 use Rattle.read_alike.specs.Alike.{Shift}
 use Rattle.read_alike.specs.Standing.{StandsMoved}
-use Rattle.read_alike.proofs.Figures.{moved_point, moved_core, point_carried, points_carried, between_some, one_same, some_same}
+use Rattle.read_alike.proofs.Figures.{moved_point, moved_core, point_carried, points_carried, one_same}
 
 -- numbers that are moved alike are equal where they were
 eq_moved : (a b d : ℤ) → int_eq (a +ℤ d) (b +ℤ d) ≡ int_eq a b
@@ -160,23 +162,19 @@ module _ (d : Shift) (stance new : Stance) where
       record { one = m.one; two = m.two; is_one = m.is_one; is_two = m.is_two; are = k.2 ∙ ap (λ (l : List Point). line_cores (sides l)) m.are }
 
   pub box_carried : (filled : Bool) (a b c e : Spot) (cores others : List Core) → StandsMoved d stance new a c → StandsMoved d stance new b e
-      → cores_between (box_between filled) (point_stood stance a) (point_stood stance b) ≡ Some cores → AreMoved cores others → cores_between (box_between filled) (point_stood new c) (point_stood new e) ≡ Some others
+      → both (box_between filled) (point_stood stance a) (point_stood stance b) ≡ Some cores → AreMoved cores others → both (box_between filled) (point_stood new c) (point_stood new e) ≡ Some others
   box_carried filled a b c e cores others sa sb some h =
-      let k = between_some d stance new (box_between filled) (point_stood stance a) (point_stood stance b) cores some in
+      let k = both_some (box_between filled) (point_stood stance a) (point_stood stance b) cores some in
       let m = box_moved filled k.0 k.1 others (subst (λ (l : List Core). AreMoved l others) k.4 h) in
-      ap (λ (o : Option Point). cores_between (box_between filled) o (point_stood new e)) (point_carried d stance new a c k.0 m.one sa k.2 m.is_one)
-      ∙ ap (λ (o : Option Point). cores_between (box_between filled) (Some m.one) o) (point_carried d stance new b e k.1 m.two sb k.3 m.is_two)
+      ap (λ (o : Option Point). both (box_between filled) o (point_stood new e)) (point_carried d stance new a c k.0 m.one sa k.2 m.is_one)
+      ∙ ap (λ (o : Option Point). both (box_between filled) (Some m.one) o) (point_carried d stance new b e k.1 m.two sb k.3 m.is_two)
       ∙ ap (λ (l : List Core). let o : Option (List Core) = Some l in o) (sym m.are)
 
   -- ---- outlines that are not filled
 
-  open_some : (o : Option (List Point)) (all : List Core) → cores_around false o ≡ Some all → (ps : List Point) × (o ≡ Some ps) × (all ≡ line_cores (sides ps))
-  open_some None all e = absurd cc
-  open_some (Some ps) all e = (ps, refl, sym (some_same e))
-
-  pub open_carried : (ss ts : List Spot) (cores others : List Core) → AllZip (StandsMoved d stance new) ss ts → cores_around false (points_stood stance ss) ≡ Some cores → AreMoved cores others
-      → cores_around false (points_stood new ts) ≡ Some others
+  pub open_carried : (ss ts : List Spot) (cores others : List Core) → AllZip (StandsMoved d stance new) ss ts → option_map (cores_around false) (points_stood stance ss) ≡ Some cores → AreMoved cores others
+      → option_map (cores_around false) (points_stood new ts) ≡ Some others
   open_carried ss ts cores others stands some h =
-      let k = open_some (points_stood stance ss) cores some in
+      let k = map_some (cores_around false) (points_stood stance ss) cores some in
       let m = sides_moved k.0 others (subst (λ (l : List Core). AreMoved l others) k.2 h) in
-      ap (cores_around false) (points_carried d stance new ss ts k.0 m.0 stands k.1 m.1) ∙ ap (λ (l : List Core). let o : Option (List Core) = Some l in o) (sym m.2)
+      ap (option_map (cores_around false)) (points_carried d stance new ss ts k.0 m.0 stands k.1 m.1) ∙ ap (λ (l : List Core). let o : Option (List Core) = Some l in o) (sym m.2)

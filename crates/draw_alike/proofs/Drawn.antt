@@ -1,5 +1,5 @@
 -- What is drawn elsewhere is what was drawn, moved.
-use Rattle.std.proofs.Common.{◌≡◌, ◌∙◌, refl, sym, ap, subst, ℕ, ◌+◌, ◌≤◌, ℤ, pos, ◌+ℤ◌, ◌-ℤ◌, ◌*ℤ◌, ◌≤ℤ◌, unsigned_abs, Bool, true, false, cond, List, [], ◌∷◌, map, Option, None, Some, inl, inr, arith}
+use Rattle.std.proofs.Common.{◌≡◌, ◌∙◌, refl, sym, ap, subst, ℕ, ◌+◌, ◌≤◌, ℤ, pos, ◌+ℤ◌, ◌-ℤ◌, ◌*ℤ◌, ◌≤ℤ◌, unsigned_abs, Bool, true, false, cond, List, [], ◌∷◌, Option, None, Some, inl, inr, arith}
 use Rattle.std.specs.List.{AllZip}
 use Rattle.std.proofs.lemmas.Int.{ints}
 use Rattle.int_algebra.proofs.Tested.{back, le_by_test}
@@ -20,14 +20,16 @@ use Rattle.part_read.specs.declared.figures.Drawing.{Drawing}
 use Rattle.part_read.specs.Circles.{squared, square_between, root, radius_between}
 use Rattle.plain_types.specs.Lengths.{is_length}
 use Rattle.part_read.specs.OnBoard.{fits_board, point_at}
+use Rattle.part_read.specs.There.{both}
 use Rattle.part_read.specs.Stances.{stood, point_stood}
-use Rattle.part_read.specs.Figures.{line_between, cores_between, cores_of, radius_at, radius_of, around, parts_around, radius_with, drawn, drawn_edge}
+use Rattle.part_read.specs.Figures.{line_between, cores_of, radius_at, radius_of, parts_around, radius_with, drawn, drawn_edge}
+use Rattle.part_read.proofs.There.{some_same, both_some}
 use Rattle.read_alike.specs.Alike.{Shift}
 use Rattle.read_alike.specs.Carried.{shift_of}
 use Rattle.read_alike.specs.Moved.{moved_spot, IsMovedSpot}
 use Rattle.read_alike.specs.Standing.{StandsMoved}
 use Rattle.read_alike.proofs.Circles.{end_within}
-use Rattle.read_alike.proofs.Figures.{moved_point, moved_core, line_carried, filled_carried, parts_carried, some_same, tested_some}
+use Rattle.read_alike.proofs.Figures.{moved_point, moved_core, line_carried, filled_carried, parts_carried, tested_some}
 use Rattle.read_alike.proofs.Shapes.{near_within, half_near, settled}
 use Rattle.draw_alike.specs.Drawn.{FigureRead}
 use Rattle.draw_alike.proofs.Cores.{box_carried, open_carried}
@@ -103,23 +105,11 @@ module _ (o : Option Shift) (d : Shift) (stance new : Stance) (stances : Stances
 
   -- ---- with a radius around them
 
-  record Around (layers : LayerSet) (radius : Option Radius) (cores : Option (List Core)) (parts : List Part) : Type 0 where
-    r : Radius
-    all : List Core
-    is : radius ≡ Some r
-    are : cores ≡ Some all
-    makes : map (λ (core : Core). record { layers = layers; shape = around r core }) all ≡ parts
-
-  parts_some : (layers : LayerSet) (radius : Option Radius) (cores : Option (List Core)) (parts : List Part) → parts_around layers radius cores ≡ Some parts → Around layers radius cores parts
-  parts_some layers None cores parts e = absurd cc
-  parts_some layers (Some r) None parts e = absurd cc
-  parts_some layers (Some r) (Some all) parts e = record { r = r; all = all; is = refl; are = refl; makes = some_same e }
-
   length_of : (w : ℤ) (r : Radius) → radius_of w ≡ Some r → w ≤ℤ pos 500000000
   length_of w r e = let k = tested_some (is_length w) (radius_at w) r e in le_by_test w (pos 500000000) (back _ _ k.0)
 
   -- the centre of a circle whose moved core is a core is on the board
-  near_center : (a : Spot) (cores others : List Core) → cores_between line_between (point_stood stance a) (point_stood stance a) ≡ Some cores → AreMoved cores others
+  near_center : (a : Spot) (cores others : List Core) → both line_between (point_stood stance a) (point_stood stance a) ≡ Some cores → AreMoved cores others
       → (is_near ((stood stance a).x +ℤ d.dx) ≡ true) × (is_near ((stood stance a).y +ℤ d.dy) ≡ true)
   near_center a cores others some m = by_point (point_stood stance a) refl some
     where
@@ -138,7 +128,7 @@ module _ (o : Option Shift) (d : Shift) (stance new : Stance) (stances : Stances
       by_core p e (Area corners ∷ []) h = absurd h.0
       by_core p e (LineCore s ∷ []) h = near_point p s.a e h.0.0
 
-      by_point : (p : Option Point) → point_stood stance a ≡ p → cores_between line_between p p ≡ Some cores → (is_near ((stood stance a).x +ℤ d.dx) ≡ true) × (is_near ((stood stance a).y +ℤ d.dy) ≡ true)
+      by_point : (p : Option Point) → point_stood stance a ≡ p → both line_between p p ≡ Some cores → (is_near ((stood stance a).x +ℤ d.dx) ≡ true) × (is_near ((stood stance a).y +ℤ d.dy) ≡ true)
       by_point None e k = absurd cc
       by_point (Some p) e k = by_core p e others (subst (λ (l : List Core). AreMoved l others) (sym (some_same k)) m)
 
@@ -169,12 +159,12 @@ module _ (o : Option Shift) (d : Shift) (stance new : Stance) (stances : Stances
   pub drawn_carried : (layers : LayerSet) (x : Drawing) (figure : Figure) (parts others : List Part) → FigureRead o x.figure figure → pos 0 ≤ℤ x.width → drawn layers stance x ≡ Some parts
       → AreShifted (pos 2 *ℤ d.dx) (pos 2 *ℤ d.dy) parts others → drawn layers new (record x { figure = figure }) ≡ Some others
   drawn_carried layers x figure parts others h from some m =
-      let k = parts_some layers (radius_of (radius_with x.width x.figure)) (cores_of stance x.filled x.figure) parts some in
-      let c = parts_carried (pos 2 *ℤ d.dx) (pos 2 *ℤ d.dy) layers k.r k.all others (subst (λ (l : List Part). AreShifted (pos 2 *ℤ d.dx) (pos 2 *ℤ d.dy) l others) (sym k.makes) m) in
-      let width : radius_with x.width figure ≡ radius_with x.width x.figure = radius_same x.figure figure x.width x.filled k.r k.all c.0 h from k.is k.are c.1 in
-      ap (λ (z : ℤ). parts_around layers (radius_of z) (cores_of new x.filled figure)) width
-      ∙ ap (λ (z : Option Radius). parts_around layers z (cores_of new x.filled figure)) k.is
-      ∙ ap (λ (z : Option (List Core)). parts_around layers (Some k.r) z) (cores_carried x.filled x.figure figure k.all c.0 h k.are c.1)
+      let k = both_some (parts_around layers) (radius_of (radius_with x.width x.figure)) (cores_of stance x.filled x.figure) parts some in
+      let c = parts_carried (pos 2 *ℤ d.dx) (pos 2 *ℤ d.dy) layers k.0 k.1 others (subst (λ (l : List Part). AreShifted (pos 2 *ℤ d.dx) (pos 2 *ℤ d.dy) l others) k.4 m) in
+      let width : radius_with x.width figure ≡ radius_with x.width x.figure = radius_same x.figure figure x.width x.filled k.0 k.1 c.0 h from k.2 k.3 c.1 in
+      ap (λ (z : ℤ). both (parts_around layers) (radius_of z) (cores_of new x.filled figure)) width
+      ∙ ap (λ (z : Option Radius). both (parts_around layers) z (cores_of new x.filled figure)) k.2
+      ∙ ap (λ (z : Option (List Core)). both (parts_around layers) (Some k.0) z) (cores_carried x.filled x.figure figure k.1 c.0 h k.3 c.1)
       ∙ ap (λ (l : List Part). let z : Option (List Part) = Some l in z) (sym c.2)
 
   pub edge_carried : (x : Drawing) (figure : Figure) (parts others : List Part) → FigureRead o x.figure figure → drawn_edge stance x ≡ Some parts

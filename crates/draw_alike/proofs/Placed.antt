@@ -15,7 +15,6 @@ use Rattle.copper_layers.specs.Layers.{single_layer}
 use Rattle.board_items.specs.Boards.{PlainBoard, is_on_board}
 use Rattle.part_read.specs.declared.numbers.Spot.{Spot}
 use Rattle.part_read.specs.declared.stances.Stance.{Stance}
-use Rattle.part_read.specs.declared.radii.Radius.{Radius}
 use Rattle.part_read.specs.declared.figures.Figure.{Figure}
 use Rattle.part_read.specs.declared.figures.Figure.TheVariants.{Line, Rect, Circle, Outline}
 use Rattle.part_read.specs.declared.figures.Drawing.{Drawing}
@@ -31,11 +30,12 @@ use Rattle.plain_types.specs.Lengths.{is_length}
 use Rattle.part_read.specs.OnBoard.{tested, fits_board, point_at}
 use Rattle.part_read.specs.NetsOf.{net_of}
 use Rattle.part_read.specs.Numbers.{spot_of}
-use Rattle.part_read.specs.Stances.{stood, point_stood, with_point, points_stood}
-use Rattle.part_read.specs.Figures.{cores_between, cores_around, cores_of, radius_of, radius_with, parts_around, drawn, drawn_edge, first_of, first_spot, is_ring, is_circle}
+use Rattle.part_read.specs.Stances.{stood, point_stood, points_stood}
+use Rattle.part_read.specs.Figures.{cores_of, drawn, drawn_edge, first_of, first_spot, is_ring, is_circle}
 use Rattle.part_read.specs.Drawings.{spots_among, enough, corners_in, corners_of, width_of, fill_of, line_drawing, rect_drawing, circle_drawing, outline_drawing, drawing_of}
 use Rattle.part_read.specs.PlainItems.{plain_item}
 use Rattle.part_read.specs.Graphics.{copper_graphic, edge_graphic, note_of, one_item, graphic_by, curve_by, text_by}
+use Rattle.part_read.proofs.There.{map_some, both_some}
 use Rattle.part_read.proofs.Reach.{both_ok}
 use Rattle.read_alike.specs.Carried.{ItemsOf}
 
@@ -110,42 +110,22 @@ drawing_started OutlineKind tree d h =
 
 -- ---- the first spot of what is drawn lies on the board
 
-with_first : (p : Option Point) (ps : Option (List Point)) (all : List Point) → with_point p ps ≡ Some all → (q : Point) × (p ≡ Some q)
-with_first None ps all h = absurd cc
-with_first (Some p) None all h = absurd cc
-with_first (Some p) (Some ps) all h = (p, refl)
-
 point_near : (stance : Stance) (s : Spot) (p : Point) → point_stood stance s ≡ Some p → fits_board (stood stance s) ≡ true
 point_near stance s p h = (made_of (fits_board (stood stance s)) (point_at (stood stance s)) p h).0
 
-between_first : (f : Point → Point → List Core) (p q : Option Point) (cores : List Core) → cores_between f p q ≡ Some cores → (a : Point) × (p ≡ Some a)
-between_first f None q cores h = absurd cc
-between_first f (Some p) None cores h = absurd cc
-between_first f (Some p) (Some q) cores h = (p, refl)
-
-around_first : (filled : Bool) (ps : Option (List Point)) (cores : List Core) → cores_around filled ps ≡ Some cores → (all : List Point) × (ps ≡ Some all)
-around_first filled None cores h = absurd cc
-around_first filled (Some ps) cores h = (ps, refl)
-
 spots_near : (stance : Stance) (spots : List Spot) (ps : List Point) → 1 ≤ length spots → points_stood stance spots ≡ Some ps → fits_board (stood stance (first_of spots)) ≡ true
 spots_near stance [] ps n h = absurd (omega (arith, n))
-spots_near stance (s ∷ ss) ps n h = let found = with_first _ _ ps h in point_near stance s found.0 found.1
+spots_near stance (s ∷ ss) ps n h = let found = both_some _ _ _ ps h in point_near stance s found.0 found.2
 
 figure_near : (stance : Stance) (filled : Bool) (figure : Figure) (cores : List Core) → IsStarted figure → cores_of stance filled figure ≡ Some cores → fits_board (stood stance (first_spot figure)) ≡ true
-figure_near stance filled (Line a b) cores s h = let found = between_first _ _ _ cores h in point_near stance a found.0 found.1
-figure_near stance filled (Rect a b) cores s h = let found = between_first _ _ _ cores h in point_near stance a found.0 found.1
-figure_near stance filled (Circle c r) cores s h = let found = between_first _ _ _ cores h in point_near stance c found.0 found.1
-figure_near stance filled (Outline spots) cores s h = let found = around_first filled _ cores h in spots_near stance spots found.0 s found.1
-
-cores_there : (layers : LayerSet) (r : Option Radius) (o : Option (List Core)) (ps : List Part) → parts_around layers r o ≡ Some ps → (cores : List Core) × (o ≡ Some cores)
-cores_there layers None o ps h = absurd cc
-cores_there layers (Some r) None ps h = absurd cc
-cores_there layers (Some r) (Some cores) ps h = (cores, refl)
+figure_near stance filled (Line a b) cores s h = let found = both_some _ _ _ cores h in point_near stance a found.0 found.2
+figure_near stance filled (Rect a b) cores s h = let found = both_some _ _ _ cores h in point_near stance a found.0 found.2
+figure_near stance filled (Circle c r) cores s h = let found = both_some _ _ _ cores h in point_near stance c found.0 found.2
+figure_near stance filled (Outline spots) cores s h = let found = map_some _ _ cores h in spots_near stance spots found.0 s found.1
 
 drawn_near : (layers : LayerSet) (stance : Stance) (d : Drawing) (ps : List Part) → IsStarted d.figure → drawn layers stance d ≡ Some ps → fits_board (stood stance (first_spot d.figure)) ≡ true
 drawn_near layers stance d ps s h =
-    let m = cores_there layers (radius_of (radius_with d.width d.figure)) (cores_of stance d.filled d.figure) ps h in
-    figure_near stance d.filled d.figure m.0 s m.1
+    let m = both_some _ _ _ ps h in figure_near stance d.filled d.figure m.1 s m.3
 
 edge_drawn : (stance : Stance) (d : Drawing) (ps : List Part) (b : Bool) → is_length d.width ≡ b
     → cond {A = Option (List Part)} b (drawn (record { bits = 0 }) stance (record { figure = d.figure; width = pos 0; filled = false })) None ≡ Some ps

@@ -1,14 +1,14 @@
 -- Single steps of chains of answers.
-use Rattle.std.proofs.Common.{◌≡◌, refl, sym, subst, ℕ, Bool, true, false, List, Option, None, Some, Result, Ok, Err}
+use Rattle.std.proofs.Common.{◌≡◌, refl, sym, subst, ℕ, Bool, true, false, List, Option, None, Some, option_and_then, Result, Ok, Err}
 use Rattle.sexpr_read.specs.Tree.{none, Tree, leaf, branch, trees, parts}
 use Rattle.board_errors.specs.declared.errors.BoardError.{BoardError}
 use Rattle.list_read.specs.Answers.{◌>>=◌, needed, check}
 use Rattle.list_read.specs.Heads.{has_head}
 use Rattle.list_read.specs.Elements.{element}
-use Rattle.read_alike.specs.Alike.{Shift}
+use Rattle.read_alike.specs.Alike.{Shift, is_place_word}
 use Rattle.read_alike.specs.Agreeing.{Agrees, Same, AlikeParts, FoundAlike, forest_in}
 use Rattle.read_alike.specs.Carried.{Leads}
-use Rattle.read_alike.proofs.Elements.{heads_alike, find_alike}
+use Rattle.read_alike.proofs.Elements.{heads_alike, find_alike, inside_by_head}
 
 -- what is known of the first answer too
 pub agrees_with : {A B : Type 0} (R : A → B → Type 0) (P : A → Type 0) (a : Result A BoardError) (b : Result B BoardError) → ((x : A) → a ≡ Ok x → P x) → Agrees R a b → Agrees (λ x y. R x y × P x) a b
@@ -62,3 +62,11 @@ element_in d word (leaf s q c) (leaf r p e) h = tt
 element_in d word (leaf s q c) (branch r j) h = find_alike d (has_head word) (λ t u k. heads_alike d t u word k) none j h
 element_in d word (branch s i) (leaf r p e) h = find_alike d (has_head word) (λ t u k. heads_alike d t u word k) i none h
 element_in d word (branch s i) (branch r j) h = find_alike d (has_head word) (λ t u k. heads_alike d t u word k) i j h
+
+-- the element of an element, where both may be missing
+pub inner_found : (d : Option Shift) (word inner : List ℕ) (o p : Option Tree) → is_place_word word ≡ false → FoundAlike d (has_head word) o p
+    → FoundAlike d (has_head inner) (option_and_then (element inner) o) (option_and_then (element inner) p)
+inner_found d word inner None None plain h = tt
+inner_found d word inner None (Some u) plain h = absurd h
+inner_found d word inner (Some t) None plain h = absurd h
+inner_found d word inner (Some t) (Some u) plain h = element_in d inner t u (inside_by_head d t u word h.0 h.1 plain)

@@ -1,6 +1,7 @@
 -- Widths and fills of alike lists are the same.
 use Rattle.std.proofs.Common.{◌≡◌, ◌∙◌, refl, sym, ap, subst, ℕ, ℤ, pos, Bool, true, false, ◌||◌, cond, List, codes, Option, None, Some, Result, Ok, Err}
 use Rattle.std.specs.Prelude.{int_le}
+use Rattle.std.specs.Option.{option_or}
 use Rattle.sexpr_read.specs.declared.place.Span.{Span}
 use Rattle.sexpr_read.specs.Tree.{Forest, Tree, branch}
 use Rattle.board_errors.specs.declared.errors.BoardError.{BoardError}
@@ -8,14 +9,14 @@ use Rattle.board_errors.specs.declared.errors.BoardError.TheVariants.{BadNumber}
 use Rattle.list_read.specs.Answers.{◌>>=◌}
 use Rattle.list_read.specs.Heads.{place, is_value, is_text, has_head}
 use Rattle.list_read.specs.Elements.{element}
-use Rattle.part_read.specs.Elements.{atom_of}
+use Rattle.part_read.specs.Elements.{given_or, atom_of}
 use Rattle.part_read.specs.Numbers.{length_in, size_in, size_at}
-use Rattle.part_read.specs.Drawings.{stroke_width, first_there, width_among, width_of, filled_by, fill_among, fill_of}
+use Rattle.part_read.specs.Drawings.{width_list, width_of, filled_by, fill_of}
 use Rattle.read_alike.specs.Alike.{Shift, Alike}
 use Rattle.read_alike.specs.Agreeing.{Agrees, Same, SameAtom, FoundAlike}
-use Rattle.read_alike.proofs.Elements.{agrees_bind, agrees_both, element_alike, inside_by_head, same_value, atom_alike}
+use Rattle.read_alike.proofs.Elements.{agrees_bind, agrees_both, element_alike, given_or_alike, inside_by_head, same_value, atom_alike}
 use Rattle.read_alike.proofs.Numbers.{size_at_alike}
-use Rattle.draw_alike.proofs.Steps.{agrees_with, element_in}
+use Rattle.draw_alike.proofs.Steps.{agrees_with, inner_found}
 
 -- ---- sizes are not negative
 
@@ -39,29 +40,17 @@ size_at_from t n h = by_atom (atom_of 1 t) h
     by_atom (Ok x) k = size_from x n k
     by_atom (Err e) k = absurd cc
 
-among_from : (o : Option Tree) (n : ℤ) → width_among o ≡ Ok n → int_le (pos 0) n ≡ true
+among_from : (o : Option Tree) (n : ℤ) → given_or (pos 0) size_at o ≡ Ok n → int_le (pos 0) n ≡ true
 among_from None n h = let same : pos 0 ≡ n = cc in subst (λ (z : ℤ). int_le (pos 0) z ≡ true) same refl
 among_from (Some t) n h = size_at_from t n h
 
 -- ---- widths
 
-stroke_alike : (d : Option Shift) (o p : Option Tree) → FoundAlike d (has_head (codes "stroke")) o p → FoundAlike d (has_head (codes "width")) (stroke_width o) (stroke_width p)
-stroke_alike d None None h = tt
-stroke_alike d None (Some y) h = absurd h
-stroke_alike d (Some x) None h = absurd h
-stroke_alike d (Some x) (Some y) h = element_in d (codes "width") x y (inside_by_head d x y (codes "stroke") h.0 h.1 refl)
-
-first_alike : (d : Option Shift) (word : List ℕ) (o p m n : Option Tree) → FoundAlike d (has_head word) o p → FoundAlike d (has_head word) m n → FoundAlike d (has_head word) (first_there o m) (first_there p n)
+first_alike : (d : Option Shift) (word : List ℕ) (o p m n : Option Tree) → FoundAlike d (has_head word) o p → FoundAlike d (has_head word) m n → FoundAlike d (has_head word) (option_or o m) (option_or p n)
 first_alike d word None None m n h k = k
 first_alike d word None (Some y) m n h k = absurd h
 first_alike d word (Some x) None m n h k = absurd h
 first_alike d word (Some x) (Some y) m n h k = h
-
-among_alike : (d : Option Shift) (o p : Option Tree) → FoundAlike d (has_head (codes "width")) o p → Agrees Same (width_among o) (width_among p)
-among_alike d None None h = refl
-among_alike d None (Some y) h = absurd h
-among_alike d (Some x) None h = absurd h
-among_alike d (Some x) (Some y) h = size_at_alike d x y (inside_by_head d x y (codes "width") h.0 h.1 refl)
 
 -- the same width, which is not negative
 abbrev pub IsWide : ℤ → ℤ → Type 0
@@ -70,12 +59,12 @@ IsWide w v = (v ≡ w) × (int_le (pos 0) w ≡ true)
 pub width_alike : (d : Option Shift) (i j : Forest) (s r : Span) → Alike d i j → Agrees IsWide (width_of (branch s i)) (width_of (branch r j))
 unfolding width_of
 width_alike d i j s r h =
-    let one = first_there (stroke_width (element (codes "stroke") (branch s i))) (element (codes "width") (branch s i)) in
-    let two = first_there (stroke_width (element (codes "stroke") (branch r j))) (element (codes "width") (branch r j)) in
-    let found : FoundAlike d (has_head (codes "width")) one two =
-    first_alike d (codes "width") (stroke_width (element (codes "stroke") (branch s i))) (stroke_width (element (codes "stroke") (branch r j))) (element (codes "width") (branch s i)) (element (codes "width") (branch r j))
-    (stroke_alike d (element (codes "stroke") (branch s i)) (element (codes "stroke") (branch r j)) (element_alike d (codes "stroke") s r i j h)) (element_alike d (codes "width") s r i j h) in
-    agrees_with Same (λ w. int_le (pos 0) w ≡ true) (width_among one) (width_among two) (among_from one) (among_alike d one two found)
+    let found : FoundAlike d (has_head (codes "width")) (width_list (branch s i)) (width_list (branch r j)) =
+    first_alike d (codes "width") _ _ _ _
+    (inner_found d (codes "stroke") (codes "width") (element (codes "stroke") (branch s i)) (element (codes "stroke") (branch r j)) refl (element_alike d (codes "stroke") s r i j h)) (element_alike d (codes "width") s r i j h) in
+    agrees_with Same (λ w. int_le (pos 0) w ≡ true) (given_or (pos 0) size_at (width_list (branch s i))) (given_or (pos 0) size_at (width_list (branch r j))) (among_from (width_list (branch s i)))
+    (given_or_alike Same d (has_head (codes "width")) (pos 0) (pos 0) size_at size_at (width_list (branch s i)) (width_list (branch r j)) found refl
+    (λ x y k e. size_at_alike d x y (inside_by_head d x y (codes "width") k e refl)))
 
 -- ---- fills
 
@@ -91,12 +80,7 @@ filled_same otherwise t u h =
 
 pub fill_alike : (d : Option Shift) (otherwise : Bool) (i j : Forest) (s r : Span) → Alike d i j → Agrees Same (fill_of otherwise (branch s i)) (fill_of otherwise (branch r j))
 unfolding fill_of
-fill_alike d otherwise i j s r h = by_found (element (codes "fill") (branch s i)) (element (codes "fill") (branch r j)) (element_alike d (codes "fill") s r i j h)
-  where
-    by_found : (o p : Option Tree) → FoundAlike d (has_head (codes "fill")) o p → Agrees Same (fill_among otherwise o) (fill_among otherwise p)
-    by_found None None k = refl
-    by_found None (Some y) k = absurd k
-    by_found (Some x) None k = absurd k
-    by_found (Some x) (Some y) k =
-        agrees_bind SameAtom Same (atom_of 1 x) (atom_of 1 y) _ _ (agrees_both SameAtom (atom_of 1 x) (atom_of 1 y) (atom_alike d 1 x y (inside_by_head d x y (codes "fill") k.0 k.1 refl)))
-        (λ a b m. filled_same otherwise a b m)
+fill_alike d otherwise i j s r h =
+    given_or_alike Same d (has_head (codes "fill")) otherwise otherwise _ _ (element (codes "fill") (branch s i)) (element (codes "fill") (branch r j)) (element_alike d (codes "fill") s r i j h) refl
+    (λ x y k e. agrees_bind SameAtom Same (atom_of 1 x) (atom_of 1 y) _ _ (agrees_both SameAtom (atom_of 1 x) (atom_of 1 y) (atom_alike d 1 x y (inside_by_head d x y (codes "fill") k e refl)))
+    (λ a b m. filled_same otherwise a b m))

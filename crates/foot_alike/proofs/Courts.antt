@@ -1,5 +1,5 @@
 -- The courtyard of a footprint that is moved is the courtyard, moved.
-use Rattle.std.proofs.Common.{◌≡◌, ◌∙◌, refl, sym, ap, subst, ℕ, suc, ℤ, pos, ◌+◌, ◌+ℤ◌, ◌*ℤ◌, Bool, true, false, ◌&&◌, ◌||◌, ◌==◌, not, cond, List, [], ◌∷◌, ◌++◌, map, inl, inr, Option, None, Some, arith}
+use Rattle.std.proofs.Common.{◌≡◌, ◌∙◌, refl, sym, ap, subst, ℕ, suc, ℤ, pos, ◌+◌, ◌+ℤ◌, ◌*ℤ◌, Bool, true, false, ◌&&◌, ◌||◌, ◌==◌, not, cond, List, [], ◌∷◌, ◌++◌, map, inl, inr, Option, Some, option_map, arith}
 use Rattle.std.specs.List.{AllZip, list_all, slice_get}
 use Rattle.std.specs.Ordering.{int_eq}
 use Rattle.std.proofs.lemmas.Int.{ints}
@@ -17,9 +17,11 @@ use Rattle.part_read.specs.declared.stances.Stance.{Stance}
 use Rattle.part_read.specs.declared.radii.Radius.{Radius}
 use Rattle.part_read.specs.declared.figures.Figure.{Figure}
 use Rattle.part_read.specs.declared.figures.Figure.TheVariants.{Line as LineFigure, Rect as RectFigure, Circle as CircleFigure, Outline as OutlineFigure}
+use Rattle.part_read.specs.There.{both, after}
 use Rattle.part_read.specs.OnBoard.{tested, fits_board, point_at}
 use Rattle.part_read.specs.Stances.{point_stood, points_stood}
 use Rattle.part_read.specs.Figures.{box_core, no_radius, radius_of, around}
+use Rattle.part_read.proofs.There.{some_same, map_some, both_some}
 use Rattle.part_read.proofs.Shapes.{one_point, one_shape, is_tested}
 use Rattle.courtyard.specs.Ends.{place as spot_of_point, is_same, is_short}
 use Rattle.court_moves.specs.Moves.{IsShiftedSeg, AreShiftedSegs, HasPoint, HasCorner}
@@ -29,11 +31,11 @@ use Rattle.footprint_read.specs.declared.sides.Side.{Side}
 use Rattle.footprint_read.specs.declared.sides.Course.{Course}
 use Rattle.footprint_read.specs.declared.courts.Court.{Court}
 use Rattle.footprint_read.specs.declared.courts.Court.TheVariants.{Unchecked, Parts, Off}
-use Rattle.footprint_read.specs.Courtyards.{at, is_long, ends_at, many_at, is_met, is_closed, seg_between, seg_of, with_seg, segs_of, core_between, line_core, area_core, core_of, reach_of, court_part, part_by, figure_part, with_part, figure_parts, outline_part, HasParts, IsCourt, parts_in, lies_on_board}
+use Rattle.footprint_read.specs.Courtyards.{at, is_long, ends_at, many_at, is_met, is_closed, line_to, seg_of, segs_of, line_core, core_of, reach_of, court_part, figure_part, figure_parts, outline_part, HasParts, IsCourt, parts_in, lies_on_board}
 use Rattle.read_alike.specs.Alike.{Shift}
 use Rattle.read_alike.specs.Moved.{moved_spot}
 use Rattle.read_alike.specs.Standing.{StandsMoved}
-use Rattle.read_alike.proofs.Figures.{some_same, tested_some, point_carried, points_carried}
+use Rattle.read_alike.proofs.Figures.{tested_some, point_carried, points_carried}
 use Rattle.read_alike.proofs.Shapes.{half_near, fits_moved}
 use Rattle.draw_alike.proofs.Cores.{box_moved}
 use Rattle.pad_alike.specs.Heads.{moved_stance}
@@ -83,30 +85,6 @@ module _ (d : Shift) where
   abbrev ddy : ℤ
   ddy = pos 2 *ℤ d.dy
 
-  record Two (core : Point → Point → Core) (o r : Option Point) (c : Core) : Type 0 where
-    p : Point
-    q : Point
-    has_p : o ≡ Some p
-    has_q : r ≡ Some q
-    is : core p q ≡ c
-
-  two_some : (core : Point → Point → Core) (o r : Option Point) (c : Core) → core_between core o r ≡ Some c → Two core o r c
-  two_some core None r c h = absurd cc
-  two_some core (Some p) None c h = absurd cc
-  two_some core (Some p) (Some q) c h = record { p = p; q = q; has_p = refl; has_q = refl; is = some_same h }
-
-  record Made (r : Option Radius) (o : Option Core) (part : Part) : Type 0 where
-    radius : Radius
-    core : Core
-    has_radius : r ≡ Some radius
-    has_core : o ≡ Some core
-    is : court_part radius core ≡ part
-
-  made_some : (r : Option Radius) (o : Option Core) (part : Part) → part_by r o ≡ Some part → Made r o part
-  made_some None o part h = absurd cc
-  made_some (Some r) None part h = absurd cc
-  made_some (Some r) (Some core) part h = record { radius = r; core = core; has_radius = refl; has_core = refl; is = some_same h }
-
   first_core : {a b : Core} → a ∷ [] ≡ b ∷ [] → a ≡ b
   first_core h = cc
 
@@ -123,32 +101,31 @@ module _ (d : Shift) where
     stood_again : (s : Spot) (p q : Point) → point_stood stance s ≡ Some p → IsShiftedPoint ddx ddy p q → point_stood new s ≡ Some q
     stood_again s p q some h = point_carried d stance new s s p q ((moved_stances d stance).stands s s refl) some h
 
-    line_again : (a b : Spot) (core other : Core) → core_between line_core (point_stood stance a) (point_stood stance b) ≡ Some core → IsShiftedShape ddx ddy (around no_radius core) (around no_radius other)
-        → core_between line_core (point_stood new a) (point_stood new b) ≡ Some other
+    line_again : (a b : Spot) (core other : Core) → both line_core (point_stood stance a) (point_stood stance b) ≡ Some core → IsShiftedShape ddx ddy (around no_radius core) (around no_radius other)
+        → both line_core (point_stood new a) (point_stood new b) ≡ Some other
     line_again a b core other some h =
-        let k = two_some line_core (point_stood stance a) (point_stood stance b) core some in
-        by_core k.p k.q k.has_p k.has_q other (subst (λ (c : Core). IsShiftedShape ddx ddy (around no_radius c) (around no_radius other)) (sym k.is) h)
+        let k = both_some line_core (point_stood stance a) (point_stood stance b) core some in
+        by_core k.0 k.1 k.2 k.3 other (subst (λ (c : Core). IsShiftedShape ddx ddy (around no_radius c) (around no_radius other)) k.4 h)
       where
         by_core : (p q : Point) → point_stood stance a ≡ Some p → point_stood stance b ≡ Some q → (other : Core) → IsShiftedShape ddx ddy (around no_radius (line_core p q)) (around no_radius other)
-            → core_between line_core (point_stood new a) (point_stood new b) ≡ Some other
+            → both line_core (point_stood new a) (point_stood new b) ≡ Some other
         by_core p q ep eq (Area corners) h = absurd h.core
         by_core p q ep eq (LineCore s) h =
-            ap (λ (o : Option Point). core_between line_core o (point_stood new b)) (stood_again a p s.a ep h.core.0)
-            ∙ ap (λ (o : Option Point). core_between line_core (Some s.a) o) (stood_again b q s.b eq h.core.1)
+            ap (λ (o : Option Point). both line_core o (point_stood new b)) (stood_again a p s.a ep h.core.0)
+            ∙ ap (λ (o : Option Point). both line_core (Some s.a) o) (stood_again b q s.b eq h.core.1)
 
-    box_again : (a b : Spot) (core other : Core) → core_between box_core (point_stood stance a) (point_stood stance b) ≡ Some core → IsShiftedShape ddx ddy (around no_radius core) (around no_radius other)
-        → core_between box_core (point_stood new a) (point_stood new b) ≡ Some other
+    box_again : (a b : Spot) (core other : Core) → both box_core (point_stood stance a) (point_stood stance b) ≡ Some core → IsShiftedShape ddx ddy (around no_radius core) (around no_radius other)
+        → both box_core (point_stood new a) (point_stood new b) ≡ Some other
     box_again a b core other some h =
-        let k = two_some box_core (point_stood stance a) (point_stood stance b) core some in
-        let moved = subst (λ (c : Core). IsShiftedShape ddx ddy (around no_radius c) (around no_radius other)) (sym k.is) h in
-        let m = box_moved d stance new true k.p k.q (other ∷ []) (moved.core, tt) in
-        ap (λ (o : Option Point). core_between box_core o (point_stood new b)) (stood_again a k.p m.one k.has_p m.is_one)
-        ∙ ap (λ (o : Option Point). core_between box_core (Some m.one) o) (stood_again b k.q m.two k.has_q m.is_two)
+        let k = both_some box_core (point_stood stance a) (point_stood stance b) core some in
+        let moved = subst (λ (c : Core). IsShiftedShape ddx ddy (around no_radius c) (around no_radius other)) k.4 h in
+        let m = box_moved d stance new true k.0 k.1 (other ∷ []) (moved.core, tt) in
+        ap (λ (o : Option Point). both box_core o (point_stood new b)) (stood_again a k.0 m.one k.2 m.is_one)
+        ∙ ap (λ (o : Option Point). both box_core (Some m.one) o) (stood_again b k.1 m.two k.3 m.is_two)
         ∙ ap (λ (c : Core). let o : Option Core = Some c in o) (sym (first_core m.are))
 
-    area_some : (o : Option (List Point)) (core : Core) → area_core o ≡ Some core → (ps : List Point) × (o ≡ Some ps) × (Area ps ≡ core)
-    area_some None core h = absurd cc
-    area_some (Some ps) core h = (ps, refl, some_same h)
+    abbrev area : List Point → Core
+    area ps = Area ps
 
     all_stand : (spots : List Spot) → AllZip (StandsMoved d stance new) spots spots
     all_stand [] = tt
@@ -159,33 +136,21 @@ module _ (d : Shift) where
     core_again (RectFigure a b) core other some h = box_again a b core other some h
     core_again (CircleFigure c r) core other some h = line_again c c core other some h
     core_again (OutlineFigure spots) core other some h =
-        let k = area_some (points_stood stance spots) core some in
-        by_core k.0 k.1 other (subst (λ (c : Core). IsShiftedShape ddx ddy (around no_radius c) (around no_radius other)) (sym k.2) h)
+        let k = map_some area (points_stood stance spots) core some in
+        by_core k.0 k.1 other (subst (λ (c : Core). IsShiftedShape ddx ddy (around no_radius c) (around no_radius other)) k.2 h)
       where
-        by_core : (ps : List Point) → points_stood stance spots ≡ Some ps → (other : Core) → IsShiftedShape ddx ddy (around no_radius (Area ps)) (around no_radius other) → area_core (points_stood new spots) ≡ Some other
+        by_core : (ps : List Point) → points_stood stance spots ≡ Some ps → (other : Core) → IsShiftedShape ddx ddy (around no_radius (Area ps)) (around no_radius other) → option_map area (points_stood new spots) ≡ Some other
         by_core ps e (LineCore s) h = absurd h.core
-        by_core ps e (Area qs) h = ap area_core (points_carried d stance new spots spots ps qs (all_stand spots) e h.core)
+        by_core ps e (Area qs) h = ap (option_map area) (points_carried d stance new spots spots ps qs (all_stand spots) e h.core)
 
     figure_again : (figure : Figure) (part other : Part) → figure_part stance figure ≡ Some part → IsShiftedPart ddx ddy part other → figure_part new figure ≡ Some other
     figure_again figure part other some h =
-        let k = made_some (radius_of (reach_of figure)) (core_of stance figure) part some in
-        let shape = subst (λ (p : Part). IsShiftedShape ddx ddy p.shape other.shape) (sym k.is) h.shape in
-        let core = core_again figure k.core other.shape.core k.has_core (record { core = shape.core; radius = refl }) in
-        ap (λ (r : Option Radius). part_by r (core_of new figure)) k.has_radius
-        ∙ ap (λ (o : Option Core). part_by (Some k.radius) o) core
-        ∙ ap (λ (p : Part). let o : Option Part = Some p in o) (same_part part other h.layers k.radius k.core (sym k.is) h.shape.radius)
-
-    record Front (o : Option Part) (p : Option (List Part)) (all : List Part) : Type 0 where
-      part : Part
-      parts : List Part
-      has_part : o ≡ Some part
-      has_parts : p ≡ Some parts
-      are : part ∷ parts ≡ all
-
-    front_some : (o : Option Part) (p : Option (List Part)) (all : List Part) → with_part o p ≡ Some all → Front o p all
-    front_some None p all h = absurd cc
-    front_some (Some part) None all h = absurd cc
-    front_some (Some part) (Some parts) all h = record { part = part; parts = parts; has_part = refl; has_parts = refl; are = some_same h }
+        let k = both_some court_part (radius_of (reach_of figure)) (core_of stance figure) part some in
+        let shape = subst (λ (p : Part). IsShiftedShape ddx ddy p.shape other.shape) k.4 h.shape in
+        let core = core_again figure k.1 other.shape.core k.3 (record { core = shape.core; radius = refl }) in
+        ap (λ (r : Option Radius). both court_part r (core_of new figure)) k.2
+        ∙ ap (λ (o : Option Core). both court_part (Some k.0) o) core
+        ∙ ap (λ (p : Part). let o : Option Part = Some p in o) (same_part part other h.layers k.0 k.1 k.4 h.shape.radius)
 
     nothing_more : (parts others : List Part) → [] ≡ parts → AreShifted ddx ddy parts others → (let o : Option (List Part) = Some [] in o) ≡ Some others
     nothing_more [] [] e h = refl
@@ -195,14 +160,14 @@ module _ (d : Shift) where
     figures_again : (figures : List Figure) (parts others : List Part) → figure_parts stance figures ≡ Some parts → AreShifted ddx ddy parts others → figure_parts new figures ≡ Some others
     figures_again [] parts others some h = nothing_more parts others (some_same some) h
     figures_again (figure ∷ figures) parts others some h =
-        let k = front_some (figure_part stance figure) (figure_parts stance figures) parts some in
-        by_first k.part k.parts k.has_part others (subst (λ (l : List Part). AreShifted ddx ddy l others) (sym k.are) h) (λ rest m. figures_again figures k.parts rest k.has_parts m)
+        let k = both_some (λ (p : Part) (ps : List Part). p ∷ ps) (figure_part stance figure) (figure_parts stance figures) parts some in
+        by_first k.0 k.1 k.2 others (subst (λ (l : List Part). AreShifted ddx ddy l others) k.4 h) (λ rest m. figures_again figures k.1 rest k.3 m)
       where
         by_first : (part : Part) (parts : List Part) → figure_part stance figure ≡ Some part → (others : List Part) → AreShifted ddx ddy (part ∷ parts) others
-            → ((rest : List Part) → AreShifted ddx ddy parts rest → figure_parts new figures ≡ Some rest) → with_part (figure_part new figure) (figure_parts new figures) ≡ Some others
+            → ((rest : List Part) → AreShifted ddx ddy parts rest → figure_parts new figures ≡ Some rest) → figure_parts new (figure ∷ figures) ≡ Some others
         by_first part parts e [] h more = absurd h
         by_first part parts e (o ∷ rest) h more =
-            ap (λ (z : Option Part). with_part z (figure_parts new figures)) (figure_again figure part o e h.0) ∙ ap (λ (z : Option (List Part)). with_part (Some o) z) (more rest h.1)
+            ap (λ (z : Option Part). both (λ (p : Part) (ps : List Part). p ∷ ps) z (figure_parts new figures)) (figure_again figure part o e h.0) ∙ ap (after (o ∷ [])) (more rest h.1)
 
   -- ---- outlines
 
@@ -293,20 +258,15 @@ module _ (d : Shift) where
     fits_b : fits_board line.b ≡ true
     is : record { a = point_at line.a fits_a; b = point_at line.b fits_b } ≡ seg
 
-  seg_some : (o r : Option Point) (seg : Seg) → seg_between o r ≡ Some seg → (p : Point) × (q : Point) × (o ≡ Some p) × (r ≡ Some q) × (record { a = p; b = q } ≡ seg)
-  seg_some None r seg h = absurd cc
-  seg_some (Some p) None seg h = absurd cc
-  seg_some (Some p) (Some q) seg h = (p, q, refl, refl, some_same h)
-
   seg_made : (line : Course) (seg : Seg) → seg_of line ≡ Some seg → SegMade line seg
   seg_made line seg h =
-      let k = seg_some (tested (fits_board line.a) (point_at line.a)) (tested (fits_board line.b) (point_at line.b)) seg h in
+      let k = both_some line_to (tested (fits_board line.a) (point_at line.a)) (tested (fits_board line.b) (point_at line.b)) seg h in
       let a = tested_some (fits_board line.a) (point_at line.a) k.0 k.2 in
       let b = tested_some (fits_board line.b) (point_at line.b) k.1 k.3 in
       record {
         fits_a = a.0;
         fits_b = b.0;
-        is = ap (λ (p : Point). let s : Seg = record { a = p; b = point_at line.b b.0 } in s) a.1 ∙ ap (λ (p : Point). let s : Seg = record { a = k.0; b = p } in s) b.1 ∙ k.4;
+        is = ap (λ (p : Point). let s : Seg = record { a = p; b = point_at line.b b.0 } in s) a.1 ∙ ap (λ (p : Point). let s : Seg = record { a = k.0; b = p } in s) b.1 ∙ sym k.4;
       }
 
   seg_again : (line : Course) (seg : Seg) → is_long line ≡ true → seg_of line ≡ Some seg → (is_short seg ≡ false → StaysThere (spot_of_point seg.a) × StaysThere (spot_of_point seg.b)) → (other : Seg) × (seg_of (moved_course d line) ≡ Some other) × IsShiftedSeg ddx ddy seg other
@@ -321,7 +281,7 @@ module _ (d : Shift) where
           let a = point_again line.a fa here.0 in
           let b = point_again line.b fb here.1 in (
             record { a = a.point; b = b.point },
-            ap (λ (o : Option Point). seg_between o (tested (fits_board (moved_spot d line.b)) (point_at (moved_spot d line.b)))) a.there ∙ ap (λ (o : Option Point). seg_between (Some a.point) o) b.there,
+            ap (λ (o : Option Point). both line_to o (tested (fits_board (moved_spot d line.b)) (point_at (moved_spot d line.b)))) a.there ∙ ap (λ (o : Option Point). both line_to (Some a.point) o) b.there,
             subst (λ (s : Seg). IsShiftedSeg ddx ddy s (record { a = a.point; b = b.point })) is (a.shifted, b.shifted),
           )
 
@@ -330,38 +290,29 @@ module _ (d : Shift) where
     there : segs_of (map (moved_course d) lines) ≡ Some others
     shifted : AreShiftedSegs ddx ddy segs others
 
-  record WithSeg (o : Option Seg) (p : Option (List Seg)) (all : List Seg) : Type 0 where
-    seg : Seg
-    segs : List Seg
-    has_seg : o ≡ Some seg
-    has_segs : p ≡ Some segs
-    are : seg ∷ segs ≡ all
-
-  with_some : (o : Option Seg) (p : Option (List Seg)) (all : List Seg) → with_seg o p ≡ Some all → WithSeg o p all
-  with_some None p all h = absurd cc
-  with_some (Some seg) None all h = absurd cc
-  with_some (Some seg) (Some segs) all h = record { seg = seg; segs = segs; has_seg = refl; has_segs = refl; are = some_same h }
+  abbrev put : Seg → List Seg → List Seg
+  put seg segs = seg ∷ segs
 
   segs_again : (lines : List Course) (segs : List Seg) → segs_of lines ≡ Some segs → EndsStay segs → SegsAgain lines segs
   segs_again [] segs some stays = subst (SegsAgain []) (some_same some) (record { others = []; there = refl; shifted = tt })
   segs_again (line ∷ lines) segs some stays = by_long (is_long line) refl some (λ rest e s. segs_again lines rest e s)
     where
-      by_long : (b : Bool) → is_long line ≡ b → cond b (with_seg (seg_of line) (segs_of lines)) (segs_of lines) ≡ Some segs → ((rest : List Seg) → segs_of lines ≡ Some rest → EndsStay rest → SegsAgain lines rest) → SegsAgain (line ∷ lines) segs
+      by_long : (b : Bool) → is_long line ≡ b → cond b (both put (seg_of line) (segs_of lines)) (segs_of lines) ≡ Some segs → ((rest : List Seg) → segs_of lines ≡ Some rest → EndsStay rest → SegsAgain lines rest) → SegsAgain (line ∷ lines) segs
       by_long false e h more =
           let m = more segs h stays in
-          record { others = m.others; there = ap (λ (b : Bool). cond b (with_seg (seg_of (moved_course d line)) (segs_of (map (moved_course d) lines))) (segs_of (map (moved_course d) lines))) (long_moved line ∙ e) ∙ m.there; shifted = m.shifted }
+          record { others = m.others; there = ap (λ (b : Bool). cond b (both put (seg_of (moved_course d line)) (segs_of (map (moved_course d) lines))) (segs_of (map (moved_course d) lines))) (long_moved line ∙ e) ∙ m.there; shifted = m.shifted }
       by_long true e h more =
-          let k = with_some (seg_of line) (segs_of lines) segs h in
-          let both : EndsStay (k.seg ∷ k.segs) = subst EndsStay (sym k.are) stays in
-          let one = seg_again line k.seg e k.has_seg both.0 in
-          let m = more k.segs k.has_segs both.1 in
-          subst (SegsAgain (line ∷ lines)) k.are
+          let k = both_some put (seg_of line) (segs_of lines) segs h in
+          let stay : EndsStay (k.0 ∷ k.1) = subst EndsStay k.4 stays in
+          let one = seg_again line k.0 e k.2 stay.0 in
+          let m = more k.1 k.3 stay.1 in
+          subst (SegsAgain (line ∷ lines)) (sym k.4)
           (record {
             others = one.0 ∷ m.others;
             there =
-                ap (λ (b : Bool). cond b (with_seg (seg_of (moved_course d line)) (segs_of (map (moved_course d) lines))) (segs_of (map (moved_course d) lines))) (long_moved line ∙ e)
-                ∙ ap (λ (o : Option Seg). with_seg o (segs_of (map (moved_course d) lines))) one.1
-                ∙ ap (λ (o : Option (List Seg)). with_seg (Some one.0) o) m.there;
+                ap (λ (b : Bool). cond b (both put (seg_of (moved_course d line)) (segs_of (map (moved_course d) lines))) (segs_of (map (moved_course d) lines))) (long_moved line ∙ e)
+                ∙ ap (λ (o : Option Seg). both put o (segs_of (map (moved_course d) lines))) one.1
+                ∙ ap (after (one.0 ∷ [])) m.there;
             shifted = (one.2, m.shifted);
           })
 

@@ -1,5 +1,5 @@
 -- Lines that are closed, as lines of points: each end equals exactly one other.
-use Rattle.std.proofs.Common.{◌≡◌, ◌∙◌, refl, ap, sym, subst, ℕ, zero, suc, ◌+◌, ℤ, pos, ◌*ℤ◌, Bool, true, false, not, ◌&&◌, ◌||◌, ◌==◌, cond, List, [], ◌∷◌, ◌++◌, length, length-append, Option, Some, None, arith}
+use Rattle.std.proofs.Common.{◌≡◌, ◌∙◌, refl, ap, sym, subst, ℕ, zero, suc, ◌+◌, ℤ, pos, ◌*ℤ◌, Bool, true, false, not, ◌&&◌, ◌||◌, ◌==◌, cond, List, [], ◌∷◌, ◌++◌, length, length-append, Some, arith}
 use Rattle.std.specs.List.{slice_get, list_all}
 use Rattle.std.specs.Ordering.{int_eq}
 use Rattle.std.proofs.lemmas.Int.{ints}
@@ -8,13 +8,15 @@ use Rattle.std.proofs.lemmas.Bool.Decides.{Decides-int_eq}
 use Rattle.geo_seg.specs.declared.points.Point.{Point}
 use Rattle.geo_seg.specs.declared.points.Seg.{Seg}
 use Rattle.part_read.specs.declared.numbers.Spot.{Spot}
+use Rattle.part_read.specs.There.{both}
+use Rattle.part_read.proofs.There.{both_some}
 use Rattle.part_read.specs.OnBoard.{tested, fits_board, point_at}
 use Rattle.courtyard.specs.declared.ends.LineEnd.{LineEnd}
 use Rattle.courtyard.specs.Ends.{place, point_of, is_same, is_short, ends_of, ends_from, IsJoined, AreAllMatched}
 use Rattle.courtyard.specs.Ends.{ends_at as seg_ends_at}
 use Rattle.courtyard.proofs.Matching.{all_matched}
 use Rattle.footprint_read.specs.declared.sides.Course.{Course}
-use Rattle.footprint_read.specs.Courtyards.{at, is_long, ends_at, many_at, is_met, is_closed, seg_between, seg_of, with_seg, segs_of}
+use Rattle.footprint_read.specs.Courtyards.{at, is_long, ends_at, many_at, is_met, is_closed, line_to, seg_of, segs_of}
 
 -- ---- places of points are those of spots, doubled
 
@@ -51,15 +53,10 @@ record IsOf (line : Course) (seg : Seg) : Type 0 where
   a : place seg.a ≡ double (at line.a)
   b : place seg.b ≡ double (at line.b)
 
-of_points : (line : Course) (p q : Option Point) (seg : Seg) → tested (fits_board line.a) (point_at line.a) ≡ p → tested (fits_board line.b) (point_at line.b) ≡ q → seg_between p q ≡ Some seg → IsOf line seg
-of_points line None q seg h k e = absurd cc
-of_points line (Some p) None seg h k e = absurd cc
-of_points line (Some p) (Some q) seg h k e =
-    let same : record { a = p; b = q } ≡ seg = cc in
-    subst (λ (x : Seg). IsOf line x) same (record { a = tested_point line.a p h; b = tested_point line.b q k })
-
 of_line : (line : Course) (seg : Seg) → seg_of line ≡ Some seg → IsOf line seg
-of_line line seg h = of_points line (tested (fits_board line.a) (point_at line.a)) (tested (fits_board line.b) (point_at line.b)) seg refl refl h
+of_line line seg h =
+    let k = both_some line_to (tested (fits_board line.a) (point_at line.a)) (tested (fits_board line.b) (point_at line.b)) seg h in
+    subst (λ (x : Seg). IsOf line x) (sym k.4) (record { a = tested_point line.a k.0 k.2; b = tested_point line.b k.1 k.3 })
 
 not_true : (b : Bool) → not b ≡ true → b ≡ false
 not_true true h = absurd cc
@@ -77,15 +74,10 @@ record IsSplit (line : Course) (lines : List Course) (segs : List Seg) : Type 0 
   others : segs_of lines ≡ Some rest
   all : segs ≡ seg ∷ rest
 
-split_by : (line : Course) (lines : List Course) (segs : List Seg) (s : Option Seg) (ss : Option (List Seg)) → seg_of line ≡ s → segs_of lines ≡ ss → with_seg s ss ≡ Some segs → IsSplit line lines segs
-split_by line lines segs None ss h k e = absurd cc
-split_by line lines segs (Some s) None h k e = absurd cc
-split_by line lines segs (Some s) (Some ss) h k e =
-    let all : s ∷ ss ≡ segs = cc in
-    record { seg = s; rest = ss; one = h; others = k; all = sym all }
-
-split : (line : Course) (lines : List Course) (segs : List Seg) → with_seg (seg_of line) (segs_of lines) ≡ Some segs → IsSplit line lines segs
-split line lines segs h = split_by line lines segs (seg_of line) (segs_of lines) refl refl h
+split : (line : Course) (lines : List Course) (segs : List Seg) → both (λ (s : Seg) (ss : List Seg). s ∷ ss) (seg_of line) (segs_of lines) ≡ Some segs → IsSplit line lines segs
+split line lines segs h =
+    let k = both_some (λ (s : Seg) (ss : List Seg). s ∷ ss) (seg_of line) (segs_of lines) segs h in
+    record { seg = k.0; rest = k.1; one = k.2; others = k.3; all = k.4 }
 
 -- ---- as many ends stand at a place
 
@@ -113,7 +105,7 @@ Many k lines = (i : ℕ) (segs : List Seg) → segs_of lines ≡ Some segs → l
 many_more : (k : ℤ × ℤ) (line : Course) (lines : List Course) → Many k lines → Many k (line ∷ lines)
 many_more k line lines rest i segs h = by (is_long line) refl h
   where
-    by : (b : Bool) → is_long line ≡ b → cond b (with_seg (seg_of line) (segs_of lines)) (segs_of lines) ≡ Some segs → length (ends_from i segs (double k)) ≡ many_at k (line ∷ lines)
+    by : (b : Bool) → is_long line ≡ b → cond b (both (λ (s : Seg) (ss : List Seg). s ∷ ss) (seg_of line) (segs_of lines)) (segs_of lines) ≡ Some segs → length (ends_from i segs (double k)) ≡ many_at k (line ∷ lines)
     by false l e =
         let none : ends_at k line ≡ 0 = ap (λ (b : Bool). cond b (cond (is_same (at line.a) k) 1 0 + cond (is_same (at line.b) k) 1 0) 0) l in
         let others = rest i segs e in
@@ -159,7 +151,7 @@ each_more all line lines met rest segs j seg far h there = by (is_long line) ref
     at_index s others zero of l k e = let same : s ≡ seg = cc in subst (λ (x : Seg). IsTwo all (place (point_of x far))) same (two_at all line s far of l met)
     at_index s others (suc n) of l k e = rest others n seg far k e
 
-    by : (b : Bool) → is_long line ≡ b → cond b (with_seg (seg_of line) (segs_of lines)) (segs_of lines) ≡ Some segs → IsTwo all (place (point_of seg far))
+    by : (b : Bool) → is_long line ≡ b → cond b (both (λ (s : Seg) (ss : List Seg). s ∷ ss) (seg_of line) (segs_of lines)) (segs_of lines) ≡ Some segs → IsTwo all (place (point_of seg far))
     by false l e = rest segs j seg far e there
     by true l e =
         let s = split line lines segs e in

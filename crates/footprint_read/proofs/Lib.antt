@@ -1,6 +1,5 @@
 pub mod Counting
 pub mod Closed
-pub mod Courting
 pub mod Bared
 pub mod Standing
 pub mod Saying

@@ -1,6 +1,6 @@
 -- Courtyards: on each side the rectangles, outlines and circles of its layer, and the closed outlines of its lines. A side with a
 -- curve or a loose line is not checked. Widths and fills have no effect.
-use Rattle.std.specs.Prelude.{◌≡◌, ℕ, ◌+◌, ℤ, pos, ◌*ℤ◌, ◌==◌, ◌&&◌, ◌||◌, nat_le, length, Bool, true, false, not, cond, List, [], ◌∷◌, ◌++◌, map, codes, Option, None, Some, Result, Ok, Err, ◌⊎◌, if◌then◌else◌}
+use Rattle.std.specs.Prelude.{◌≡◌, ℕ, ◌+◌, ℤ, pos, ◌*ℤ◌, ◌==◌, ◌&&◌, ◌||◌, nat_le, length, Bool, true, false, not, cond, List, [], ◌∷◌, ◌++◌, map, codes, Option, None, Some, option_map, Result, Ok, Err, ◌⊎◌, if◌then◌else◌}
 use Rattle.std.specs.List.{list_any, list_all}
 use Rattle.sexpr_read.specs.Tree.{Tree, parts}
 use Rattle.geo_seg.specs.declared.points.Point.{Point}
@@ -20,6 +20,7 @@ use Rattle.part_read.specs.declared.figures.Figure.TheVariants.{Line as LineFigu
 use Rattle.list_read.specs.Answers.{◌>>=◌, needed}
 use Rattle.list_read.specs.Heads.{place, has_head}
 use Rattle.list_read.specs.Elements.{element}
+use Rattle.part_read.specs.There.{both, all_there}
 use Rattle.part_read.specs.Numbers.{spot_of}
 use Rattle.part_read.specs.OnBoard.{tested, fits_board, point_at}
 use Rattle.part_read.specs.Stances.{stood, point_stood, points_stood}
@@ -112,43 +113,27 @@ is_closed lines = list_all (is_met lines) lines
 
 -- ---- the parts of a side
 
-abbrev pub seg_between : Option Point → Option Point → Option Seg
-seg_between None b = None
-seg_between (Some a) None = None
-seg_between (Some a) (Some b) = Some (record { a = a; b = b })
+abbrev pub line_to : Point → Point → Seg
+line_to a b = record { a = a; b = b }
 
 -- the line, if it lies on the board
 abbrev pub seg_of : Course → Option Seg
-seg_of line = seg_between (tested (fits_board line.a) (point_at line.a)) (tested (fits_board line.b) (point_at line.b))
-
-abbrev pub with_seg : Option Seg → Option (List Seg) → Option (List Seg)
-with_seg None segs = None
-with_seg (Some seg) None = None
-with_seg (Some seg) (Some segs) = Some (seg ∷ segs)
+seg_of line = both line_to (tested (fits_board line.a) (point_at line.a)) (tested (fits_board line.b) (point_at line.b))
 
 -- the lines that have a length, if they all lie on the board
 abbrev pub segs_of : List Course → Option (List Seg)
 segs_of [] = Some []
-segs_of (line ∷ lines) = if is_long line then with_seg (seg_of line) (segs_of lines) else segs_of lines
-
-abbrev pub core_between : (Point → Point → Core) → Option Point → Option Point → Option Core
-core_between core None q = None
-core_between core (Some p) None = None
-core_between core (Some p) (Some q) = Some (core p q)
+segs_of (line ∷ lines) = if is_long line then both (λ seg segs. seg ∷ segs) (seg_of line) (segs_of lines) else segs_of lines
 
 abbrev pub line_core : Point → Point → Core
-line_core p q = LineCore (record { a = p; b = q })
-
-abbrev pub area_core : Option (List Point) → Option Core
-area_core None = None
-area_core (Some points) = Some (Area points)
+line_core p q = LineCore (line_to p q)
 
 -- a rectangle and an outline with all that they enclose, and the centre of a circle, if it lies on the board
 abbrev pub core_of : Stance → Figure → Option Core
-core_of stance (LineFigure a b) = core_between line_core (point_stood stance a) (point_stood stance b)
-core_of stance (RectFigure a b) = core_between box_core (point_stood stance a) (point_stood stance b)
-core_of stance (CircleFigure c r) = core_between line_core (point_stood stance c) (point_stood stance c)
-core_of stance (OutlineFigure spots) = area_core (points_stood stance spots)
+core_of stance (LineFigure a b) = both line_core (point_stood stance a) (point_stood stance b)
+core_of stance (RectFigure a b) = both box_core (point_stood stance a) (point_stood stance b)
+core_of stance (CircleFigure c r) = both line_core (point_stood stance c) (point_stood stance c)
+core_of stance (OutlineFigure spots) = option_map (λ points. Area points) (points_stood stance spots)
 
 -- what lies around that belongs to it, in half nanometres: the radius of a circle
 abbrev pub reach_of : Figure → ℤ
@@ -158,23 +143,12 @@ reach_of figure = pos 0
 abbrev pub court_part : Radius → Core → Part
 court_part r core = record { layers = record { bits = 0 }; shape = around r core }
 
-abbrev pub part_by : Option Radius → Option Core → Option Part
-part_by None core = None
-part_by (Some r) None = None
-part_by (Some r) (Some core) = Some (court_part r core)
-
 -- the part of a figure, if it lies on the board and its diameter is at most 500 mm
 abbrev pub figure_part : Stance → Figure → Option Part
-figure_part stance figure = part_by (radius_of (reach_of figure)) (core_of stance figure)
-
-abbrev pub with_part : Option Part → Option (List Part) → Option (List Part)
-with_part None parts = None
-with_part (Some part) None = None
-with_part (Some part) (Some parts) = Some (part ∷ parts)
+figure_part stance figure = both court_part (radius_of (reach_of figure)) (core_of stance figure)
 
 abbrev pub figure_parts : Stance → List Figure → Option (List Part)
-figure_parts stance [] = Some []
-figure_parts stance (figure ∷ figures) = with_part (figure_part stance figure) (figure_parts stance figures)
+figure_parts stance figures = all_there (map (figure_part stance) figures)
 
 abbrev pub outline_part : List Point → Part
 outline_part points = court_part no_radius (Area points)

@@ -1,11 +1,12 @@
 //! The courtyard of a side.
 
 ghost use Rattle.std.specs.Prelude.{◌≡◌, ◌<◌, ◌++◌, ◌∷◌, [], map, IfOk, OnOk, All, option_map};
+ghost use Rattle.part_read.specs.There.{both};
 ghost use Rattle.part_read.specs.OnBoard.{point_at};
 ghost use Rattle.part_read.specs.Stances.{IsWithin};
 ghost use Rattle.part_read.specs.Figures.{HasReach, box_core};
 ghost use Rattle.footprint_read.specs.Bare.{AreBare};
-ghost use Rattle.footprint_read.specs.Courtyards.{seg_of, segs_of, core_between, line_core, core_of, reach_of, court_part, figure_part, figure_parts, outline_part, parts_in, IsCourt};
+ghost use Rattle.footprint_read.specs.Courtyards.{seg_of, segs_of, line_core, core_of, reach_of, court_part, figure_part, figure_parts, outline_part, parts_in, IsCourt};
 
 use crate::closing::{is_closed, is_long};
 use crate::sides::{Course, Side};
@@ -66,7 +67,7 @@ fn segs_of(alloc: Global, lines: &[Course]) -> Result<Option<Vec<Seg>>, AllocErr
 // ---- figures
 
 fn line_core(p: Option<Point>, q: Option<Point>) -> Option<Core>
-    ensures { result ≡ core_between line_core p q }
+    ensures { result ≡ both line_core p q }
 {
     let Some(a) = p else {
         return None;
@@ -78,7 +79,7 @@ fn line_core(p: Option<Point>, q: Option<Point>) -> Option<Core>
 }
 
 fn rect_core(alloc: Global, p: Option<Point>, q: Option<Point>) -> Result<Option<Core>, AllocError>
-    ensures { IfOk result (λ core. core ≡ core_between box_core p q) }
+    ensures { IfOk result (λ core. core ≡ both box_core p q) }
 {
     let Some(a) = p else {
         return Ok(None);

@@ -3,3 +3,4 @@ pub mod Raised
 pub mod Near
 pub mod Known
 pub mod Same
+pub mod Nets

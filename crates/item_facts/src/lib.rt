@@ -13,6 +13,7 @@ mod lengths;
 mod meets;
 mod names;
 mod near;
+mod nets;
 mod of_item;
 mod reaching;
 

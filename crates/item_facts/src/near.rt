@@ -153,6 +153,9 @@ pub fn marks_near(
     ensures { OnOk result (AreEnough item.now board.now.items ids.new.items) }
 {
     ids.clear();
+    if board.marks().is_empty() {
+        return push_marks(board, ids);
+    }
     match bounds_of(item) {
         None => Ok(()),
         Some(bounds) => {

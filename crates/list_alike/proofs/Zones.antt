@@ -1,5 +1,5 @@
 -- A zone's list that is alike gives the same area or fills, carried, where the board has room.
-use Rattle.std.proofs.Common.{◌≡◌, ◌∙◌, refl, sym, ap, subst, ℕ, suc, ◌+◌, ◌<◌, ◌≤◌, arith, ℤ, pos, ◌+ℤ◌, ◌*ℤ◌, Bool, true, false, cond, List, [], ◌∷◌, length, codes, Option, None, Some, Result, Ok, Err}
+use Rattle.std.proofs.Common.{◌≡◌, ◌∙◌, refl, sym, ap, subst, ℕ, suc, ◌+◌, ◌<◌, ◌≤◌, arith, ℤ, pos, ◌+ℤ◌, ◌*ℤ◌, Bool, true, false, cond, List, [], ◌∷◌, length, codes, Option, None, Some, option_map, Result, Ok, Err}
 use Rattle.std.specs.Prelude.{nat_lt, unwrap_or, MatchBool}
 use Rattle.std.specs.List.{AllZip}
 use Rattle.std.proofs.lemmas.Bool.{leb-true}
@@ -37,17 +37,18 @@ use Rattle.part_read.specs.Figures.{first_of}
 use Rattle.part_read.specs.PlainItems.{plain_item}
 use Rattle.pcb_read.specs.ItemsOf.{has_room}
 use Rattle.part_read.specs.Drawings.{corners_of, corners_in}
+use Rattle.part_read.proofs.There.{map_some}
 use Rattle.part_read.proofs.Shapes.{one_shape}
-use Rattle.zone_read.specs.ZoneOf.{layers_among, zone_layers, title_among, title_of, as_it_is, area_with, area_around, area_of, has_room_after, ban_among, ban_of, bans_in, polygon_of, is_thin_by, is_thin, fill_layer, fill_on, fill_in_room, with_fill, fills_after, area_in_room, rule_area, zone_by, zone_of}
+use Rattle.zone_read.specs.ZoneOf.{layers_among, zone_layers, title_of, as_it_is, area_with, area_of, has_room_after, ban_of, bans_in, polygon_of, is_thin_by, is_thin, fill_layer, fill_on, fill_in_room, with_fill, fills_after, area_in_room, rule_area, zone_by, zone_of}
 use Rattle.read_alike.specs.Alike.{Shift, is_place_word, Alike, AlikeTrees}
 use Rattle.read_alike.specs.Agreeing.{Agrees, BothAgree, Same, SameAtom, AlikeParts, FoundAlike}
 use Rattle.read_alike.specs.Carried.{shift_of, IsCarried, Becomes, of_unit, Leads, ReadsCarried}
 use Rattle.read_alike.specs.Moved.{IsMovedSpot}
 use Rattle.read_alike.specs.Standing.{StandsMoved}
-use Rattle.read_alike.proofs.Elements.{agrees_bind, agrees_both, heads_alike, element_alike, inside_by_head, same_value, atom_alike}
+use Rattle.read_alike.proofs.Elements.{agrees_bind, agrees_both, heads_alike, element_alike, given_or_alike, inside_by_head, same_value, atom_alike}
 use Rattle.read_alike.proofs.Numbers.{needed_alike, net_alike, name_alike, layer_in_alike}
 use Rattle.read_alike.proofs.Shapes.{one_item, leads_bind, settled, two_pass}
-use Rattle.read_alike.proofs.Figures.{points_carried, some_same}
+use Rattle.read_alike.proofs.Figures.{points_carried}
 use Rattle.draw_alike.specs.Drawn.{AreCorners}
 use Rattle.draw_alike.proofs.Corners.{corners_in_alike}
 use Rattle.draw_alike.proofs.Graphics.{text_same}
@@ -76,26 +77,16 @@ zone_layers_alike d copper i j s r h =
 
 pub title_alike : (d : Option Shift) (i j : Forest) (s r : Span) → Alike d i j → Agrees Same (title_of (branch s i)) (title_of (branch r j))
 unfolding title_of
-title_alike d i j s r h = by_found (element (codes "name") (branch s i)) (element (codes "name") (branch r j)) (element_alike d (codes "name") s r i j h)
-  where
-    by_found : (o p : Option Tree) → FoundAlike d (has_head (codes "name")) o p → Agrees Same (title_among o) (title_among p)
-    by_found None None k = refl
-    by_found None (Some y) k = absurd k
-    by_found (Some x) None k = absurd k
-    by_found (Some x) (Some y) k =
-        agrees_bind SameAtom Same (atom_of 1 x) (atom_of 1 y) _ _ (agrees_both SameAtom (atom_of 1 x) (atom_of 1 y) (atom_alike d 1 x y (inside_by_head d x y (codes "name") k.0 k.1 refl)))
-        (λ a b m. ap (λ (v : Option (List ℕ)). unwrap_or v []) (sym (same_value a b m)))
+title_alike d i j s r h =
+    given_or_alike Same d (has_head (codes "name")) [] [] _ _ (element (codes "name") (branch s i)) (element (codes "name") (branch r j)) (element_alike d (codes "name") s r i j h) refl
+    (λ x y k e. agrees_bind SameAtom Same (atom_of 1 x) (atom_of 1 y) _ _ (agrees_both SameAtom (atom_of 1 x) (atom_of 1 y) (atom_alike d 1 x y (inside_by_head d x y (codes "name") k e refl)))
+    (λ a b m. ap (λ (v : Option (List ℕ)). unwrap_or v []) (sym (same_value a b m))))
 
 ban_alike : (d : Option Shift) (word : List ℕ) → is_place_word word ≡ false → (t u : Tree) → AlikeParts d t u → Agrees Same (ban_of word t) (ban_of word u)
-ban_alike d word plain t u h = by_found (element word t) (element word u) (element_in d word t u h)
-  where
-    by_found : (o p : Option Tree) → FoundAlike d (has_head word) o p → Agrees Same (ban_among o) (ban_among p)
-    by_found None None k = refl
-    by_found None (Some y) k = absurd k
-    by_found (Some x) None k = absurd k
-    by_found (Some x) (Some y) k =
-        agrees_bind SameAtom Same (atom_of 1 x) (atom_of 1 y) _ _ (agrees_both SameAtom (atom_of 1 x) (atom_of 1 y) (atom_alike d 1 x y (inside_by_head d x y word k.0 k.1 plain)))
-        (λ a b m. text_same a b (codes "not_allowed") m)
+ban_alike d word plain t u h =
+    given_or_alike Same d (has_head word) false false _ _ (element word t) (element word u) (element_in d word t u h) refl
+    (λ x y k e. agrees_bind SameAtom Same (atom_of 1 x) (atom_of 1 y) _ _ (agrees_both SameAtom (atom_of 1 x) (atom_of 1 y) (atom_alike d 1 x y (inside_by_head d x y word k e plain)))
+    (λ a b m. text_same a b (codes "not_allowed") m))
 
 bans_same : (a b c e f g k l : Bool) → f ≡ a → g ≡ b → k ≡ c → l ≡ e
     → (let x : Bans = record { tracks = f; vias = g; pads = k; footprints = l } in x) ≡ record { tracks = a; vias = b; pads = c; footprints = e }
@@ -137,21 +128,17 @@ all_stand o [] (t ∷ ts) h = absurd h
 all_stand o (s ∷ ss) [] h = absurd h
 all_stand o (s ∷ ss) (t ∷ ts) h = ((as_they_are o).stands s t h.0, all_stand o ss ts h.1)
 
-area_some : (o : Option (List Point)) (shape : Shape) → area_around o ≡ Some shape → (ps : List Point) × (o ≡ Some ps) × (area_with ps ≡ shape)
-area_some None shape e = absurd cc
-area_some (Some ps) shape e = (ps, refl, some_same e)
-
 -- the polygon of the moved corners is the polygon, moved
 pub area_carried : (o : Option Shift) (ss ts : List Spot) (shape other : Shape) → AllZip (IsMovedSpot o) ss ts → area_of ss ≡ Some shape → IsShiftedShape (pos 2 *ℤ (shift_of o).dx) (pos 2 *ℤ (shift_of o).dy) shape other → area_of ts ≡ Some other
 area_carried o ss ts shape other h some m =
-    let k = area_some (points_stood as_it_is ss) shape some in
-    by_core k.0 k.1 other.core refl (subst (λ (s : Shape). IsShiftedShape (pos 2 *ℤ (shift_of o).dx) (pos 2 *ℤ (shift_of o).dy) s other) (sym k.2) m)
+    let k = map_some area_with (points_stood as_it_is ss) shape some in
+    by_core k.0 k.1 other.core refl (subst (λ (s : Shape). IsShiftedShape (pos 2 *ℤ (shift_of o).dx) (pos 2 *ℤ (shift_of o).dy) s other) k.2 m)
   where
     by_core : (ps : List Point) → points_stood as_it_is ss ≡ Some ps → (core : Core) → other.core ≡ core → IsShiftedShape (pos 2 *ℤ (shift_of o).dx) (pos 2 *ℤ (shift_of o).dy) (area_with ps) other → area_of ts ≡ Some other
     by_core ps e (LineCore s) is m = absurd (subst (λ (c : Core). IsShiftedCore (pos 2 *ℤ (shift_of o).dx) (pos 2 *ℤ (shift_of o).dy) (AreaCore ps) c) is m.core)
     by_core ps e (AreaCore qs) is m =
         let moved = subst (λ (c : Core). IsShiftedCore (pos 2 *ℤ (shift_of o).dx) (pos 2 *ℤ (shift_of o).dy) (AreaCore ps) c) is m.core in
-        ap area_around (points_carried (shift_of o) as_it_is as_it_is ss ts ps qs (all_stand o ss ts h) e moved)
+        ap (option_map area_with) (points_carried (shift_of o) as_it_is as_it_is ss ts ps qs (all_stand o ss ts h) e moved)
         ∙ ap (λ (s : Shape). let z : Option Shape = Some s in z) (sym (one_shape other (area_with qs) is m.radius))
 
 -- ---- room

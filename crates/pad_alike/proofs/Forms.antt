@@ -26,18 +26,18 @@ use Rattle.pad_read.specs.declared.pads.PadWord.{PadWord}
 use Rattle.pad_read.specs.declared.pads.PadWord.TheVariants.{Circle as Disc, Rect as Box, Oval, RoundRect, Custom}
 use Rattle.pad_read.specs.declared.forms.Form.{Form}
 use Rattle.pad_read.specs.PadSizes.{least_of}
-use Rattle.pad_read.specs.PadShapes.{circle_cushion, rect_cushion, least_number, share_of, ratio_in, round_by, round_radius}
-use Rattle.pad_read.specs.CustomPads.{anchor_by_word, anchor_by, in_options, anchor_of, primitive_kind, primitive_by, primitives_among, primitives_by, primitives_of}
+use Rattle.pad_read.specs.PadShapes.{circle_cushion, rect_cushion, least_number, share_of, ratio_in, round_radius}
+use Rattle.pad_read.specs.CustomPads.{anchor_by_word, anchor_of, primitive_kind, primitive_by, primitives_among, primitives_of}
 use Rattle.pad_read.specs.PadOf.{form_of}
 use Rattle.read_alike.specs.Alike.{Alike}
-use Rattle.read_alike.specs.Agreeing.{Agrees, Same, SameAtom, FoundAlike, forest_in}
+use Rattle.read_alike.specs.Agreeing.{Agrees, Same, SameAtom, forest_in}
 use Rattle.read_alike.specs.Moved.{IsMovedSpot}
-use Rattle.read_alike.proofs.Elements.{agrees_bind, heads_alike, same_value, same_content}
+use Rattle.read_alike.proofs.Elements.{agrees_bind, given_or_alike, heads_alike, same_value, same_content}
 use Rattle.draw_alike.specs.Drawn.{FigureRead, DrawingRead}
 use Rattle.draw_alike.proofs.Drawings.{drawing_alike}
 use Rattle.draw_alike.proofs.Graphics.{ring_same}
-use Rattle.draw_alike.proofs.Steps.{agrees_check, parts_are, element_in, same_bind}
-use Rattle.pad_alike.proofs.Parts.{Plain, PlainParts, inside, atom_step}
+use Rattle.draw_alike.proofs.Steps.{agrees_check, parts_are, element_in, inner_found, same_bind}
+use Rattle.pad_alike.proofs.Parts.{Plain, PlainParts, inside, atom_step, given_step}
 
 -- ---- drawings that are read again
 
@@ -88,16 +88,12 @@ share_plain size a b h =
     by_text None = tt
     by_text (Some text) = by_answer (ratio_near_answer text (least_number size (pos 500000000)))
 
-round_found : (least : ℤ) (o p : Option Tree) → FoundAlike None (has_head (codes "roundrect_rratio")) o p → Agrees Same (round_by least o) (round_by least p)
-round_found least None None h = refl
-round_found least None (Some y) h = absurd h
-round_found least (Some x) None h = absurd h
-round_found least (Some x) (Some y) h =
-    atom_step Same 1 x y (ratio_in least) (ratio_in least) (inside x y h.0) (λ a b m. same_bind Same (share_of least a) (share_of least b) _ _ (share_plain least a b m) (λ share. refl))
-
 round_plain : (s : Sizes) (t u : Tree) → PlainParts t u → Agrees Same (round_radius s t) (round_radius s u)
 unfolding round_radius
-round_plain s t u h = round_found (least_of s) (element (codes "roundrect_rratio") t) (element (codes "roundrect_rratio") u) (element_in None (codes "roundrect_rratio") t u h)
+round_plain s t u h =
+    let least = least_of s in
+    given_step Same (codes "roundrect_rratio") (pos 0) (pos 0) _ _ t u h refl (λ x y k.
+    atom_step Same 1 x y (ratio_in least) (ratio_in least) k (λ a b m. same_bind Same (share_of least a) (share_of least b) _ _ (share_plain least a b m) (λ share. refl)))
 
 -- ---- anchors
 
@@ -113,22 +109,12 @@ anchor_word_plain t u s a b h =
     by_tests false true = refl
     by_tests false false = tt
 
-anchor_found : (t u : Tree) (s : Sizes) (o p : Option Tree) → FoundAlike None (has_head (codes "anchor")) o p → Agrees Same (anchor_by t s o) (anchor_by u s p)
-anchor_found t u s None None h = refl
-anchor_found t u s None (Some y) h = absurd h
-anchor_found t u s (Some x) None h = absurd h
-anchor_found t u s (Some x) (Some y) h = atom_step Same 1 x y (anchor_by_word t s) (anchor_by_word u s) (inside x y h.0) (λ a b m. anchor_word_plain t u s a b m)
-
-options_found : (o p : Option Tree) → FoundAlike None (has_head (codes "options")) o p → FoundAlike None (has_head (codes "anchor")) (in_options o) (in_options p)
-options_found None None h = tt
-options_found None (Some y) h = absurd h
-options_found (Some x) None h = absurd h
-options_found (Some x) (Some y) h = element_in None (codes "anchor") x y (inside x y h.0)
-
 anchor_plain : (s : Sizes) (t u : Tree) → PlainParts t u → Agrees Same (anchor_of s t) (anchor_of s u)
 unfolding anchor_of
 anchor_plain s t u h =
-    anchor_found t u s (in_options (element (codes "options") t)) (in_options (element (codes "options") u)) (options_found (element (codes "options") t) (element (codes "options") u) (element_in None (codes "options") t u h))
+    given_or_alike Same None (has_head (codes "anchor")) (circle_cushion s) (circle_cushion s) _ _ _ _
+    (inner_found None (codes "options") (codes "anchor") (element (codes "options") t) (element (codes "options") u) refl (element_in None (codes "options") t u h)) refl
+    (λ x y k e. atom_step Same 1 x y (anchor_by_word t s) (anchor_by_word u s) (inside x y k) (λ a b m. anchor_word_plain t u s a b m))
 
 -- ---- primitives
 
@@ -198,17 +184,12 @@ among_plain pad new (list s i others) (list t j rest) h =
     agrees_bind AreRead AreRead (primitive_by pad (branch s i) (primitive_kind (branch s i))) (primitive_by new (branch t j) (primitive_kind (branch t j))) _ _ (primitive_plain pad new (branch s i) (branch t j) h.0)
     (λ ds es k. agrees_bind AreRead AreRead (primitives_among pad (trees others)) (primitives_among new (trees rest)) _ _ (among_plain pad new others rest h.1) (λ fs gs l. zip_append ds es fs gs k l))
 
-primitives_found : (pad new : Tree) (o p : Option Tree) → FoundAlike None (has_head (codes "primitives")) o p → Agrees AreRead (primitives_by pad o) (primitives_by new p)
-primitives_found pad new None None h = tt
-primitives_found pad new None (Some y) h = absurd h
-primitives_found pad new (Some x) None h = absurd h
-primitives_found pad new (Some x) (Some y) h =
-    subst (λ (ts : List Tree). Agrees AreRead (primitives_among pad ts) (primitives_among new (parts y))) (sym (parts_are x))
-    (subst (λ (us : List Tree). Agrees AreRead (primitives_among pad (trees (forest_in x))) (primitives_among new us)) (sym (parts_are y)) (among_plain pad new (forest_in x) (forest_in y) (inside x y h.0)))
-
 primitives_plain : (t u : Tree) → PlainParts t u → Agrees AreRead (primitives_of t) (primitives_of u)
 unfolding primitives_of
-primitives_plain t u h = primitives_found t u (element (codes "primitives") t) (element (codes "primitives") u) (element_in None (codes "primitives") t u h)
+primitives_plain t u h =
+    given_step AreRead (codes "primitives") [] [] _ _ t u h tt (λ x y k.
+    subst (λ (ts : List Tree). Agrees AreRead (primitives_among t ts) (primitives_among u (parts y))) (sym (parts_are x))
+    (subst (λ (us : List Tree). Agrees AreRead (primitives_among t (trees (forest_in x))) (primitives_among u us)) (sym (parts_are y)) (among_plain t u (forest_in x) (forest_in y) k)))
 
 -- ---- forms
 

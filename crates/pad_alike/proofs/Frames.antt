@@ -1,5 +1,5 @@
 -- The frames of pads whose lists are the same but for spans.
-use Rattle.std.proofs.Common.{◌≡◌, refl, sym, ap, subst, ℕ, ℤ, pos, Bool, true, false, not, List, codes, Option, None, Some, Result, Ok}
+use Rattle.std.proofs.Common.{◌≡◌, refl, sym, ap, subst, ℕ, pos, Bool, true, false, not, List, codes, Option, None, Some, Result}
 use Rattle.std.specs.Prelude.{slice_get, if◌then◌else◌}
 use Rattle.sexpr_read.specs.Tree.{Tree, parts}
 use Rattle.board_errors.specs.declared.errors.BoardError.{BoardError}
@@ -9,6 +9,7 @@ use Rattle.part_read.specs.declared.stances.Stance.{Stance}
 use Rattle.list_read.specs.Answers.{◌>>=◌, needed}
 use Rattle.list_read.specs.Heads.{place, is_value, is_text, has_head}
 use Rattle.list_read.specs.Elements.{element}
+use Rattle.part_read.specs.Elements.{given_or, atom_of, atom_or}
 use Rattle.part_read.specs.Numbers.{length_in, size_in, spot_at}
 use Rattle.part_read.specs.Stances.{stood}
 use Rattle.pad_read.specs.declared.sizes.Sizes.{Sizes}
@@ -17,22 +18,19 @@ use Rattle.pad_read.specs.declared.pads.PadType.TheVariants.{ThruHole, Smd, Conn
 use Rattle.pad_read.specs.declared.pads.PadWord.{PadWord}
 use Rattle.pad_read.specs.declared.pads.PadWord.TheVariants.{Circle, Rect, Oval, RoundRect, Custom}
 use Rattle.pad_read.specs.declared.pads.Frame.{Frame}
-use Rattle.pad_read.specs.Postures.{angle_by, posture_at, posture_of, clearance_by, clearance_of}
-use Rattle.pad_read.specs.PadSizes.{sizes_at, sizes_of, other_size, oval_sizes, some_sizes, drilled_by, offset_by, drilling_at, drilling_by, drilling_of}
+use Rattle.pad_read.specs.Postures.{angle_by, posture_at, posture_of, clearance_of}
+use Rattle.pad_read.specs.PadSizes.{sizes_at, sizes_of, oval_sizes, round_sizes, drilled_by, no_offset, drilling_at, no_drilling, drilling_of}
 use Rattle.pad_read.specs.PadFrames.{type_by, type_of, word_by, word_of, is_there, quarter_of, frame_of}
 use Rattle.read_alike.specs.Agreeing.{Agrees, Same, SameAtom, FoundAlike}
-use Rattle.read_alike.proofs.Elements.{same_value}
+use Rattle.read_alike.proofs.Elements.{given_or_alike, same_value}
 use Rattle.read_alike.proofs.Numbers.{size_in_alike}
 use Rattle.draw_alike.proofs.Steps.{agrees_check, element_in, same_bind, needed_same}
-use Rattle.pad_alike.proofs.Parts.{PlainParts, inside, PartsFound, part_found, atom_step, needed_step, spot_plain, length_plain, atoms_only}
+use Rattle.pad_alike.proofs.Parts.{PlainParts, inside, PartsFound, part_found, atom_step, needed_step, given_step, spot_plain, length_plain, atom_or_plain}
 
 -- ---- postures and clearances
 
 pub angle_plain : (o p : Option Tree) → PartsFound o p → Agrees Same (angle_by o) (angle_by p)
-angle_plain None None h = refl
-angle_plain None (Some u) h = absurd h
-angle_plain (Some t) None h = absurd h
-angle_plain (Some t) (Some u) h = atoms_only Same t u (Ok (pos 0)) length_in length_in h refl length_plain
+angle_plain o p h = atom_or_plain Same (pos 0) length_in length_in o p h refl length_plain
 
 posture_at_plain : (t u : Tree) → PlainParts t u → Agrees Same (posture_at t) (posture_at u)
 unfolding posture_at
@@ -43,11 +41,8 @@ posture_at_plain t u h =
 pub posture_plain : (t u : Tree) → PlainParts t u → Agrees Same (posture_of t) (posture_of u)
 posture_plain t u h = needed_step Same (codes "at") t u posture_at posture_at h posture_at_plain
 
-pub clearance_found : (o p : Option Tree) → FoundAlike None (has_head (codes "clearance")) o p → Agrees Same (clearance_by o) (clearance_by p)
-clearance_found None None h = refl
-clearance_found None (Some y) h = absurd h
-clearance_found (Some x) None h = absurd h
-clearance_found (Some x) (Some y) h = atom_step Same 1 x y length_in length_in (inside x y h.0) length_plain
+pub clearance_found : (o p : Option Tree) → FoundAlike None (has_head (codes "clearance")) o p → Agrees Same (given_or (pos 0) (λ list. atom_of 1 list >>= length_in) o) (given_or (pos 0) (λ list. atom_of 1 list >>= length_in) p)
+clearance_found o p h = given_or_alike Same None (has_head (codes "clearance")) (pos 0) (pos 0) _ _ o p h refl (λ x y k e. atom_step Same 1 x y length_in length_in (inside x y k) length_plain)
 
 pub clearance_plain : (t u : Tree) → PlainParts t u → Agrees Same (clearance_of t) (clearance_of u)
 unfolding clearance_of
@@ -64,56 +59,34 @@ sizes_at_plain t u h =
 sizes_plain : (t u : Tree) → PlainParts t u → Agrees Same (sizes_of t) (sizes_of u)
 sizes_plain t u h = needed_step Same (codes "size") t u sizes_at sizes_at h sizes_at_plain
 
-other_plain : (w : ℤ) (o p : Option Tree) → PartsFound o p → Agrees Same (other_size w o) (other_size w p)
-other_plain w None None h = refl
-other_plain w None (Some u) h = absurd h
-other_plain w (Some t) None h = absurd h
-other_plain w (Some t) (Some u) h = atoms_only Same t u (Ok w) size_in size_in h refl size_in_alike
-
 oval_plain : (t u : Tree) → PlainParts t u → Agrees Same (oval_sizes t) (oval_sizes u)
 unfolding oval_sizes
 oval_plain t u h =
     atom_step Same 2 t u _ _ h (λ a b m. same_bind Same (size_in a) (size_in b) _ _ (size_in_alike a b m) (λ w.
-    same_bind Same (other_size w (slice_get (parts t) 3)) (other_size w (slice_get (parts u) 3)) _ _ (other_plain w (slice_get (parts t) 3) (slice_get (parts u) 3) (part_found t u 3 h)) (λ v. refl)))
-
-some_plain : (a b : Result Sizes BoardError) → Agrees Same a b → Agrees Same (some_sizes a) (some_sizes b)
-some_plain a b h = same_bind Same a b _ _ h (λ s. refl)
+    same_bind Same (atom_or w size_in (slice_get (parts t) 3)) (atom_or w size_in (slice_get (parts u) 3)) _ _
+    (atom_or_plain Same w size_in size_in (slice_get (parts t) 3) (slice_get (parts u) 3) (part_found t u 3 h) refl size_in_alike) (λ v. refl)))
 
 drilled_plain : (t u : Tree) (o p : Option Tree) → PlainParts t u → PartsFound o p → Agrees Same (drilled_by t o) (drilled_by u p)
-drilled_plain t u None None h k = refl
-drilled_plain t u None (Some y) h k = absurd k
-drilled_plain t u (Some x) None h k = absurd k
-drilled_plain t u (Some x) (Some y) h k =
-    atoms_only Same x y (Ok None) (λ a. by_word t a (is_text a (codes "oval"))) (λ b. by_word u b (is_text b (codes "oval"))) k refl
-    (λ a b m. subst (λ (z : Bool). Agrees Same (by_word t a (is_text a (codes "oval"))) (by_word u b z)) (ap (λ v. is_value v (codes "oval")) (same_value a b m)) (by_test a b m (is_text a (codes "oval"))))
+drilled_plain t u o p h k =
+    atom_or_plain Same None _ _ o p k refl (λ a b m.
+    same_bind Same (by_word t a (is_text a (codes "oval"))) (by_word u b (is_text b (codes "oval"))) _ _
+    (subst (λ (z : Bool). Agrees Same (by_word t a (is_text a (codes "oval"))) (by_word u b z)) (ap (λ v. is_value v (codes "oval")) (same_value a b m)) (by_test a b m (is_text a (codes "oval")))) (λ s. refl))
   where
-    by_word : Tree → Tree → Bool → Result (Option Sizes) BoardError
-    by_word list a oval = if oval then some_sizes (oval_sizes list) else some_sizes (size_in a >>= λ d. Ok (record { w = d; h = d }))
+    by_word : Tree → Tree → Bool → Result Sizes BoardError
+    by_word list a oval = if oval then oval_sizes list else round_sizes a
 
     by_test : (a b : Tree) → SameAtom a b → (oval : Bool) → Agrees Same (by_word t a oval) (by_word u b oval)
-    by_test a b m true = some_plain (oval_sizes t) (oval_sizes u) (oval_plain t u h)
-    by_test a b m false = some_plain _ _ (same_bind Same (size_in a) (size_in b) _ _ (size_in_alike a b m) (λ d. refl))
-
-offset_plain : (o p : Option Tree) → FoundAlike None (has_head (codes "offset")) o p → Agrees Same (offset_by o) (offset_by p)
-offset_plain None None h = refl
-offset_plain None (Some y) h = absurd h
-offset_plain (Some x) None h = absurd h
-offset_plain (Some x) (Some y) h = spot_plain x y (inside x y h.0)
+    by_test a b m true = oval_plain t u h
+    by_test a b m false = same_bind Same (size_in a) (size_in b) _ _ (size_in_alike a b m) (λ d. refl)
 
 drilling_at_plain : (t u : Tree) → PlainParts t u → Agrees Same (drilling_at t) (drilling_at u)
 unfolding drilling_at
 drilling_at_plain t u h =
     same_bind Same (drilled_by t (slice_get (parts t) 1)) (drilled_by u (slice_get (parts u) 1)) _ _ (drilled_plain t u (slice_get (parts t) 1) (slice_get (parts u) 1) h (part_found t u 1 h)) (λ s.
-    same_bind Same (offset_by (element (codes "offset") t)) (offset_by (element (codes "offset") u)) _ _ (offset_plain (element (codes "offset") t) (element (codes "offset") u) (element_in None (codes "offset") t u h)) (λ o. refl))
-
-drilling_found : (o p : Option Tree) → FoundAlike None (has_head (codes "drill")) o p → Agrees Same (drilling_by o) (drilling_by p)
-drilling_found None None h = refl
-drilling_found None (Some y) h = absurd h
-drilling_found (Some x) None h = absurd h
-drilling_found (Some x) (Some y) h = drilling_at_plain x y (inside x y h.0)
+    same_bind Same (given_or no_offset spot_at (element (codes "offset") t)) (given_or no_offset spot_at (element (codes "offset") u)) _ _ (given_step Same (codes "offset") no_offset no_offset spot_at spot_at t u h refl spot_plain) (λ o. refl))
 
 drilling_plain : (t u : Tree) → PlainParts t u → Agrees Same (drilling_of t) (drilling_of u)
-drilling_plain t u h = drilling_found (element (codes "drill") t) (element (codes "drill") u) (element_in None (codes "drill") t u h)
+drilling_plain t u h = given_step Same (codes "drill") no_drilling no_drilling drilling_at drilling_at t u h refl drilling_at_plain
 
 -- ---- words
 

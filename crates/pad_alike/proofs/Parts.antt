@@ -1,16 +1,16 @@
 -- What is read of the parts of lists that are the same but for spans.
-use Rattle.std.proofs.Common.{◌≡◌, refl, sym, subst, ℕ, zero, suc, List, Option, None, Some, Result}
+use Rattle.std.proofs.Common.{◌≡◌, refl, sym, subst, ℕ, zero, suc, List, Option, None, Some, Result, Ok}
 use Rattle.std.specs.Prelude.{slice_get, if◌then◌else◌}
 use Rattle.sexpr_read.specs.Tree.{Forest, none, atom, list, Tree, leaf, branch, trees, parts, is_list}
 use Rattle.board_errors.specs.declared.errors.BoardError.{BoardError}
 use Rattle.list_read.specs.Answers.{◌>>=◌}
 use Rattle.list_read.specs.Heads.{has_head}
 use Rattle.list_read.specs.Elements.{element}
-use Rattle.part_read.specs.Elements.{in_needed, atom_of}
+use Rattle.part_read.specs.Elements.{in_needed, given_or, atom_of, atom_or}
 use Rattle.part_read.specs.Numbers.{length_in, spot_at}
 use Rattle.read_alike.specs.Alike.{Alike, AlikeTrees}
 use Rattle.read_alike.specs.Agreeing.{Agrees, OptionsAgree, Same, SameAtom, AlikeParts, FoundAlike, forest_in}
-use Rattle.read_alike.proofs.Elements.{agrees_bind, agrees_both, atom_alike}
+use Rattle.read_alike.proofs.Elements.{agrees_bind, agrees_both, given_or_alike, atom_alike}
 use Rattle.read_alike.proofs.Numbers.{length_alike}
 use Rattle.read_alike.proofs.Spots.{same_spot}
 use Rattle.draw_alike.proofs.Steps.{parts_are, element_in}
@@ -74,6 +74,11 @@ needed_step S word t u f g h law = by_found (element word t) (element word u) (e
     by_found (Some x) None k = absurd k
     by_found (Some x) (Some y) k = law x y (inside x y k.0)
 
+-- and in one that may be missing
+pub given_step : {A B : Type 0} (S : A → B → Type 0) (word : List ℕ) (x : A) (y : B) (f : Tree → Result A BoardError) (g : Tree → Result B BoardError) (t u : Tree) → PlainParts t u → S x y
+    → ((v w : Tree) → PlainParts v w → Agrees S (f v) (g w)) → Agrees S (given_or x f (element word t)) (given_or y g (element word u))
+given_step S word x y f g t u h same law = given_or_alike S None (has_head word) x y f g (element word t) (element word u) (element_in None word t u h) same (λ v w k e. law v w (inside v w k))
+
 pub spot_plain : (t u : Tree) → PlainParts t u → Agrees Same (spot_at t) (spot_at u)
 spot_plain t u h = same_spot None t u h
 
@@ -81,9 +86,16 @@ pub length_plain : (t u : Tree) → SameAtom t u → Agrees Same (length_in t) (
 length_plain t u h = length_alike t u h
 
 -- an atom among the parts is one in both
-pub atoms_only : {A : Type 0} (S : A → A → Type 0) (t u : Tree) (otherwise : Result A BoardError) (f g : Tree → Result A BoardError) → Plain t u → Agrees S otherwise otherwise → ((a b : Tree) → SameAtom a b → Agrees S (f a) (g b))
+atoms_only : {A : Type 0} (S : A → A → Type 0) (t u : Tree) (otherwise : Result A BoardError) (f g : Tree → Result A BoardError) → Plain t u → Agrees S otherwise otherwise → ((a b : Tree) → SameAtom a b → Agrees S (f a) (g b))
     → Agrees S (if is_list t then otherwise else f t) (if is_list u then otherwise else g u)
 atoms_only S (leaf s q c) (leaf r p e) otherwise f g h k law = law (leaf s q c) (leaf r p e) h
 atoms_only S (leaf s q c) (branch r j) otherwise f g h k law = absurd h
 atoms_only S (branch s i) (leaf r p e) otherwise f g h k law = absurd h
 atoms_only S (branch s i) (branch r j) otherwise f g h k law = k
+
+pub atom_or_plain : {A : Type 0} (S : A → A → Type 0) (x : A) (f g : Tree → Result A BoardError) (o p : Option Tree) → PartsFound o p → S x x → ((a b : Tree) → SameAtom a b → Agrees S (f a) (g b))
+    → Agrees S (atom_or x f o) (atom_or x g p)
+atom_or_plain S x f g None None h same law = same
+atom_or_plain S x f g None (Some u) h same law = absurd h
+atom_or_plain S x f g (Some t) None h same law = absurd h
+atom_or_plain S x f g (Some t) (Some u) h same law = atoms_only S t u (Ok x) f g h same law

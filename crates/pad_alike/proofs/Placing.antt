@@ -1,5 +1,5 @@
 -- A pad whose frame is moved is the pad, moved.
-use Rattle.std.proofs.Common.{◌≡◌, ◌∙◌, refl, sym, ap, subst, ℕ, ◌≤◌, ℤ, pos, ◌+ℤ◌, ◌-ℤ◌, ◌*ℤ◌, unsigned_abs, Bool, true, false, ◌&&◌, cond, List, [], ◌∷◌, ◌++◌, Option, None, Some, arith}
+use Rattle.std.proofs.Common.{◌≡◌, ◌∙◌, refl, sym, ap, subst, ℕ, ◌≤◌, ℤ, pos, ◌+ℤ◌, ◌-ℤ◌, ◌*ℤ◌, unsigned_abs, Bool, true, false, ◌&&◌, cond, List, [], ◌∷◌, ◌++◌, Option, None, Some, option_map, option_and_then, arith}
 use Rattle.std.proofs.lemmas.Bool.{le-leb}
 use Rattle.std.proofs.lemmas.Int.{ints}
 use Rattle.int_algebra.proofs.Tested.{front, back, le_by_test}
@@ -18,8 +18,10 @@ use Rattle.part_read.specs.declared.stances.Stance.{Stance}
 use Rattle.part_read.specs.declared.radii.Radius.{Radius}
 use Rattle.part_read.specs.declared.figures.Drawing.{Drawing}
 use Rattle.plain_types.specs.Lengths.{is_length}
-use Rattle.part_read.specs.OnBoard.{tested, fits_board}
-use Rattle.part_read.specs.Figures.{box_core, radius_of, around, added, drawn}
+use Rattle.part_read.specs.There.{both, after}
+use Rattle.part_read.specs.OnBoard.{fits_board}
+use Rattle.part_read.specs.Figures.{box_core, radius_of, around, drawn}
+use Rattle.part_read.proofs.There.{some_same, map_some, then_some, both_some}
 use Rattle.part_read.proofs.Shapes.{one_point, one_shape, is_tested}
 use Rattle.pad_read.specs.declared.sizes.Sizes.{Sizes}
 use Rattle.pad_read.specs.declared.sizes.Cushion.{Cushion}
@@ -28,14 +30,14 @@ use Rattle.pad_read.specs.declared.forms.Form.{Form}
 use Rattle.pad_read.specs.declared.labels.Label.{Label}
 use Rattle.pad_read.specs.Halves.{is_near_half, fits_half, half_point_at, half_point}
 use Rattle.pad_read.specs.PadSizes.{least_of}
-use Rattle.pad_read.specs.PadShapes.{oval_cushion, turned_cushion, shape_between, low_point, high_point, cushion_at}
+use Rattle.pad_read.specs.PadShapes.{oval_cushion, turned_cushion, low_point, high_point, cushion_at}
 use Rattle.pad_read.specs.CustomPads.{primitives_fit}
 use Rattle.pad_read.specs.PadFrames.{hole_sizes, is_plated}
-use Rattle.pad_read.specs.PadOf.{with_parts, all_drawn, part_of, copper_of, has_copper, middle_of, frame_copper, hole_with, with_hole, hole_by, hole_of, frame_hole, sizes_fit, some_fit, frame_fits, local_fits, pad_item, pad_with, placed}
+use Rattle.pad_read.specs.PadOf.{all_drawn, with_part, copper_of, has_copper, middle_of, frame_copper, hole_with, hole_by, hole_of, frame_hole, sizes_fit, some_fit, frame_fits, local_fits, pad_item, pad_with, placed}
 use Rattle.read_alike.specs.Alike.{Shift}
 use Rattle.read_alike.specs.Carried.{ItemsOf, IsCarried}
 use Rattle.read_alike.specs.Moved.{moved_spot}
-use Rattle.read_alike.proofs.Figures.{some_same, tested_some}
+use Rattle.read_alike.proofs.Figures.{tested_some}
 use Rattle.read_alike.proofs.Shapes.{one_item, one_hole, two_pass}
 use Rattle.draw_alike.specs.Drawn.{DrawingRead}
 use Rattle.draw_alike.proofs.Cores.{box_moved}
@@ -56,25 +58,6 @@ point_again a b s t p q some h ex ey =
     sym (is_tested (fits_half t) (half_point_at t) q (λ fits. one_point q (half_point_at t fits) x y) (two_pass (is_near_half t.x) (is_near_half t.y) near_x near_y))
 
 -- ---- cushions
-
-record Between (r : Option Radius) (p q : Option Point) (shape : Shape) : Type 0 where
-  radius : Radius
-  one : Point
-  two : Point
-  has_radius : r ≡ Some radius
-  has_one : p ≡ Some one
-  has_two : q ≡ Some two
-  is : around radius (box_core one two) ≡ shape
-
-between : (r : Option Radius) (p q : Option Point) (shape : Shape) → shape_between r p q ≡ Some shape → Between r p q shape
-between None None None shape h = absurd cc
-between None None (Some q) shape h = absurd cc
-between None (Some p) None shape h = absurd cc
-between None (Some p) (Some q) shape h = absurd cc
-between (Some r) None None shape h = absurd cc
-between (Some r) None (Some q) shape h = absurd cc
-between (Some r) (Some p) None shape h = absurd cc
-between (Some r) (Some p) (Some q) shape h = record { radius = r; one = p; two = q; has_radius = refl; has_one = refl; has_two = refl; is = some_same h }
 
 first_core : {a b : Core} → a ∷ [] ≡ b ∷ [] → a ≡ b
 first_core h = cc
@@ -97,15 +80,16 @@ module _ (d : Shift) where
 
   pub cushion_again : (s : Spot) (c : Cushion) (shape other : Shape) → cushion_at s c ≡ Some shape → IsShiftedShape ddx ddy shape other → cushion_at (moved_spot d s) c ≡ Some other
   cushion_again s c shape other some h =
-      let k = between (radius_of c.radius) (low_point s c) (high_point s c) shape some in
-      let core = subst (λ (z : Shape). IsShiftedShape ddx ddy z other) (sym k.is) h in
-      let m = box_moved d nowhere nowhere true k.one k.two (other.core ∷ []) (core.core, tt) in
-      let low = point_again ddx ddy (record { x = (pos 2 *ℤ s.x) -ℤ c.x; y = (pos 2 *ℤ s.y) -ℤ c.y }) (record { x = (pos 2 *ℤ (s.x +ℤ d.dx)) -ℤ c.x; y = (pos 2 *ℤ (s.y +ℤ d.dy)) -ℤ c.y }) k.one m.one k.has_one m.is_one (low_moved s.x d.dx c.x) (low_moved s.y d.dy c.y) in
-      let high = point_again ddx ddy (record { x = (pos 2 *ℤ s.x) +ℤ c.x; y = (pos 2 *ℤ s.y) +ℤ c.y }) (record { x = (pos 2 *ℤ (s.x +ℤ d.dx)) +ℤ c.x; y = (pos 2 *ℤ (s.y +ℤ d.dy)) +ℤ c.y }) k.two m.two k.has_two m.is_two (high_moved s.x d.dx c.x) (high_moved s.y d.dy c.y) in
-      let same : around k.radius (box_core m.one m.two) ≡ other = one_shape (around k.radius (box_core m.one m.two)) other (sym (first_core m.are)) (sym core.radius) in
-      ap (λ (o : Option Radius). shape_between o (low_point (moved_spot d s) c) (high_point (moved_spot d s) c)) k.has_radius
-      ∙ ap (λ (o : Option Point). shape_between (Some k.radius) o (high_point (moved_spot d s) c)) low
-      ∙ ap (λ (o : Option Point). shape_between (Some k.radius) (Some m.one) o) high
+      let k = both_some around (radius_of c.radius) (both box_core (low_point s c) (high_point s c)) shape some in
+      let l = both_some box_core (low_point s c) (high_point s c) k.1 k.3 in
+      let core = subst (λ (z : Shape). IsShiftedShape ddx ddy z other) (k.4 ∙ ap (around k.0) l.4) h in
+      let m = box_moved d nowhere nowhere true l.0 l.1 (other.core ∷ []) (core.core, tt) in
+      let low = point_again ddx ddy (record { x = (pos 2 *ℤ s.x) -ℤ c.x; y = (pos 2 *ℤ s.y) -ℤ c.y }) (record { x = (pos 2 *ℤ (s.x +ℤ d.dx)) -ℤ c.x; y = (pos 2 *ℤ (s.y +ℤ d.dy)) -ℤ c.y }) l.0 m.one l.2 m.is_one (low_moved s.x d.dx c.x) (low_moved s.y d.dy c.y) in
+      let high = point_again ddx ddy (record { x = (pos 2 *ℤ s.x) +ℤ c.x; y = (pos 2 *ℤ s.y) +ℤ c.y }) (record { x = (pos 2 *ℤ (s.x +ℤ d.dx)) +ℤ c.x; y = (pos 2 *ℤ (s.y +ℤ d.dy)) +ℤ c.y }) l.1 m.two l.3 m.is_two (high_moved s.x d.dx c.x) (high_moved s.y d.dy c.y) in
+      let same : around k.0 (box_core m.one m.two) ≡ other = one_shape (around k.0 (box_core m.one m.two)) other (sym (first_core m.are)) (sym core.radius) in
+      ap (λ (o : Option Radius). both around o (both box_core (low_point (moved_spot d s) c) (high_point (moved_spot d s) c))) k.2
+      ∙ ap (λ (o : Option Point). both around (Some k.0) (both box_core o (high_point (moved_spot d s) c))) low
+      ∙ ap (λ (o : Option Point). both around (Some k.0) (both box_core (Some m.one) o)) high
       ∙ ap (λ (z : Shape). let o : Option Shape = Some z in o) same
 
   -- ---- copper
@@ -124,18 +108,6 @@ module _ (d : Shift) where
       let k = split ps qs others h.1 in
       record { us = o ∷ k.us; vs = k.vs; are = ap (λ (l : List Part). o ∷ l) k.are; first = (h.0, k.first); rest = k.rest }
 
-  record With (o p : Option (List Part)) (all : List Part) : Type 0 where
-    ps : List Part
-    qs : List Part
-    has_ps : o ≡ Some ps
-    has_qs : p ≡ Some qs
-    are : ps ++ qs ≡ all
-
-  with_some : (o p : Option (List Part)) (all : List Part) → with_parts o p ≡ Some all → With o p all
-  with_some None p all h = absurd cc
-  with_some (Some ps) None all h = absurd cc
-  with_some (Some ps) (Some qs) all h = record { ps = ps; qs = qs; has_ps = refl; has_qs = refl; are = some_same h }
-
   nothing_more : (parts others : List Part) → [] ≡ parts → AreShifted ddx ddy parts others → (let o : Option (List Part) = Some [] in o) ≡ Some others
   nothing_more [] [] e h = refl
   nothing_more [] (o ∷ others) e h = absurd h
@@ -152,38 +124,27 @@ module _ (d : Shift) where
   all_again layers stance [] (e ∷ es) parts others read some h = absurd read
   all_again layers stance (x ∷ ds) [] parts others read some h = absurd read
   all_again layers stance (x ∷ ds) (y ∷ es) parts others read some h =
-      let k = with_some (drawn layers stance x) (all_drawn layers stance ds) parts some in
-      let m = split k.ps k.qs others (subst (λ (l : List Part). AreShifted ddx ddy l others) (sym k.are) h) in
-      ap (λ (o : Option (List Part)). with_parts o (all_drawn layers (moved_stance d stance) es)) (drawn_again layers stance x y k.ps m.us read.0 k.has_ps m.first)
-      ∙ ap (λ (o : Option (List Part)). added m.us o) (all_again layers stance ds es k.qs m.vs read.1 k.has_qs m.rest)
+      let k = both_some (λ (ps qs : List Part). ps ++ qs) (drawn layers stance x) (all_drawn layers stance ds) parts some in
+      let m = split k.0 k.1 others (subst (λ (l : List Part). AreShifted ddx ddy l others) k.4 h) in
+      ap (λ (o : Option (List Part)). both (λ (ps qs : List Part). ps ++ qs) o (all_drawn layers (moved_stance d stance) es)) (drawn_again layers stance x y k.0 m.us read.0 k.2 m.first)
+      ∙ ap (after m.us) (all_again layers stance ds es k.1 m.vs read.1 k.3 m.rest)
       ∙ ap (λ (l : List Part). let o : Option (List Part) = Some l in o) (sym m.are)
 
-  part_some : (layers : LayerSet) (o : Option Shape) (ps : List Part) → part_of layers o ≡ Some ps → (shape : Shape) × (o ≡ Some shape) × (record { layers = layers; shape = shape } ∷ [] ≡ ps)
-  part_some layers None ps h = absurd cc
-  part_some layers (Some shape) ps h = (shape, refl, some_same h)
-
-  part_again : (layers : LayerSet) (s : Spot) (c : Cushion) (ps us : List Part) → part_of layers (cushion_at s c) ≡ Some ps → AreShifted ddx ddy ps us → part_of layers (cushion_at (moved_spot d s) c) ≡ Some us
-  part_again layers s c ps us some h =
-      let k = part_some layers (cushion_at s c) ps some in
-      by_one k.0 k.1 us (subst (λ (l : List Part). AreShifted ddx ddy l us) (sym k.2) h)
-    where
-      by_one : (shape : Shape) → cushion_at s c ≡ Some shape → (us : List Part) → AreShifted ddx ddy (record { layers = layers; shape = shape } ∷ []) us → part_of layers (cushion_at (moved_spot d s) c) ≡ Some us
-      by_one shape e [] h = absurd h
-      by_one shape e (u ∷ v ∷ us) h = absurd h.1
-      by_one shape e (u ∷ []) h =
-          ap (part_of layers) (cushion_again s c shape u.shape e h.0.shape)
-          ∙ ap (λ (l : LayerSet). let o : Option (List Part) = Some (record { layers = l; shape = u.shape } ∷ []) in o) (sym h.0.layers)
+  front_again : (layers : LayerSet) (shape : Shape) (ps others : List Part) → AreShifted ddx ddy (with_part layers shape ps) others
+      → (other : Shape) × (qs : List Part) × IsShiftedShape ddx ddy shape other × AreShifted ddx ddy ps qs × (others ≡ with_part layers other qs)
+  front_again layers shape ps [] h = absurd h
+  front_again layers shape ps (u ∷ us) h = (u.shape, us, h.0.shape, h.1, ap (λ (l : LayerSet). with_part l u.shape us) h.0.layers)
 
   copper_again : (layers : LayerSet) (stance : Stance) (f g : Form) (parts others : List Part) → g.cushion ≡ f.cushion → AreRead f.primitives g.primitives → copper_of layers stance f ≡ Some parts → AreShifted ddx ddy parts others
       → copper_of layers (moved_stance d stance) g ≡ Some others
   copper_again layers stance f g parts others cushion read some h =
       let turned = turned_cushion stance.quarter f.cushion in
-      let k = with_some (part_of layers (cushion_at stance.at turned)) (all_drawn layers stance f.primitives) parts some in
-      let m = split k.ps k.qs others (subst (λ (l : List Part). AreShifted ddx ddy l others) (sym k.are) h) in
-      ap (λ (c : Cushion). with_parts (part_of layers (cushion_at (moved_spot d stance.at) (turned_cushion stance.quarter c))) (all_drawn layers (moved_stance d stance) g.primitives)) cushion
-      ∙ ap (λ (o : Option (List Part)). with_parts o (all_drawn layers (moved_stance d stance) g.primitives)) (part_again layers stance.at turned k.ps m.us k.has_ps m.first)
-      ∙ ap (λ (o : Option (List Part)). added m.us o) (all_again layers stance f.primitives g.primitives k.qs m.vs read k.has_qs m.rest)
-      ∙ ap (λ (l : List Part). let o : Option (List Part) = Some l in o) (sym m.are)
+      let k = both_some (with_part layers) (cushion_at stance.at turned) (all_drawn layers stance f.primitives) parts some in
+      let m = front_again layers k.0 k.1 others (subst (λ (l : List Part). AreShifted ddx ddy l others) k.4 h) in
+      ap (λ (c : Cushion). both (with_part layers) (cushion_at (moved_spot d stance.at) (turned_cushion stance.quarter c)) (all_drawn layers (moved_stance d stance) g.primitives)) cushion
+      ∙ ap (λ (o : Option Shape). both (with_part layers) o (all_drawn layers (moved_stance d stance) g.primitives)) (cushion_again stance.at turned k.0 m.0 k.2 m.2)
+      ∙ ap (option_map (with_part layers m.0)) (all_again layers stance f.primitives g.primitives k.1 m.1 read k.3 m.3)
+      ∙ ap (λ (l : List Part). let o : Option (List Part) = Some l in o) (sym m.4)
 
   -- ---- frames
 
@@ -203,32 +164,24 @@ module _ (d : Shift) where
 
   -- ---- holes
 
-  hole_made : (copper : LayerSet) (plated : Bool) (s : Sizes) (shape : Shape) (hole : Option Hole) → with_hole (tested (is_length (least_of s)) (hole_with copper plated s shape)) ≡ Some hole
-      → (fits : is_length (least_of s) ≡ true) × (hole ≡ Some (hole_with copper plated s shape fits))
-  hole_made copper plated s shape hole h = by_test (is_length (least_of s)) (hole_with copper plated s shape) h
-    where
-      by_test : (b : Bool) (make : b ≡ true → Hole) → with_hole (tested b make) ≡ Some hole → (fits : b ≡ true) × (hole ≡ Some (make fits))
-      by_test true make h = (refl, sym (some_same h))
-      by_test false make h = absurd cc
-
-  shape_there : (copper : LayerSet) (plated : Bool) (s : Sizes) (o : Option Shape) (hole : Option Hole) → hole_by copper plated s o ≡ Some hole → (shape : Shape) × (o ≡ Some shape)
-  shape_there copper plated s None hole h = absurd cc
-  shape_there copper plated s (Some shape) hole h = (shape, refl)
+  abbrev drilled : Hole → Option Hole
+  drilled hole = Some hole
 
   sized_again : (copper : LayerSet) (at : Spot) (quarter : ℕ) (plated : Bool) (s : Sizes) (hole other : Option Hole) → hole_of copper at quarter plated (Some s) ≡ Some hole → HoleIsShifted ddx ddy hole other
       → hole_of copper (moved_spot d at) quarter plated (Some s) ≡ Some other
   sized_again copper at quarter plated s hole other some h =
       let c = turned_cushion quarter (oval_cushion s) in
-      let k = shape_there copper plated s (cushion_at at c) hole some in
-      let m = hole_made copper plated s k.0 hole (subst (λ (o : Option Shape). hole_by copper plated s o ≡ Some hole) k.1 some) in
-      by_other k.0 k.1 m.0 other (subst (λ (o : Option Hole). HoleIsShifted ddx ddy o other) m.1 h)
+      let k = map_some drilled (option_and_then (hole_by copper plated s) (cushion_at at c)) hole some in
+      let l = then_some (hole_by copper plated s) (cushion_at at c) k.0 k.1 in
+      let m = tested_some (is_length (least_of s)) (hole_with copper plated s l.0) k.0 l.2 in
+      by_other l.0 l.1 m.0 other (subst (λ (o : Option Hole). HoleIsShifted ddx ddy o other) (k.2 ∙ ap drilled (sym m.1)) h)
     where
       by_other : (shape : Shape) → cushion_at at (turned_cushion quarter (oval_cushion s)) ≡ Some shape → (fits : is_length (least_of s) ≡ true) → (other : Option Hole)
           → HoleIsShifted ddx ddy (Some (hole_with copper plated s shape fits)) other → hole_of copper (moved_spot d at) quarter plated (Some s) ≡ Some other
       by_other shape e fits None h = absurd h
       by_other shape e fits (Some x) h =
-          ap (hole_by copper plated s) (cushion_again at (turned_cushion quarter (oval_cushion s)) shape x.shape e h.shape)
-          ∙ ap with_hole (sym (is_tested (is_length (least_of s)) (hole_with copper plated s x.shape) x (λ fit. one_hole x (hole_with copper plated s x.shape fit) refl h.layers h.plated h.least) fits))
+          ap (λ (o : Option Shape). option_map drilled (option_and_then (hole_by copper plated s) o)) (cushion_again at (turned_cushion quarter (oval_cushion s)) shape x.shape e h.shape)
+          ∙ ap (option_map drilled) (sym (is_tested (is_length (least_of s)) (hole_with copper plated s x.shape) x (λ fit. one_hole x (hole_with copper plated s x.shape fit) refl h.layers h.plated h.least) fits))
 
   hole_again : (copper : LayerSet) (at : Spot) (quarter : ℕ) (plated : Bool) (s : Option Sizes) (hole other : Option Hole) → hole_of copper at quarter plated s ≡ Some hole → HoleIsShifted ddx ddy hole other
       → hole_of copper (moved_spot d at) quarter plated s ≡ Some other

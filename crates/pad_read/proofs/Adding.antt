@@ -1,22 +1,18 @@
 -- Parts that were drawn, and those of the drawings that are left.
 use Rattle.std.proofs.Common.{◌≡◌, ◌∙◌, refl, ap, sym, List, ◌++◌, append_assoc, Bool, true, false, cond, Option, None, Some}
-use Rattle.board_items.specs.declared.parts.Part.{Part}
-use Rattle.part_read.specs.Figures.{added}
-use Rattle.pad_read.specs.PadOf.{with_parts}
+use Rattle.part_read.specs.There.{both, after}
+use Rattle.part_read.proofs.There.{some_same}
 
-same_some : {A : Type 0} {x y : A} → Some x ≡ Some y → x ≡ y
-same_some h = cc
+after_first : {A : Type 0} (old new : List A) (first rest : Option (List A)) → after old first ≡ Some new → after old (both (λ xs ys. xs ++ ys) first rest) ≡ after new rest
+after_first old new None rest h = absurd cc
+after_first old new (Some ps) None h = refl
+after_first old new (Some ps) (Some qs) h = ap (λ all. Some all) (sym (append_assoc old ps qs) ∙ ap (λ xs. xs ++ qs) (some_same h))
 
-pub added_first : (old new : List Part) (first rest : Option (List Part)) → added old first ≡ Some new → added old (with_parts first rest) ≡ added new rest
-added_first old new None rest h = absurd cc
-added_first old new (Some ps) None h = refl
-added_first old new (Some ps) (Some qs) h =
-    ap (λ (all : List Part). Some all) (sym (append_assoc old ps qs) ∙ ap (λ (xs : List Part). xs ++ qs) (same_some h))
+after_missing : {A : Type 0} (old : List A) (first rest : Option (List A)) → after old first ≡ None → after old (both (λ xs ys. xs ++ ys) first rest) ≡ None
+after_missing old None rest h = refl
+after_missing old (Some ps) rest h = absurd cc
 
-pub added_none : (old : List Part) (first rest : Option (List Part)) → added old first ≡ None → added old (with_parts first rest) ≡ None
-added_none old None rest h = refl
-added_none old (Some ps) rest h = absurd cc
-
-pub next_is : (old new : List Part) (first rest : Option (List Part)) (drew : Bool) → added old first ≡ cond drew (Some new) None → added old (with_parts first rest) ≡ cond drew (added new rest) None
-next_is old new first rest true h = added_first old new first rest h
-next_is old new first rest false h = added_none old first rest h
+pub next_is : {A : Type 0} (old new : List A) (first rest : Option (List A)) (drew : Bool) → after old first ≡ cond drew (Some new) None
+    → after old (both (λ xs ys. xs ++ ys) first rest) ≡ cond drew (after new rest) None
+next_is old new first rest true h = after_first old new first rest h
+next_is old new first rest false h = after_missing old first rest h

@@ -1,5 +1,5 @@
 -- A pad that was made may stand on its board.
-use Rattle.std.proofs.Common.{◌≡◌, refl, ap, sym, subst, codes, ℕ, ℤ, Ok, List, [], ◌∷◌, ◌++◌, map, Bool, true, false, ◌&&◌, cond, is_some, IsTrue, Option, None, Some}
+use Rattle.std.proofs.Common.{◌≡◌, refl, ap, sym, subst, codes, ℕ, ℤ, Ok, List, [], ◌∷◌, ◌++◌, map, Bool, true, false, ◌&&◌, cond, is_some, IsTrue, Option, None, Some, option_map, option_and_then}
 use Rattle.std.specs.List.{list_all}
 use Rattle.sexpr_read.specs.Tree.{Tree}
 use Rattle.geo_seg.specs.declared.shapes.Core.{Core}
@@ -21,6 +21,7 @@ use Rattle.board_errors.specs.declared.errors.BoardError.TheVariants.{OutOfBoard
 use Rattle.list_read.specs.Answers.{needed}
 use Rattle.list_read.specs.Heads.{place}
 use Rattle.list_read.specs.Elements.{element}
+use Rattle.part_read.specs.There.{both}
 use Rattle.part_read.specs.Elements.{atom_of, in_needed}
 use Rattle.part_read.specs.LayersOf.{layers_named}
 use Rattle.part_read.specs.NetsOf.{net_of}
@@ -38,7 +39,7 @@ use Rattle.pad_read.specs.PadSizes.{least_of}
 use Rattle.pad_read.specs.PadShapes.{oval_cushion, turned_cushion, cushion_at}
 use Rattle.pad_read.specs.PadFrames.{hole_sizes, is_plated, frame_of}
 use Rattle.pad_read.specs.CustomPads.{primitives_fit}
-use Rattle.pad_read.specs.PadOf.{with_parts, all_drawn, part_of, copper_of, has_copper, middle_of, frame_copper, hole_with, with_hole, hole_by, hole_of, frame_hole, local_fits, frame_fits, pad_item, pad_with, placed, form_of, label_of, pad_of}
+use Rattle.pad_read.specs.PadOf.{all_drawn, with_part, copper_of, has_copper, middle_of, frame_copper, hole_with, hole_by, hole_of, frame_hole, local_fits, frame_fits, pad_item, pad_with, placed, form_of, label_of, pad_of}
 
 abbrev AreOn : LayerSet → List Part → Type 0
 AreOn copper ps = list_all (λ part. is_within part.layers copper) ps ≡ true
@@ -48,10 +49,10 @@ abbrev AreOnIf : LayerSet → Option (List Part) → Type 0
 AreOnIf copper None = Unit {0}
 AreOnIf copper (Some ps) = AreOn copper ps
 
-both : (a b : Bool) → a ≡ true → b ≡ true → a && b ≡ true
-both true true h k = refl
-both true false h k = cc
-both false b h k = cc
+two_hold : (a b : Bool) → a ≡ true → b ≡ true → a && b ≡ true
+two_hold true true h k = refl
+two_hold true false h k = cc
+two_hold false b h k = cc
 
 all_both : (copper : LayerSet) (ps qs : List Part) → AreOn copper ps → AreOn copper qs → AreOn copper (ps ++ qs)
 all_both copper [] qs h k = k
@@ -66,14 +67,14 @@ all_both copper (p ∷ ps) qs h k = by (is_within p.layers copper) (list_all (λ
 all_around : (layers copper : LayerSet) (r : Radius) (cores : List Core) → is_within layers copper ≡ true
     → AreOn copper (map (λ core. let p : Part = record { layers = layers; shape = around r core } in p) cores)
 all_around layers copper r [] h = refl
-all_around layers copper r (c ∷ cs) h = both _ _ h (all_around layers copper r cs h)
+all_around layers copper r (c ∷ cs) h = two_hold _ _ h (all_around layers copper r cs h)
 
-around_on : (layers copper : LayerSet) (r : Option Radius) (cores : Option (List Core)) → is_within layers copper ≡ true → AreOnIf copper (parts_around layers r cores)
+around_on : (layers copper : LayerSet) (r : Option Radius) (cores : Option (List Core)) → is_within layers copper ≡ true → AreOnIf copper (both (parts_around layers) r cores)
 around_on layers copper None cores h = tt
 around_on layers copper (Some r) None h = tt
 around_on layers copper (Some r) (Some cores) h = all_around layers copper r cores h
 
-with_on : (copper : LayerSet) (ps qs : Option (List Part)) → AreOnIf copper ps → AreOnIf copper qs → AreOnIf copper (with_parts ps qs)
+with_on : (copper : LayerSet) (ps qs : Option (List Part)) → AreOnIf copper ps → AreOnIf copper qs → AreOnIf copper (both (λ one other. one ++ other) ps qs)
 with_on copper None qs h k = tt
 with_on copper (Some ps) None h k = tt
 with_on copper (Some ps) (Some qs) h k = all_both copper ps qs h k
@@ -83,15 +84,16 @@ drawn_on layers copper stance [] h = refl
 drawn_on layers copper stance (d ∷ ds) h =
     with_on copper _ _ (around_on layers copper (radius_of (radius_with d.width d.figure)) (cores_of stance d.filled d.figure) h) (drawn_on layers copper stance ds h)
 
-part_on : (layers copper : LayerSet) (shape : Option Shape) → is_within layers copper ≡ true → AreOnIf copper (part_of layers shape)
-part_on layers copper None h = tt
-part_on layers copper (Some shape) h = both _ _ h refl
+part_on : (layers copper : LayerSet) (shape : Option Shape) (ps : Option (List Part)) → is_within layers copper ≡ true → AreOnIf copper ps → AreOnIf copper (both (with_part layers) shape ps)
+part_on layers copper None ps h k = tt
+part_on layers copper (Some shape) None h k = tt
+part_on layers copper (Some shape) (Some ps) h k = two_hold _ _ h k
 
 copper_on : (layers copper : LayerSet) (f : Frame) (form : Form) → is_within layers copper ≡ true → AreOnIf copper (frame_copper layers f form)
 copper_on layers copper f form h = by (has_copper f.pad_type layers f.sizes f.drilling.sizes)
   where
     by : (b : Bool) → AreOnIf copper (cond b (copper_of layers (middle_of f) form) (Some []))
-    by true = with_on copper _ _ (part_on layers copper _ h) (drawn_on layers copper (middle_of f) form.primitives h)
+    by true = part_on layers copper _ _ h (drawn_on layers copper (middle_of f) form.primitives h)
     by false = refl
 
 -- ---- holes
@@ -103,14 +105,14 @@ HoleOnIf copper (Some hole) = AreOn copper (hole_parts hole)
 within_itself : (s : LayerSet) → is_within s s ≡ true
 within_itself s = (within_layers s s).1 (λ layer h. h)
 
-tested_on : (copper : LayerSet) (plated : Bool) (s : Sizes) (shape : Shape) → HoleOnIf copper (with_hole (tested (is_length (least_of s)) (hole_with copper plated s shape)))
+tested_on : (copper : LayerSet) (plated : Bool) (s : Sizes) (shape : Shape) → HoleOnIf copper (option_map (λ hole. Some hole) (hole_by copper plated s shape))
 tested_on copper plated s shape = by (is_length (least_of s)) (hole_with copper plated s shape) (λ h. refl)
   where
-    by : (b : Bool) (make : b ≡ true → Hole) → ((h : b ≡ true) → (make h).layers ≡ copper) → HoleOnIf copper (with_hole (tested b make))
-    by true make same = both _ _ (subst (λ (s : LayerSet). is_within s copper ≡ true) (sym (same refl)) (within_itself copper)) refl
+    by : (b : Bool) (make : b ≡ true → Hole) → ((h : b ≡ true) → (make h).layers ≡ copper) → HoleOnIf copper (option_map (λ hole. Some hole) (tested b make))
+    by true make same = two_hold _ _ (subst (λ (s : LayerSet). is_within s copper ≡ true) (sym (same refl)) (within_itself copper)) refl
     by false make same = tt
 
-shaped_on : (copper : LayerSet) (plated : Bool) (s : Sizes) (shape : Option Shape) → HoleOnIf copper (hole_by copper plated s shape)
+shaped_on : (copper : LayerSet) (plated : Bool) (s : Sizes) (shape : Option Shape) → HoleOnIf copper (option_map (λ hole. Some hole) (option_and_then (hole_by copper plated s) shape))
 shaped_on copper plated s None = tt
 shaped_on copper plated s (Some shape) = tested_on copper plated s shape
 
@@ -124,7 +126,7 @@ item_ready : (board : PlainBoard) (label : Label) (at : Spot) (parts : List Part
     → fits_board at ≡ true → is_some (name_of board label.net) ≡ true → AreOn board.copper parts → AreOn board.copper (hole_parts hole)
     → IsReady board label.unit (pad_item label at parts hole fits)
 item_ready board label at parts hole fits near declared on drilled = record {
-  admitted = both _ _ (both _ _ near declared) (all_both board.copper parts (hole_parts hole ++ []) on (all_both board.copper (hole_parts hole) [] drilled refl));
+  admitted = two_hold _ _ (two_hold _ _ near declared) (all_both board.copper parts (hole_parts hole ++ []) on (all_both board.copper (hole_parts hole) [] drilled refl));
   of_unit = refl;
 }
 

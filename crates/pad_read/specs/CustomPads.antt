@@ -1,5 +1,5 @@
 -- Custom pads: an anchor, and primitives around it.
-use Rattle.std.specs.Prelude.{Bool, ◌||◌, not, List, [], ◌∷◌, ◌++◌, codes, Option, None, Some, Result, Ok, Err, if◌then◌else◌}
+use Rattle.std.specs.Prelude.{Bool, ◌||◌, not, List, [], ◌∷◌, ◌++◌, codes, Option, None, Some, option_and_then, Result, Ok, Err, if◌then◌else◌}
 use Rattle.std.specs.List.{list_all}
 use Rattle.sexpr_read.specs.Tree.{Tree, parts}
 use Rattle.board_errors.specs.declared.errors.BoardError.{BoardError}
@@ -10,8 +10,8 @@ use Rattle.part_read.specs.declared.figures.Drawing.{Drawing}
 use Rattle.list_read.specs.Answers.{◌>>=◌, check}
 use Rattle.list_read.specs.Heads.{place, is_text, has_head}
 use Rattle.list_read.specs.Elements.{element}
-use Rattle.part_read.specs.Elements.{atom_of}
 use Rattle.plain_types.specs.Lengths.{is_length}
+use Rattle.part_read.specs.Elements.{given_or, atom_of}
 use Rattle.part_read.specs.Figures.{is_ring, radius_with}
 use Rattle.part_read.specs.Drawings.{drawing_of}
 use Rattle.pad_read.specs.declared.sizes.Sizes.{Sizes}
@@ -26,17 +26,10 @@ anchor_by_word pad s atom =
     else if is_text atom (codes "rect") then Ok (rect_cushion s)
     else Err (PadShape (place pad))
 
-abbrev pub anchor_by : Tree → Sizes → Option Tree → Result Cushion BoardError
-anchor_by pad s None = Ok (circle_cushion s)
-anchor_by pad s (Some list) = atom_of 1 list >>= anchor_by_word pad s
-
-abbrev pub in_options : Option Tree → Option Tree
-in_options None = None
-in_options (Some options) = element (codes "anchor") options
-
 -- that of (options (anchor WORD)), a disc where it is missing
 unfoldable pub anchor_of : Sizes → Tree → Result Cushion BoardError
-anchor_of s pad = anchor_by pad s (in_options (element (codes "options") pad))
+anchor_of s pad =
+    given_or (circle_cushion s) (λ list. atom_of 1 list >>= anchor_by_word pad s) (option_and_then (element (codes "anchor")) (element (codes "options") pad))
 
 -- ---- the primitives
 
@@ -63,13 +56,9 @@ primitives_among pad (t ∷ ts) = do
   others ← primitives_among pad ts
   Ok (first ++ others)
 
-abbrev pub primitives_by : Tree → Option Tree → Result (List Drawing) BoardError
-primitives_by pad None = Ok []
-primitives_by pad (Some list) = primitives_among pad (parts list)
-
 -- what (primitives ..) draws
 unfoldable pub primitives_of : Tree → Result (List Drawing) BoardError
-primitives_of pad = primitives_by pad (element (codes "primitives") pad)
+primitives_of pad = given_or [] (λ list. primitives_among pad (parts list)) (element (codes "primitives") pad)
 
 -- ---- what must be at most 500 mm, whether or not the pad has copper
 

@@ -1,6 +1,6 @@
 -- Pads: (pad "NUMBER" TYPE SHAPE (at X Y ANGLE) (size W H) (drill ..) (layers NAME ..) .. (net N) (clearance C)), its elements in this
 -- order. An offset moves the copper of a pad and not its hole.
-use Rattle.std.specs.Prelude.{◌≡◌, ℕ, ℤ, pos, int_lt, Bool, true, false, ◌&&◌, not, ◌==◌, List, [], ◌∷◌, codes, Option, None, Some, Result, Ok, refl, if◌then◌else◌}
+use Rattle.std.specs.Prelude.{◌≡◌, ℕ, ℤ, pos, int_lt, Bool, true, false, ◌&&◌, not, ◌==◌, List, [], ◌∷◌, ◌++◌, codes, Option, None, Some, option_map, option_and_then, Result, Ok, refl, if◌then◌else◌}
 use Rattle.std.proofs.Common.{subst}
 use Rattle.sexpr_read.specs.Tree.{Tree}
 use Rattle.geo_seg.specs.declared.shapes.Shape.{Shape}
@@ -19,6 +19,7 @@ use Rattle.part_read.specs.declared.figures.Drawing.{Drawing}
 use Rattle.list_read.specs.Answers.{◌>>=◌, needed}
 use Rattle.list_read.specs.Heads.{place, text_of}
 use Rattle.list_read.specs.Elements.{element}
+use Rattle.part_read.specs.There.{both}
 use Rattle.part_read.specs.Elements.{atom_of, in_needed, name_in}
 use Rattle.plain_types.proofs.LengthTests.{length_in_range}
 use Rattle.part_read.specs.OnBoard.{tested, fits_board}
@@ -26,7 +27,7 @@ use Rattle.part_read.specs.LayersOf.{layers_named}
 use Rattle.part_read.specs.NetsOf.{net_of}
 use Rattle.part_read.specs.Stances.{stood}
 use Rattle.part_read.specs.PlainItems.{unmeasured}
-use Rattle.part_read.specs.Figures.{added, drawn}
+use Rattle.part_read.specs.Figures.{drawn}
 use Rattle.pad_read.specs.declared.sizes.Sizes.{Sizes}
 use Rattle.pad_read.specs.declared.sizes.Cushion.{Cushion}
 use Rattle.pad_read.specs.declared.pads.PadType.{PadType}
@@ -60,22 +61,17 @@ form_of Custom s tree = do
 
 -- ---- its copper, if it lies on the board
 
-abbrev pub with_parts : Option (List Part) → Option (List Part) → Option (List Part)
-with_parts None more = None
-with_parts (Some parts) more = added parts more
-
 abbrev pub all_drawn : LayerSet → Stance → List Drawing → Option (List Part)
 all_drawn layers stance [] = Some []
-all_drawn layers stance (d ∷ ds) = with_parts (drawn layers stance d) (all_drawn layers stance ds)
+all_drawn layers stance (d ∷ ds) = both (λ ps qs. ps ++ qs) (drawn layers stance d) (all_drawn layers stance ds)
 
-abbrev pub part_of : LayerSet → Option Shape → Option (List Part)
-part_of layers None = None
-part_of layers (Some shape) = Some (record { layers = layers; shape = shape } ∷ [])
+abbrev pub with_part : LayerSet → Shape → List Part → List Part
+with_part layers shape parts = record { layers = layers; shape = shape } ∷ parts
 
 -- what stands so has its cushion in the middle, and the primitives around it
 abbrev pub copper_of : LayerSet → Stance → Form → Option (List Part)
 copper_of layers stance form =
-    with_parts (part_of layers (cushion_at stance.at (turned_cushion stance.quarter form.cushion))) (all_drawn layers stance form.primitives)
+    both (with_part layers) (cushion_at stance.at (turned_cushion stance.quarter form.cushion)) (all_drawn layers stance form.primitives)
 
 abbrev pub equals_drill : Sizes → Option Sizes → Bool
 equals_drill s None = false
@@ -98,18 +94,14 @@ frame_copper layers f form = if has_copper f.pad_type layers f.sizes f.drilling.
 abbrev pub hole_with : LayerSet → Bool → (s : Sizes) → Shape → is_length (least_of s) ≡ true → Hole
 hole_with layers plated s shape fits = record { shape = shape; layers = layers; plated = plated; least = least_of s; least_in_range = length_in_range (least_of s) fits }
 
-abbrev pub with_hole : Option Hole → Option (Option Hole)
-with_hole None = None
-with_hole (Some hole) = Some (Some hole)
-
-abbrev pub hole_by : LayerSet → Bool → Sizes → Option Shape → Option (Option Hole)
-hole_by layers plated s None = None
-hole_by layers plated s (Some shape) = with_hole (tested (is_length (least_of s)) (hole_with layers plated s shape))
+abbrev pub hole_by : LayerSet → Bool → Sizes → Shape → Option Hole
+hole_by layers plated s shape = tested (is_length (least_of s)) (hole_with layers plated s shape)
 
 -- round or oval, through all copper layers
 abbrev pub hole_of : LayerSet → Spot → ℕ → Bool → Option Sizes → Option (Option Hole)
 hole_of copper at quarter plated None = Some None
-hole_of copper at quarter plated (Some s) = hole_by copper plated s (cushion_at at (turned_cushion quarter (oval_cushion s)))
+hole_of copper at quarter plated (Some s) =
+    option_map (λ hole. Some hole) (option_and_then (hole_by copper plated s) (cushion_at at (turned_cushion quarter (oval_cushion s))))
 
 -- at the position of the pad, and turned with it
 abbrev pub frame_hole : LayerSet → Frame → Option (Option Hole)
@@ -164,9 +156,8 @@ pad_item label at copper hole fits = record {
 }
 
 abbrev pub pad_with : Label → Spot → Option (List Part) → Option (Option Hole) → Option Item
-pad_with label at None hole = None
-pad_with label at (Some copper) None = None
-pad_with label at (Some copper) (Some hole) = tested (local_fits label.local) (pad_item label at copper hole)
+pad_with label at copper hole =
+    option_and_then (λ parts. option_and_then (λ drilled. tested (local_fits label.local) (pad_item label at parts drilled)) hole) copper
 
 -- the pad, if it lies on the board and no size of it or of a primitive is above 500 mm
 abbrev pub placed : LayerSet → LayerSet → Label → Frame → Form → Option Item

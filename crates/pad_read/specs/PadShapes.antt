@@ -1,6 +1,6 @@
 -- The shapes of pads that are all within a radius of a box: discs, rectangles, ovals and rounded rectangles. Both numbers of a box count
 -- half nanometres from its middle to an edge: as many as its side has nanometres.
-use Rattle.std.specs.Prelude.{ℕ, ◌≤◌, ℤ, pos, unsigned_abs, ◌+ℤ◌, ◌-ℤ◌, ◌*ℤ◌, ◌%◌, ◌==◌, codes, Option, None, Some, int_le, Result, Ok, if◌then◌else◌}
+use Rattle.std.specs.Prelude.{ℕ, ◌≤◌, ℤ, pos, unsigned_abs, ◌+ℤ◌, ◌-ℤ◌, ◌*ℤ◌, ◌%◌, ◌==◌, codes, Option, int_le, Result, Ok, if◌then◌else◌}
 use Rattle.sexpr_read.specs.Tree.{Tree, content}
 use Rattle.exact_dec.specs.Computed.{ratio_near_answer}
 use Rattle.geo_seg.specs.declared.points.Point.{Point}
@@ -11,9 +11,9 @@ use Rattle.part_read.specs.declared.numbers.Spot.{Spot}
 use Rattle.list_read.specs.Answers.{◌>>=◌, needed}
 use Rattle.list_read.specs.Heads.{place}
 use Rattle.list_read.specs.Elements.{element}
-use Rattle.part_read.specs.Elements.{atom_of}
+use Rattle.part_read.specs.Elements.{given_or, atom_of}
 use Rattle.part_read.specs.Numbers.{read_as}
-use Rattle.part_read.specs.declared.radii.Radius.{Radius}
+use Rattle.part_read.specs.There.{both}
 use Rattle.pad_read.specs.Halves.{half_point}
 use Rattle.part_read.specs.Figures.{box_core, radius_of, around}
 use Rattle.pad_read.specs.declared.sizes.Sizes.{Sizes}
@@ -56,23 +56,15 @@ share_of size atom = do
 abbrev pub ratio_in : ℤ → Tree → Result ℤ BoardError
 ratio_in least atom = share_of least atom >>= λ share. Ok (least_number (pos 2 *ℤ share) least)
 
-abbrev pub round_by : ℤ → Option Tree → Result ℤ BoardError
-round_by least None = Ok (pos 0)
-round_by least (Some list) = atom_of 1 list >>= ratio_in least
-
 -- the radius in half nanometres: that share of the smaller size, or half of the size where the share is more
 unfoldable pub round_radius : Sizes → Tree → Result ℤ BoardError
-round_radius s tree = round_by (least_of s) (element (codes "roundrect_rratio") tree)
+round_radius s tree = given_or (pos 0) (λ list. atom_of 1 list >>= ratio_in (least_of s)) (element (codes "roundrect_rratio") tree)
 
 -- ---- on the board
 
 -- turned by so many quarter turns
 abbrev pub turned_cushion : ℕ → Cushion → Cushion
 turned_cushion quarter c = if quarter % 2 == 0 then c else record { x = c.y; y = c.x; radius = c.radius }
-
-abbrev pub shape_between : Option Radius → Option Point → Option Point → Option Shape
-shape_between (Some r) (Some p) (Some q) = Some (around r (box_core p q))
-shape_between r p q = None
 
 -- the two corners of the box around this spot, if they lie on the board
 abbrev pub low_point : Spot → Cushion → Option Point
@@ -83,4 +75,4 @@ high_point s c = half_point (record { x = (pos 2 *ℤ s.x) +ℤ c.x; y = (pos 2 
 
 -- the shape around this spot, if it lies on the board
 abbrev pub cushion_at : Spot → Cushion → Option Shape
-cushion_at s c = shape_between (radius_of c.radius) (low_point s c) (high_point s c)
+cushion_at s c = both around (radius_of c.radius) (both box_core (low_point s c) (high_point s c))

@@ -1,13 +1,13 @@
 -- The sizes of pads and of their holes.
 use Rattle.std.specs.Prelude.{ℤ, pos, ◌≤ℤ◌, ◌&&◌, Bool, codes, Option, None, Some, slice_get, int_le, Result, Ok, if◌then◌else◌}
 use Rattle.std.specs.Ordering.{int_eq}
-use Rattle.sexpr_read.specs.Tree.{Tree, parts, is_list}
+use Rattle.sexpr_read.specs.Tree.{Tree, parts}
 use Rattle.board_errors.specs.declared.errors.BoardError.{BoardError}
 use Rattle.part_read.specs.declared.numbers.Spot.{Spot}
 use Rattle.list_read.specs.Answers.{◌>>=◌}
 use Rattle.list_read.specs.Heads.{is_text}
 use Rattle.list_read.specs.Elements.{element}
-use Rattle.part_read.specs.Elements.{atom_of, in_needed}
+use Rattle.part_read.specs.Elements.{in_needed, given_or, atom_of, atom_or}
 use Rattle.part_read.specs.Numbers.{size_in, spot_at}
 use Rattle.pad_read.specs.declared.sizes.Sizes.{Sizes}
 use Rattle.pad_read.specs.declared.sizes.Drilling.{Drilling}
@@ -39,43 +39,34 @@ pub record AreRead (s : Sizes) : Type 0 where
 
 -- ---- drills: (drill D), (drill oval W) or (drill oval W H), each perhaps with (offset X Y)
 
--- the second size of an oval one, which is the first where it is missing
-abbrev pub other_size : ℤ → Option Tree → Result ℤ BoardError
-other_size w None = Ok w
-other_size w (Some t) = if is_list t then Ok w else size_in t
-
+-- the second size of an oval one is the first where it is missing
 unfoldable pub oval_sizes : Tree → Result Sizes BoardError
 oval_sizes list = do
   first ← atom_of 2 list
   w ← size_in first
-  h ← other_size w (slice_get (parts list) 3)
+  h ← atom_or w size_in (slice_get (parts list) 3)
   Ok (record { w = w; h = h })
 
-abbrev pub some_sizes : Result Sizes BoardError → Result (Option Sizes) BoardError
-some_sizes answer = answer >>= λ sizes. Ok (Some sizes)
+abbrev pub round_sizes : Tree → Result Sizes BoardError
+round_sizes atom = size_in atom >>= λ d. Ok (record { w = d; h = d })
 
 -- where the first part is missing or a list, there is no hole
 abbrev pub drilled_by : Tree → Option Tree → Result (Option Sizes) BoardError
-drilled_by list None = Ok None
-drilled_by list (Some t) =
-    if is_list t then Ok None
-    else if is_text t (codes "oval") then some_sizes (oval_sizes list)
-    else some_sizes (size_in t >>= λ d. Ok (record { w = d; h = d }))
+drilled_by list found =
+    atom_or None (λ t. (if is_text t (codes "oval") then oval_sizes list else round_sizes t) >>= λ sizes. Ok (Some sizes)) found
 
-abbrev pub offset_by : Option Tree → Result Spot BoardError
-offset_by None = Ok (record { x = pos 0; y = pos 0 })
-offset_by (Some list) = spot_at list
+abbrev pub no_offset : Spot
+no_offset = record { x = pos 0; y = pos 0 }
 
 unfoldable pub drilling_at : Tree → Result Drilling BoardError
 drilling_at list = do
   sizes ← drilled_by list (slice_get (parts list) 1)
-  offset ← offset_by (element (codes "offset") list)
+  offset ← given_or no_offset spot_at (element (codes "offset") list)
   Ok (record { sizes = sizes; offset = offset })
 
-abbrev pub drilling_by : Option Tree → Result Drilling BoardError
-drilling_by None = Ok (record { sizes = None; offset = record { x = pos 0; y = pos 0 } })
-drilling_by (Some list) = drilling_at list
+abbrev pub no_drilling : Drilling
+no_drilling = record { sizes = None; offset = no_offset }
 
 -- the hole and the offset of its copper that a pad's `drill` gives
 abbrev pub drilling_of : Tree → Result Drilling BoardError
-drilling_of tree = drilling_by (element (codes "drill") tree)
+drilling_of tree = given_or no_drilling drilling_at (element (codes "drill") tree)

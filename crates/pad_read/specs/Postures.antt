@@ -2,21 +2,21 @@
 -- a pad alike.
 use Rattle.std.specs.Prelude.{ℕ, ℤ, pos, ◌/◌, ◌%◌, ◌==◌, unsigned_abs, codes, Option, None, Some, slice_get, Result, Ok, if◌then◌else◌}
 use Rattle.std.specs.Int.{int_rem_euclid}
-use Rattle.sexpr_read.specs.Tree.{Tree, parts, is_list}
+use Rattle.sexpr_read.specs.Tree.{Tree, parts}
 use Rattle.board_errors.specs.declared.errors.BoardError.{BoardError}
 use Rattle.list_read.specs.Answers.{◌>>=◌}
 use Rattle.list_read.specs.Elements.{element}
-use Rattle.part_read.specs.Elements.{atom_of, in_needed}
+use Rattle.part_read.specs.Elements.{in_needed, given_or, atom_of, atom_or}
 use Rattle.part_read.specs.Numbers.{length_in, spot_at}
 use Rattle.pad_read.specs.declared.postures.Posture.{Posture}
 
 -- ---- angles, read as lengths are: a quarter turn is 90,000,000
 
+-- an angle that is missing is 0
 abbrev pub angle_by : Option Tree → Result ℤ BoardError
-angle_by None = Ok (pos 0)
-angle_by (Some t) = if is_list t then Ok (pos 0) else length_in t
+angle_by found = atom_or (pos 0) length_in found
 
--- the position and the angle of (at X Y ANGLE); an angle that is missing is 0
+-- the position and the angle of (at X Y ANGLE)
 unfoldable pub posture_at : Tree → Result Posture BoardError
 posture_at list = do
   spot ← spot_at list
@@ -35,9 +35,5 @@ quarters_of angle = quarters_by (unsigned_abs (int_rem_euclid angle (pos 3600000
 
 -- ---- clearances, of which 0 and less count as none
 
-abbrev pub clearance_by : Option Tree → Result ℤ BoardError
-clearance_by None = Ok (pos 0)
-clearance_by (Some list) = atom_of 1 list >>= length_in
-
 unfoldable pub clearance_of : Tree → Result ℤ BoardError
-clearance_of tree = clearance_by (element (codes "clearance") tree)
+clearance_of tree = given_or (pos 0) (λ list. atom_of 1 list >>= length_in) (element (codes "clearance") tree)

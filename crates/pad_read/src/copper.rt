@@ -1,12 +1,13 @@
 //! The copper of pads.
 
-ghost use Rattle.std.specs.Prelude.{◌≡◌, ◌<◌, ◌∷◌, [], All, IfOk, List, Option, Some, None, if◌then◌else◌};
+ghost use Rattle.std.specs.Prelude.{◌≡◌, ◌<◌, ◌∷◌, ◌++◌, [], All, IfOk, List, Option, Some, None, if◌then◌else◌};
 ghost use Rattle.board_items.specs.declared.parts.Part.{Part};
-ghost use Rattle.part_read.specs.Figures.{added, drawn, IsDrawable};
+ghost use Rattle.part_read.specs.There.{both, after};
+ghost use Rattle.part_read.specs.Figures.{drawn, IsDrawable};
 ghost use Rattle.part_read.specs.Stances.{IsWithin};
 ghost use Rattle.pad_read.specs.PadShapes.{IsSmall};
 ghost use Rattle.pad_read.specs.PadFrames.{IsFramed};
-ghost use Rattle.pad_read.specs.PadOf.{with_parts, all_drawn, copper_of, middle_of, frame_copper};
+ghost use Rattle.pad_read.specs.PadOf.{all_drawn, copper_of, middle_of, frame_copper};
 
 use crate::cushions::{cushion_at, turned_cushion};
 use crate::forms::Form;
@@ -29,7 +30,7 @@ fn draw_next(
     requires quarter { stance.quarter < 4 }
     requires at { IsWithin 3000000000000 stance.at }
     requires drawable { IsDrawable drawing.now }
-    ensures { IfOk result (λ drew. (rest : Option (List Part)) → added list.old.items (with_parts (drawn layers stance drawing.now) rest) ≡ (if drew then added list.new.items rest else None)) }
+    ensures { IfOk result (λ drew. (rest : Option (List Part)) → after list.old.items (both (λ ps qs. ps ++ qs) (drawn layers stance drawing.now) rest) ≡ (if drew then after list.new.items rest else None)) }
 {
     let drew = draw_into(alloc, layers, stance, drawing, list)?;
     Ok(drew)
@@ -46,7 +47,7 @@ pub fn draw_all(
     requires quarter { stance.quarter < 4 }
     requires at { IsWithin 3000000000000 stance.at }
     requires drawable { All IsDrawable drawings.now }
-    ensures { IfOk result (λ drew. added list.old.items (all_drawn layers stance drawings.now) ≡ (if drew then Some list.new.items else None)) }
+    ensures { IfOk result (λ drew. after list.old.items (all_drawn layers stance drawings.now) ≡ (if drew then Some list.new.items else None)) }
 {
     for drawing in drawings {
         if !draw_next(alloc, layers, stance, drawing, list)? {

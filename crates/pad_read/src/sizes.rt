@@ -3,9 +3,10 @@
 ghost use Rattle.std.specs.Prelude.{◌≡◌, ◌≤ℤ◌, pos, codes, option_map, IfOk, IfSome};
 ghost use Rattle.sexpr_read.specs.Views.{tree_of};
 ghost use Rattle.list_read.specs.Elements.{element};
-ghost use Rattle.part_read.specs.Numbers.{size_in};
+ghost use Rattle.part_read.specs.Elements.{given_or, atom_or};
+ghost use Rattle.part_read.specs.Numbers.{size_in, spot_at};
 ghost use Rattle.part_read.specs.Stances.{IsWithin};
-ghost use Rattle.pad_read.specs.PadSizes.{AreRead, sizes_at, sizes_of, least_of, are_equal, other_size, oval_sizes, drilled_by, offset_by, drilling_at, drilling_of};
+ghost use Rattle.pad_read.specs.PadSizes.{AreRead, sizes_at, sizes_of, least_of, are_equal, oval_sizes, drilled_by, no_offset, drilling_at, drilling_of};
 
 use crate::places::{first_part, third_part};
 use board_items::{BoardError, Nm};
@@ -86,7 +87,7 @@ pub fn are_equal(one: Sizes, other: Sizes) -> bool
 fn other_size(w: Nm, found: Option<Node<'_, '_>>) -> Result<Nm, BoardError>
     requires from { pos 0 ≤ℤ w }
     requires to { w ≤ℤ pos 1000000000000 }
-    ensures size { result ≡ other_size w (option_map tree_of found.entry) }
+    ensures size { result ≡ atom_or w size_in (option_map tree_of found.entry) }
     ensures from { IfOk result (λ size. pos 0 ≤ℤ size) }
     ensures to { IfOk result (λ size. size ≤ℤ pos 1000000000000) }
 {
@@ -132,7 +133,7 @@ fn drilled_by(list: Node<'_, '_>, found: Option<Node<'_, '_>>) -> Result<Option<
 
 /// The offset of `(offset X Y)`, or none.
 fn offset_of(list: Node<'_, '_>) -> Result<Spot, BoardError>
-    ensures offset { result ≡ offset_by (element (codes "offset") (tree_of list.entry)) }
+    ensures offset { result ≡ given_or no_offset spot_at (element (codes "offset") (tree_of list.entry)) }
     ensures within { IfOk result (IsWithin 1000000000000) }
 {
     match element(list, b"offset") {

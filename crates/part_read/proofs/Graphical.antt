@@ -28,19 +28,20 @@ use Rattle.part_read.specs.declared.graphics.Ground.TheVariants.{Copper, Outline
 use Rattle.list_read.specs.Answers.{◌>>=◌, needed, check}
 use Rattle.list_read.specs.Heads.{place}
 use Rattle.list_read.specs.Elements.{element}
-use Rattle.part_read.specs.Elements.{atom_of, name_among, name_in}
+use Rattle.part_read.specs.Elements.{given_or, atom_of, name_among, name_in}
 use Rattle.board_errors.specs.declared.errors.BoardError.TheVariants.{Missing, OutOfBoard, Ring}
 use Rattle.plain_types.specs.Lengths.{is_length}
 use Rattle.part_read.specs.OnBoard.{tested, fits_board, point_at}
-use Rattle.part_read.specs.NetsOf.{declared_in, net_among, net_of}
+use Rattle.part_read.specs.NetsOf.{declared_in, net_of}
 use Rattle.part_read.specs.Numbers.{number_in, spot_of}
-use Rattle.part_read.specs.Stances.{stood, point_stood, with_point, points_stood}
-use Rattle.part_read.specs.Figures.{cores_between, cores_around, cores_of, around, parts_around, drawn, drawn_edge, first_of, first_spot, is_ring, is_circle}
+use Rattle.part_read.specs.Stances.{stood, point_stood, points_stood}
+use Rattle.part_read.specs.Figures.{cores_of, around, drawn, drawn_edge, first_of, first_spot, is_ring, is_circle}
 use Rattle.part_read.specs.Drawings.{spots_among, enough, corners_in, corners_of, width_of, fill_of, line_drawing, rect_drawing, circle_drawing, outline_drawing, drawing_of}
 use Rattle.part_read.specs.Grounds.{IsOn}
 use Rattle.part_read.specs.PlainItems.{plain_item}
 use Rattle.part_read.specs.Ready.{IsReady}
 use Rattle.part_read.specs.Graphics.{copper_graphic, edge_graphic, note_of, graphic_by, text_by}
+use Rattle.part_read.proofs.There.{map_some, both_some}
 use Rattle.part_read.proofs.Layering.{none_within}
 use Rattle.part_read.proofs.Reach.{both_ok}
 
@@ -52,9 +53,6 @@ needed_ok e (Some y) x h = let s : y ≡ x = cc in ap (λ (z : _). Some z) s
 
 same_ok : {A : Type 0} {x y : A} → (let r : Result A BoardError = Ok x in r) ≡ Ok y → x ≡ y
 same_ok h = cc
-
-same_some : {A : Type 0} {x y : A} → Some x ≡ Some y → x ≡ y
-same_some h = cc
 
 -- ---- outlines have a first spot
 
@@ -125,45 +123,20 @@ tested_holds : {A : Type 0} (test : Bool) (make : test ≡ true → A) (x : A) �
 tested_holds true make x h = refl
 tested_holds false make x h = absurd cc
 
-with_first : (p : Option Point) (ps : Option (List Point)) (all : List Point) → with_point p ps ≡ Some all → (q : Point) × (p ≡ Some q)
-with_first None ps all h = absurd cc
-with_first (Some p) None all h = absurd cc
-with_first (Some p) (Some ps) all h = (p, refl)
-
 point_near : (stance : Stance) (s : Spot) (p : Point) → point_stood stance s ≡ Some p → fits_board (stood stance s) ≡ true
 point_near stance s p h = tested_holds (fits_board (stood stance s)) (point_at (stood stance s)) p h
 
-between_first : (f : Point → Point → List Core) (p q : Option Point) (cores : List Core) → cores_between f p q ≡ Some cores → (a : Point) × (p ≡ Some a)
-between_first f None q cores h = absurd cc
-between_first f (Some p) None cores h = absurd cc
-between_first f (Some p) (Some q) cores h = (p, refl)
-
-around_first : (filled : Bool) (ps : Option (List Point)) (cores : List Core) → cores_around filled ps ≡ Some cores → (all : List Point) × (ps ≡ Some all)
-around_first filled None cores h = absurd cc
-around_first filled (Some ps) cores h = (ps, refl)
-
 spots_near : (stance : Stance) (spots : List Spot) (ps : List Point) → 1 ≤ length spots → points_stood stance spots ≡ Some ps → fits_board (stood stance (first_of spots)) ≡ true
 spots_near stance [] ps n h = absurd (omega (arith, n))
-spots_near stance (s ∷ ss) ps n h = let found = with_first _ _ ps h in point_near stance s found.0 found.1
+spots_near stance (s ∷ ss) ps n h = let found = both_some _ _ _ ps h in point_near stance s found.0 found.2
 
 figure_near : (stance : Stance) (filled : Bool) (figure : Figure) (cores : List Core) → IsStarted figure → cores_of stance filled figure ≡ Some cores → fits_board (stood stance (first_spot figure)) ≡ true
-figure_near stance filled (Line a b) cores s h = let found = between_first _ _ _ cores h in point_near stance a found.0 found.1
-figure_near stance filled (Rect a b) cores s h = let found = between_first _ _ _ cores h in point_near stance a found.0 found.1
-figure_near stance filled (Circle c r) cores s h = let found = between_first _ _ _ cores h in point_near stance c found.0 found.1
-figure_near stance filled (Outline spots) cores s h = let found = around_first filled _ cores h in spots_near stance spots found.0 s found.1
+figure_near stance filled (Line a b) cores s h = let found = both_some _ _ _ cores h in point_near stance a found.0 found.2
+figure_near stance filled (Rect a b) cores s h = let found = both_some _ _ _ cores h in point_near stance a found.0 found.2
+figure_near stance filled (Circle c r) cores s h = let found = both_some _ _ _ cores h in point_near stance c found.0 found.2
+figure_near stance filled (Outline spots) cores s h = let found = map_some _ _ cores h in spots_near stance spots found.0 s found.1
 
 -- ---- parts
-
-record IsMade (layers : LayerSet) (r : Option Radius) (co : Option (List Core)) (ps : List Part) : Type 0 where
-  radius : Radius
-  cores : List Core
-  of_cores : co ≡ Some cores
-  made : ps ≡ map (λ core. record { layers = layers; shape = around radius core }) cores
-
-made_by : (layers : LayerSet) (r : Option Radius) (co : Option (List Core)) (ps : List Part) → parts_around layers r co ≡ Some ps → IsMade layers r co ps
-made_by layers None co ps h = absurd cc
-made_by layers (Some r) None ps h = absurd cc
-made_by layers (Some r) (Some cores) ps h = record { radius = r; cores = cores; of_cores = refl; made = sym (same_some h) }
 
 both : (a b : Bool) → a ≡ true → b ≡ true → a && b ≡ true
 both true true h k = refl
@@ -178,11 +151,11 @@ all_within layers copper r (c ∷ cs) h = both _ _ h (all_within layers copper r
 drawn_within : (layers copper : LayerSet) (stance : Stance) (d : Drawing) (ps : List Part) → drawn layers stance d ≡ Some ps → is_within layers copper ≡ true
     → list_all (λ part. is_within part.layers copper) ps ≡ true
 drawn_within layers copper stance d ps h k =
-    let m = made_by layers _ _ ps h in
-    subst (λ (qs : List Part). list_all (λ part. is_within part.layers copper) qs ≡ true) (sym m.made) (all_within layers copper m.radius m.cores k)
+    let m = both_some _ _ _ ps h in
+    subst (λ (qs : List Part). list_all (λ part. is_within part.layers copper) qs ≡ true) (sym m.4) (all_within layers copper m.0 m.1 k)
 
 drawn_near : (layers : LayerSet) (stance : Stance) (d : Drawing) (ps : List Part) → IsStarted d.figure → drawn layers stance d ≡ Some ps → fits_board (stood stance (first_spot d.figure)) ≡ true
-drawn_near layers stance d ps s h = let m = made_by layers _ _ ps h in figure_near stance d.filled d.figure m.cores s m.of_cores
+drawn_near layers stance d ps s h = let m = both_some _ _ _ ps h in figure_near stance d.filled d.figure m.1 s m.3
 
 -- ---- nets
 
@@ -197,7 +170,7 @@ net_in_list board list n k =
     let b = both_ok (number_in a.0) _ n a.1.1 in
     declared_by (is_some (name_of board b.0)) b.0 n _ board refl b.1.1
 
-net_by : (board : PlainBoard) (n : ℕ) (found : Option Tree) → is_some (name_of board 0) ≡ true → net_among board found ≡ Ok n → is_some (name_of board n) ≡ true
+net_by : (board : PlainBoard) (n : ℕ) (found : Option Tree) → is_some (name_of board 0) ≡ true → given_or 0 (declared_in board) found ≡ Ok n → is_some (name_of board n) ≡ true
 net_by board n None z k = let same : 0 ≡ n = same_ok k in subst (λ (x : ℕ). is_some (name_of board x) ≡ true) same z
 net_by board n (Some list) z k = net_in_list board list n k
 

@@ -1,4 +1,5 @@
 pub mod Shapes
+pub mod There
 pub mod LayerNames
 pub mod Layering
 pub mod Listing

@@ -1,6 +1,7 @@
 -- What graphics draw, read from their lists: (HEAD (start X Y) (end X Y) (stroke (width W)) (fill F) ..) and its kin. The elements
 -- are looked at in the order in which they stand here.
-use Rattle.std.specs.Prelude.{nat_le, length, ℤ, pos, Bool, true, false, ◌&&◌, ◌||◌, not, List, [], ◌∷◌, codes, Option, None, Some, Result, Ok, Err, if◌then◌else◌}
+use Rattle.std.specs.Prelude.{nat_le, length, ℤ, pos, Bool, true, false, ◌&&◌, ◌||◌, not, List, [], ◌∷◌, codes, Option, option_and_then, Result, Ok, Err, if◌then◌else◌}
+use Rattle.std.specs.Option.{option_or}
 use Rattle.sexpr_read.specs.Tree.{Tree, parts}
 use Rattle.board_errors.specs.declared.errors.BoardError.{BoardError}
 use Rattle.board_errors.specs.declared.errors.BoardError.TheVariants.{Missing, Arc}
@@ -12,7 +13,7 @@ use Rattle.part_read.specs.declared.drawings.Kind.TheVariants.{Line as LineKind,
 use Rattle.list_read.specs.Answers.{◌>>=◌, check}
 use Rattle.list_read.specs.Heads.{place, is_text, has_head}
 use Rattle.list_read.specs.Elements.{element}
-use Rattle.part_read.specs.Elements.{atom_of, in_needed}
+use Rattle.part_read.specs.Elements.{in_needed, given_or, atom_of}
 use Rattle.part_read.specs.Numbers.{spot_at, spot_of, size_at}
 use Rattle.part_read.specs.Circles.{radius_between}
 
@@ -43,21 +44,13 @@ corners_of tree = in_needed corners_in tree (element (codes "pts") tree)
 
 -- ---- width and fill
 
-abbrev pub stroke_width : Option Tree → Option Tree
-stroke_width None = None
-stroke_width (Some stroke) = element (codes "width") stroke
-
-abbrev pub first_there : Option Tree → Option Tree → Option Tree
-first_there None second = second
-first_there (Some tree) second = Some tree
-
-abbrev pub width_among : Option Tree → Result ℤ BoardError
-width_among None = Ok (pos 0)
-width_among (Some list) = size_at list
+-- the list of the width: that in a stroke, else that beside it
+abbrev pub width_list : Tree → Option Tree
+width_list tree = option_or (option_and_then (element (codes "width")) (element (codes "stroke") tree)) (element (codes "width") tree)
 
 -- the width in (stroke (width W) ..), else that in (width W), else 0
 unfoldable pub width_of : Tree → Result ℤ BoardError
-width_of tree = width_among (first_there (stroke_width (element (codes "stroke") tree)) (element (codes "width") tree))
+width_of tree = given_or (pos 0) size_at (width_list tree)
 
 -- what the word says, if it is one of the four
 abbrev pub filled_by : Bool → Tree → Bool
@@ -66,13 +59,9 @@ filled_by otherwise atom =
     else if is_text atom (codes "none") || is_text atom (codes "no") then false
     else otherwise
 
-abbrev pub fill_among : Bool → Option Tree → Result Bool BoardError
-fill_among otherwise None = Ok otherwise
-fill_among otherwise (Some list) = atom_of 1 list >>= λ atom. Ok (filled_by otherwise atom)
-
 -- whether (fill WORD) says that it is filled
 unfoldable pub fill_of : Bool → Tree → Result Bool BoardError
-fill_of otherwise tree = fill_among otherwise (element (codes "fill") tree)
+fill_of otherwise tree = given_or otherwise (λ list. atom_of 1 list >>= λ atom. Ok (filled_by otherwise atom)) (element (codes "fill") tree)
 
 -- ---- drawings; where `fill` is missing, an outline is filled and the others are not
 

@@ -12,9 +12,12 @@ abbrev pub in_needed : {A : Type 0} → (Tree → Result A BoardError) → Tree 
 in_needed read tree found = needed (Missing (place tree)) found >>= read
 
 -- what is read in an element that may be missing
+abbrev pub given_or : {A : Type 0} → A → (Tree → Result A BoardError) → Option Tree → Result A BoardError
+given_or otherwise read None = Ok otherwise
+given_or otherwise read (Some list) = read list
+
 abbrev pub in_given : {A : Type 0} → (Tree → Result A BoardError) → Option Tree → Result (Option A) BoardError
-in_given read None = Ok None
-in_given read (Some list) = read list >>= λ x. Ok (Some x)
+in_given read found = given_or None (λ list. read list >>= λ x. Ok (Some x)) found
 
 -- ---- atoms
 
@@ -25,6 +28,10 @@ atom_among e (Some t) = if is_list t then Err e else Ok t
 -- the atom at a place of the list, where the head stands at 0; a list there counts as missing
 unfoldable pub atom_of : ℕ → Tree → Result Tree BoardError
 atom_of k tree = atom_among (Missing (place tree)) (slice_get (parts tree) k)
+
+-- what is read of an atom that may be missing; a list there counts as missing
+abbrev pub atom_or : {A : Type 0} → A → (Tree → Result A BoardError) → Option Tree → Result A BoardError
+atom_or otherwise read found = given_or otherwise (λ t. if is_list t then Ok otherwise else read t) found
 
 -- ---- names
 

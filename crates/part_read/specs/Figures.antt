@@ -1,6 +1,6 @@
 -- Figures: what graphics draw, as plain numbers, and the parts of copper, the lines of an edge or the courtyards that they give
 -- where they lie on a board. Shapes count half nanometres, so half of a width is the width itself.
-use Rattle.std.specs.Prelude.{◌≡◌, ◌≤◌, ℤ, pos, ◌+ℤ◌, ◌*ℤ◌, ◌≤ℤ◌, Bool, true, false, ◌||◌, List, [], ◌∷◌, ◌++◌, map, Option, None, Some, ⊤, refl, if◌then◌else◌}
+use Rattle.std.specs.Prelude.{◌≡◌, ◌≤◌, ℤ, pos, ◌+ℤ◌, ◌*ℤ◌, ◌≤ℤ◌, Bool, true, false, ◌||◌, List, [], ◌∷◌, map, Option, option_map, None, ⊤, refl, if◌then◌else◌}
 use Rattle.std.specs.Ordering.{int_eq}
 use Rattle.int_algebra.proofs.Tested.{le_by_test}
 use Rattle.geo_seg.specs.declared.points.Point.{Point}
@@ -18,6 +18,7 @@ use Rattle.part_read.specs.declared.figures.Figure.TheVariants.{Line, Rect, Circ
 use Rattle.part_read.specs.declared.figures.Drawing.{Drawing}
 use Rattle.part_read.specs.declared.radii.Radius.{Radius}
 use Rattle.plain_types.proofs.LengthTests.{length_in_range}
+use Rattle.part_read.specs.There.{both}
 use Rattle.part_read.specs.OnBoard.{tested}
 use Rattle.part_read.specs.Stances.{IsWithin, point_stood, points_stood}
 
@@ -47,26 +48,20 @@ line_cores lines = map (λ line. LineCore line) lines
 
 -- ---- the cores of a figure, if it lies on the board: what is not filled is one line for each side
 
-abbrev pub cores_between : (Point → Point → List Core) → Option Point → Option Point → Option (List Core)
-cores_between cores None q = None
-cores_between cores (Some p) None = None
-cores_between cores (Some p) (Some q) = Some (cores p q)
-
 abbrev pub line_between : Point → Point → List Core
 line_between p q = LineCore (record { a = p; b = q }) ∷ []
 
 abbrev pub box_between : Bool → Point → Point → List Core
 box_between filled p q = if filled then box_core p q ∷ [] else line_cores (sides (box_corners p q))
 
-abbrev pub cores_around : Bool → Option (List Point) → Option (List Core)
-cores_around filled None = None
-cores_around filled (Some ps) = Some (if filled then Area ps ∷ [] else line_cores (sides ps))
+abbrev pub cores_around : Bool → List Point → List Core
+cores_around filled ps = if filled then Area ps ∷ [] else line_cores (sides ps)
 
 abbrev pub cores_of : Stance → Bool → Figure → Option (List Core)
-cores_of stance filled (Line a b) = cores_between line_between (point_stood stance a) (point_stood stance b)
-cores_of stance filled (Rect a b) = cores_between (box_between filled) (point_stood stance a) (point_stood stance b)
-cores_of stance filled (Circle c r) = cores_between line_between (point_stood stance c) (point_stood stance c)
-cores_of stance filled (Outline spots) = cores_around filled (points_stood stance spots)
+cores_of stance filled (Line a b) = both line_between (point_stood stance a) (point_stood stance b)
+cores_of stance filled (Rect a b) = both (box_between filled) (point_stood stance a) (point_stood stance b)
+cores_of stance filled (Circle c r) = both line_between (point_stood stance c) (point_stood stance c)
+cores_of stance filled (Outline spots) = option_map (cores_around filled) (points_stood stance spots)
 
 -- ---- with half of a width around them
 
@@ -89,10 +84,8 @@ no_radius = record { value = pos 0; from = zero_from; to = zero_to }
 abbrev pub around : Radius → Core → Shape
 around r core = record { core = core; radius = r.value; radius_from = r.from; radius_to = r.to }
 
-abbrev pub parts_around : LayerSet → Option Radius → Option (List Core) → Option (List Part)
-parts_around layers None cores = None
-parts_around layers (Some r) None = None
-parts_around layers (Some r) (Some cores) = Some (map (λ core. record { layers = layers; shape = around r core }) cores)
+abbrev pub parts_around : LayerSet → Radius → List Core → List Part
+parts_around layers r cores = map (λ core. record { layers = layers; shape = around r core }) cores
 
 -- the radius in half nanometres: half of the width, and that of a circle's disc beside it
 abbrev pub radius_with : ℤ → Figure → ℤ
@@ -101,12 +94,7 @@ radius_with w figure = w
 
 -- the parts that a drawing gives, unless it leaves the board or its width, or the diameter of its disc, is above 500 mm
 abbrev pub drawn : LayerSet → Stance → Drawing → Option (List Part)
-drawn layers stance d = parts_around layers (radius_of (radius_with d.width d.figure)) (cores_of stance d.filled d.figure)
-
--- the list with these at its end, if they are there
-abbrev pub added : List Part → Option (List Part) → Option (List Part)
-added old None = None
-added old (Some parts) = Some (old ++ parts)
+drawn layers stance d = both (parts_around layers) (radius_of (radius_with d.width d.figure)) (cores_of stance d.filled d.figure)
 
 -- on Edge.Cuts the lines alone count, though the width must be one
 abbrev pub drawn_edge : Stance → Drawing → Option (List Part)

@@ -1,3 +1,4 @@
+pub mod There
 pub mod Elements
 pub mod Numbers
 pub mod LayersWhere

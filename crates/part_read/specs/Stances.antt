@@ -1,10 +1,11 @@
 -- How the parts of a footprint and of a custom pad stand on a board. Spots are plain numbers in nanometres, on the board or off it;
 -- they are turned and moved first, and tested for the board last.
-use Rattle.std.specs.Prelude.{ℕ, ℤ, ◌+ℤ◌, ◌≤◌, unsigned_abs, List, [], ◌∷◌, Option, None, Some}
+use Rattle.std.specs.Prelude.{ℕ, ℤ, ◌+ℤ◌, ◌≤◌, unsigned_abs, List, map, Option}
 use Rattle.geo_seg.specs.declared.points.Point.{Point}
 use Rattle.board_items.specs.Turns.{turned}
 use Rattle.part_read.specs.declared.numbers.Spot.{Spot}
 use Rattle.part_read.specs.declared.stances.Stance.{Stance}
+use Rattle.part_read.specs.There.{all_there}
 use Rattle.part_read.specs.OnBoard.{tested, fits_board, point_at}
 
 -- no number of the spot is further from 0
@@ -23,12 +24,6 @@ stood stance s = let t = turned_spot stance.quarter s in record { x = stance.at.
 abbrev pub point_stood : Stance → Spot → Option Point
 point_stood stance s = let t = stood stance s in tested (fits_board t) (point_at t)
 
-abbrev pub with_point : Option Point → Option (List Point) → Option (List Point)
-with_point None ps = None
-with_point (Some p) None = None
-with_point (Some p) (Some ps) = Some (p ∷ ps)
-
 -- the points of all spots, if they all lie on the board
 abbrev pub points_stood : Stance → List Spot → Option (List Point)
-points_stood stance [] = Some []
-points_stood stance (s ∷ ss) = with_point (point_stood stance s) (points_stood stance ss)
+points_stood stance spots = all_there (map (point_stood stance) spots)

@@ -1,16 +1,16 @@
 //! What graphics draw, read from their lists.
 
-ghost use Rattle.std.specs.Prelude.{◌≡◌, ◌≤◌, ◌≤ℤ◌, pos, option_map, ◌++◌, ◌∷◌, [], IfOk, OnOk, All};
+ghost use Rattle.std.specs.Prelude.{◌≡◌, ◌≤◌, ◌≤ℤ◌, pos, codes, option_map, option_and_then, ◌++◌, ◌∷◌, [], IfOk, OnOk, All};
 ghost use Rattle.sexpr_read.specs.Views.{tree_of};
 ghost use Rattle.list_read.specs.Elements.{element};
-ghost use Rattle.part_read.specs.Elements.{in_needed};
+ghost use Rattle.part_read.specs.Elements.{in_needed, given_or};
 ghost use Rattle.part_read.specs.Numbers.{spot_at, size_at};
 ghost use Rattle.part_read.specs.Nodes.{Gives};
 ghost use Rattle.part_read.specs.Lists.{GivesItems};
 ghost use Rattle.sexpr_read.specs.Tree.{parts};
 ghost use Rattle.part_read.specs.Stances.{IsWithin};
 ghost use Rattle.part_read.specs.Figures.{IsDrawable};
-ghost use Rattle.part_read.specs.Drawings.{spots_among, corners_in, corners_of, stroke_width, width_among, width_of, filled_by, fill_of, line_drawing, rect_drawing, circle_drawing, outline_drawing, drawing_of};
+ghost use Rattle.part_read.specs.Drawings.{spots_among, corners_in, corners_of, width_of, filled_by, fill_of, line_drawing, rect_drawing, circle_drawing, outline_drawing, drawing_of};
 
 use crate::atoms::{first_atom, missing};
 use crate::circles::radius_between;
@@ -101,7 +101,7 @@ pub fn corners_of(alloc: Global, node: Node<'_, '_>) -> Result<Corners, BoardErr
 
 /// The list of the width in that of a stroke.
 fn stroke_width<'d, 't>(stroke: Option<Node<'d, 't>>) -> Option<Node<'d, 't>>
-    ensures { option_map tree_of result ≡ stroke_width (option_map tree_of stroke.entry) }
+    ensures { option_map tree_of result ≡ option_and_then (element (codes "width")) (option_map tree_of stroke.entry) }
 {
     match stroke {
         None => None,
@@ -111,7 +111,7 @@ fn stroke_width<'d, 't>(stroke: Option<Node<'d, 't>>) -> Option<Node<'d, 't>>
 
 /// A size that is 0 where its list is missing.
 fn width_among(found: Option<Node<'_, '_>>) -> Result<Nm, BoardError>
-    ensures width { result ≡ width_among (option_map tree_of found.entry) }
+    ensures width { result ≡ given_or (pos 0) size_at (option_map tree_of found.entry) }
     ensures from { IfOk result (λ width. pos 0 ≤ℤ width) }
     ensures to { IfOk result (λ width. width ≤ℤ pos 1000000000000) }
 {

@@ -2,10 +2,11 @@
 
 ghost use Rattle.std.specs.Prelude.{◌≡◌, ◌<◌, ◌≤◌, pos, ◌∷◌, ◌++◌, [], true, OnOk, Some, None, if◌then◌else◌, length, option_map, IfOk};
 ghost use Rattle.plain_types.specs.Lengths.{is_length};
+ghost use Rattle.part_read.specs.There.{both, after};
 ghost use Rattle.part_read.specs.Stances.{IsWithin};
 ghost use Rattle.part_read.specs.declared.figures.Figure.{Figure};
 ghost use Rattle.part_read.specs.declared.figures.Drawing.{Drawing};
-ghost use Rattle.part_read.specs.Figures.{sides, box_corners, box_core, line_cores, cores_between, line_between, box_between, cores_around, cores_of, around, parts_around, radius_with, added, drawn, drawn_edge, first_spot, is_ring, is_circle, HasReach, IsDrawable};
+ghost use Rattle.part_read.specs.Figures.{sides, box_corners, box_core, line_cores, line_between, box_between, cores_around, cores_of, parts_around, radius_with, drawn, drawn_edge, first_spot, is_ring, is_circle, HasReach, IsDrawable};
 
 use crate::corners::Corners;
 use crate::numbers::Spot;
@@ -83,7 +84,7 @@ fn line_between(
     p: Option<Point>,
     q: Option<Point>,
 ) -> Result<Option<Vec<Core>>, AllocError>
-    ensures { IfOk result (λ cores. option_map (λ found. found.items) cores ≡ cores_between line_between p q) }
+    ensures { IfOk result (λ cores. option_map (λ found. found.items) cores ≡ both line_between p q) }
 {
     let Some(a) = p else {
         return Ok(None);
@@ -100,7 +101,7 @@ fn box_between(
     p: Option<Point>,
     q: Option<Point>,
 ) -> Result<Option<Vec<Core>>, AllocError>
-    ensures { IfOk result (λ cores. option_map (λ found. found.items) cores ≡ cores_between (box_between filled) p q) }
+    ensures { IfOk result (λ cores. option_map (λ found. found.items) cores ≡ both (box_between filled) p q) }
 {
     let Some(a) = p else {
         return Ok(None);
@@ -117,7 +118,7 @@ fn box_between(
 
 fn cores_around(alloc: Global, filled: bool, points: Vec<Point>) -> Result<Vec<Core>, AllocError>
     requires { 3 ≤ length points.items }
-    ensures { IfOk result (λ cores. Some cores.items ≡ cores_around filled (Some points.items)) }
+    ensures { IfOk result (λ cores. cores.items ≡ cores_around filled points.items) }
 {
     if filled {
         return one(alloc, Core::Area(Poly::indexed(alloc, points)?));
@@ -178,7 +179,7 @@ fn push_around(
     cores: Vec<Core>,
     list: &mut SmallVec<Part, 2>,
 ) -> Result<(), AllocError>
-    ensures { OnOk result (added list.old.items (parts_around layers (Some radius) (Some cores.items)) ≡ Some list.new.items) }
+    ensures { OnOk result (list.new.items ≡ list.old.items ++ parts_around layers radius cores.items) }
 {
     for core in cores {
         push_part(list, layers, around(radius, core))?;
@@ -209,7 +210,7 @@ pub fn draw_into(
     requires quarter { stance.quarter < 4 }
     requires at { IsWithin 3000000000000 stance.at }
     requires drawable { IsDrawable drawing.now }
-    ensures { IfOk result (λ drew. added list.old.items (drawn layers stance drawing.now) ≡ (if drew then Some list.new.items else None)) }
+    ensures { IfOk result (λ drew. after list.old.items (drawn layers stance drawing.now) ≡ (if drew then Some list.new.items else None)) }
 {
     let Some(radius) = radius_of(radius_with(drawing)) else {
         return Ok(false);
@@ -223,7 +224,7 @@ pub fn draw_into(
 
 /// The parts that a drawing gives on these layers, unless it leaves the board or its width, or the diameter of its disc,
 /// is above 500 mm.
-#[tactic(auto, using(crate::proofs::Gathering::added_to_none))]
+#[tactic(auto, using(crate::proofs::Gathering::after_none))]
 pub fn draw(
     alloc: Global,
     layers: LayerSet,

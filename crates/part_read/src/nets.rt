@@ -3,7 +3,8 @@
 ghost use Rattle.std.specs.Prelude.{◌≡◌, true, is_some, IfOk, option_map};
 ghost use Rattle.board_items.specs.Boards.{name_of};
 ghost use Rattle.sexpr_read.specs.Views.{tree_of};
-ghost use Rattle.part_read.specs.NetsOf.{declared_in, net_among};
+ghost use Rattle.part_read.specs.Elements.{given_or};
+ghost use Rattle.part_read.specs.NetsOf.{declared_in};
 
 use crate::atoms::first_atom;
 use crate::numbers::number_in;
@@ -27,7 +28,7 @@ pub fn declared_in(board: &Board, list: Node<'_, '_>) -> Result<u32, BoardError>
 
 /// The net of an item by its element, or 0, which is none.
 pub fn net_of(board: &Board, found: Option<Node<'_, '_>>) -> Result<u32, BoardError>
-    ensures net { result ≡ net_among board.now (option_map tree_of found.entry) }
+    ensures net { result ≡ given_or 0 (declared_in board.now) (option_map tree_of found.entry) }
     ensures declared { is_some (name_of board.now 0) ≡ true → IfOk result (λ net. is_some (name_of board.now net) ≡ true) }
 {
     match found {

@@ -1,5 +1,5 @@
 -- A refusal of what is read stands in the text: graphics, zones, tracks and vias.
-use Rattle.std.proofs.Common.{ℕ, suc, not, List, [], ◌∷◌, codes, Option, None, Some, Result}
+use Rattle.std.proofs.Common.{ℕ, suc, false, not, List, [], ◌∷◌, codes, Option, None, Some, Result}
 use Rattle.sexpr_read.specs.Tree.{Tree, parts}
 use Rattle.board_errors.specs.declared.errors.BoardError.{BoardError}
 use Rattle.board_errors.specs.declared.errors.BoardError.TheVariants.{Missing, OutOfBoard, Ring, ThickFill, TooMany}
@@ -23,10 +23,10 @@ use Rattle.part_read.specs.NetsOf.{net_of}
 use Rattle.part_read.specs.Figures.{drawn, drawn_edge, is_ring, is_circle}
 use Rattle.part_read.specs.Drawings.{corners_of, drawing_of}
 use Rattle.part_read.specs.Graphics.{ground_among, ground_of, copper_graphic, edge_graphic, one_item, graphic_by, curve_by, text_by}
-use Rattle.zone_read.specs.ZoneOf.{layers_among, zone_layers, title_among, title_of, area_of, has_room_after, ban_among, ban_of, bans_in, polygon_of, area_in_room, rule_area, is_thin, fill_layer, fill_on, fill_in_room, with_fill, fills_after, zone_by, zone_of}
+use Rattle.zone_read.specs.ZoneOf.{layers_among, zone_layers, title_of, area_of, has_room_after, ban_of, bans_in, polygon_of, area_in_room, rule_area, is_thin, fill_layer, fill_on, fill_in_room, with_fill, fills_after, zone_by, zone_of}
 use Rattle.pcb_read.specs.Tracks.{track_of, via_of}
 use Rattle.pcb_read.specs.Short.{IsShort, AllShort}
-use Rattle.pcb_read.proofs.Nearness.{Near, ShortIf, step, with_tree, by_test, near_needed, needed_short, near_check, near_place, parts_short, near_element, of_atom, in_one, in_some, near_spot_of, near_size_at, near_size_of, near_layer, near_layer_of, near_through, near_named, near_layers, near_drawn_on, near_net, near_corners, near_drawing}
+use Rattle.pcb_read.proofs.Nearness.{Near, ShortIf, step, with_tree, by_test, near_needed, needed_short, near_check, near_place, parts_short, near_element, of_atom, in_one, of_element, in_some, near_spot_of, near_size_at, near_size_of, near_layer, near_layer_of, near_through, near_named, near_layers, near_drawn_on, near_net, near_corners, near_drawing}
 
 -- ---- graphics
 
@@ -89,20 +89,12 @@ unfolding zone_layers
 near_zone_layers copper t h =
     near_zone_layers_among copper t (element (codes "layer") t) (element (codes "layers") t) h (near_element (codes "layer") t h) (near_element (codes "layers") t h)
 
-near_title_among : (o : Option Tree) → ShortIf o → Near (title_among o)
-near_title_among None h = tt
-near_title_among (Some t) h = of_atom 1 t _ h (λ a s. tt)
-
 near_title : (t : Tree) → IsShort t → Near (title_of t)
 unfolding title_of
-near_title t h = near_title_among (element (codes "name") t) (near_element (codes "name") t h)
-
-near_ban_among : (o : Option Tree) → ShortIf o → Near (ban_among o)
-near_ban_among None h = tt
-near_ban_among (Some t) h = of_atom 1 t _ h (λ a s. tt)
+near_title t h = of_element (codes "name") [] _ t h (λ s k. of_atom 1 s _ k (λ a u. tt))
 
 near_ban : (head : List ℕ) (t : Tree) → IsShort t → Near (ban_of head t)
-near_ban head t h = near_ban_among (element head t) (near_element head t h)
+near_ban head t h = of_element head false _ t h (λ s k. of_atom 1 s _ k (λ a u. tt))
 
 near_bans : (t : Tree) → IsShort t → Near (bans_in t)
 unfolding bans_in

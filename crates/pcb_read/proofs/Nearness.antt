@@ -1,5 +1,6 @@
 -- A refusal of what is read stands in the text: what is read of elements, numbers, layers, nets and drawings.
-use Rattle.std.proofs.Common.{◌≡◌, sym, subst, ◌≤◌, ℕ, zero, suc, pos, Bool, true, false, ◌||◌, ◌&&◌, not, List, [], ◌∷◌, length, find, cond, codes, Option, None, Some, Result, Ok, Err, is_some}
+use Rattle.std.proofs.Common.{◌≡◌, sym, subst, ◌≤◌, ℕ, zero, suc, pos, Bool, true, false, ◌||◌, ◌&&◌, not, List, [], ◌∷◌, length, find, cond, codes, Option, None, Some, option_and_then, Result, Ok, Err, is_some}
+use Rattle.std.specs.Option.{option_or}
 use Rattle.std.specs.Prelude.{slice_get, int_le, nat_le, if◌then◌else◌}
 use Rattle.exact_dec.specs.declared.DecError.{DecError}
 use Rattle.exact_dec.specs.Computed.{mm_cut_answer, count_answer}
@@ -16,11 +17,11 @@ use Rattle.part_read.specs.declared.drawings.Kind.TheVariants.{Line, Rect, Circl
 use Rattle.list_read.specs.Answers.{◌>>=◌, needed, check}
 use Rattle.list_read.specs.Heads.{place, has_head}
 use Rattle.list_read.specs.Elements.{element}
-use Rattle.part_read.specs.Elements.{in_needed, in_given, atom_among, atom_of}
+use Rattle.part_read.specs.Elements.{in_needed, given_or, in_given, atom_among, atom_of}
 use Rattle.part_read.specs.Numbers.{read_as, length_in, size_in, number_in, spot_at, spot_of, size_at, size_of}
 use Rattle.part_read.specs.LayersOf.{each_set, layer_number, ends_in_cu, layer_by, layer_in, copper_by, copper_in, layer_at, layer_of, layers_through, is_all_copper, is_outer, named, layers_named, drawn_on}
-use Rattle.part_read.specs.NetsOf.{declared_in, net_among, net_of}
-use Rattle.part_read.specs.Drawings.{spots_among, enough, corners_in, corners_of, stroke_width, first_there, width_among, width_of, fill_among, fill_of, line_drawing, rect_drawing, circle_drawing, outline_drawing, drawing_of}
+use Rattle.part_read.specs.NetsOf.{declared_in, net_of}
+use Rattle.part_read.specs.Drawings.{spots_among, enough, corners_in, corners_of, width_list, width_of, fill_of, line_drawing, rect_drawing, circle_drawing, outline_drawing, drawing_of}
 use Rattle.pcb_read.specs.Near.{IsNear}
 use Rattle.pcb_read.specs.Short.{AreShort, IsShort, AllShort}
 
@@ -118,9 +119,16 @@ pub in_one : {A : Type 0} → (read : Tree → Result A BoardError) (t : Tree) (
 in_one read t None h k f = near_place t h
 in_one read t (Some s) h k f = f s k
 
+pub in_or : {A : Type 0} → (otherwise : A) (read : Tree → Result A BoardError) (found : Option Tree) → ShortIf found → ((s : Tree) → IsShort s → Near (read s)) → Near (given_or otherwise read found)
+in_or otherwise read None k f = tt
+in_or otherwise read (Some s) k f = f s k
+
+-- what is read in the element of the list
+pub of_element : {A : Type 0} → (head : List ℕ) (otherwise : A) (read : Tree → Result A BoardError) (t : Tree) → IsShort t → ((s : Tree) → IsShort s → Near (read s)) → Near (given_or otherwise read (element head t))
+of_element head otherwise read t h f = in_or otherwise read (element head t) (near_element head t h) f
+
 pub in_some : {A : Type 0} → (read : Tree → Result A BoardError) (found : Option Tree) → ShortIf found → ((s : Tree) → IsShort s → Near (read s)) → Near (in_given read found)
-in_some read None k f = tt
-in_some read (Some s) k f = step (read s) _ (f s k) (λ x. tt)
+in_some read found k f = in_or None _ found k (λ s h. step (read s) _ (f s h) (λ x. tt))
 
 -- ---- numbers
 
@@ -209,12 +217,8 @@ unfolding declared_in
 near_declared board t h =
     of_atom 1 t _ h (λ a s. step (number_in a) _ (near_number a s) (λ n. by_test (is_some (name_of board n)) (Ok n) (Err (UnknownNet (place a))) tt (near_place a s)))
 
-near_net_among : (board : PlainBoard) (o : Option Tree) → ShortIf o → Near (net_among board o)
-near_net_among board None h = tt
-near_net_among board (Some t) h = near_declared board t h
-
 pub near_net : (board : PlainBoard) (t : Tree) → IsShort t → Near (net_of board t)
-near_net board t h = near_net_among board (element (codes "net") t) (near_element (codes "net") t h)
+near_net board t h = of_element (codes "net") 0 (declared_in board) t h (near_declared board)
 
 -- ---- drawings
 
@@ -235,31 +239,24 @@ near_corners_in t h = step (spots_among false (parts t)) (enough t) (near_spots 
 pub near_corners : (t : Tree) → IsShort t → Near (corners_of t)
 near_corners t h = in_one corners_in t (element (codes "pts") t) h (near_element (codes "pts") t h) near_corners_in
 
-stroke_short : (o : Option Tree) → ShortIf o → ShortIf (stroke_width o)
-stroke_short None h = tt
-stroke_short (Some t) h = near_element (codes "width") t h
+-- the element of an element
+pub inner_short : (head : List ℕ) (o : Option Tree) → ShortIf o → ShortIf (option_and_then (element head) o)
+inner_short head None h = tt
+inner_short head (Some t) h = near_element head t h
 
-first_short : (a b : Option Tree) → ShortIf a → ShortIf b → ShortIf (first_there a b)
+first_short : (a b : Option Tree) → ShortIf a → ShortIf b → ShortIf (option_or a b)
 first_short None b h k = k
 first_short (Some t) b h k = h
-
-near_width_among : (o : Option Tree) → ShortIf o → Near (width_among o)
-near_width_among None h = tt
-near_width_among (Some t) h = near_size_at t h
 
 pub near_width : (t : Tree) → IsShort t → Near (width_of t)
 unfolding width_of
 near_width t h =
-    near_width_among (first_there (stroke_width (element (codes "stroke") t)) (element (codes "width") t))
-    (first_short (stroke_width (element (codes "stroke") t)) (element (codes "width") t) (stroke_short (element (codes "stroke") t) (near_element (codes "stroke") t h)) (near_element (codes "width") t h))
-
-near_fill_among : (otherwise : Bool) (o : Option Tree) → ShortIf o → Near (fill_among otherwise o)
-near_fill_among otherwise None h = tt
-near_fill_among otherwise (Some t) h = of_atom 1 t _ h (λ a s. tt)
+    in_or (pos 0) size_at (width_list t)
+    (first_short _ (element (codes "width") t) (inner_short (codes "width") (element (codes "stroke") t) (near_element (codes "stroke") t h)) (near_element (codes "width") t h)) near_size_at
 
 pub near_fill : (otherwise : Bool) (t : Tree) → IsShort t → Near (fill_of otherwise t)
 unfolding fill_of
-near_fill otherwise t h = near_fill_among otherwise (element (codes "fill") t) (near_element (codes "fill") t h)
+near_fill otherwise t h = of_element (codes "fill") otherwise _ t h (λ s k. of_atom 1 s _ k (λ a u. tt))
 
 near_line : (t : Tree) → IsShort t → Near (line_drawing t)
 unfolding line_drawing

@@ -9,7 +9,7 @@ use Rattle.board_errors.specs.declared.errors.BoardError.TheVariants.{Missing}
 use Rattle.list_read.specs.Answers.{◌>>=◌}
 use Rattle.list_read.specs.Heads.{place, is_value, is_text, first_is, has_head}
 use Rattle.list_read.specs.Elements.{element}
-use Rattle.part_read.specs.Elements.{atom_among, atom_of}
+use Rattle.part_read.specs.Elements.{given_or, atom_among, atom_of}
 use Rattle.read_alike.specs.Alike.{Shift, is_place_word, is_place_head, IsPlaceMoved, AlikeInside, Alike, AlikeTrees}
 use Rattle.read_alike.specs.Agreeing.{Agrees, BothAgree, AlikeParts, FoundAlike, SameAtom}
 
@@ -103,6 +103,14 @@ find_alike d test same (list s inside others) (list t within rest) h =
 pub element_alike : (d : Option Shift) (word : List ℕ) (s t : Span) (f g : Forest) → Alike d f g → FoundAlike d (has_head word) (element word (branch s f)) (element word (branch t g))
 unfolding element
 element_alike d word s t f g h = find_alike d (has_head word) (λ t u k. heads_alike d t u word k) f g h
+
+-- what is read in an element that may be missing
+pub given_or_alike : {A B : Type 0} (S : A → B → Type 0) (d : Option Shift) (test : Tree → Bool) (x : A) (y : B) (f : Tree → Result A BoardError) (g : Tree → Result B BoardError) (o p : Option Tree)
+    → FoundAlike d test o p → S x y → ((t u : Tree) → AlikeTrees d t u → test t ≡ true → Agrees S (f t) (g u)) → Agrees S (given_or x f o) (given_or y g p)
+given_or_alike S d test x y f g None None h same law = same
+given_or_alike S d test x y f g None (Some u) h same law = absurd h
+given_or_alike S d test x y f g (Some t) None h same law = absurd h
+given_or_alike S d test x y f g (Some t) (Some u) h same law = law t u h.0 h.1
 
 -- ---- what stands in lists that are alike, but for lists with a place
 

@@ -1,5 +1,5 @@
 -- The cores and the parts of a figure that stands elsewhere are those of the figure, moved.
-use Rattle.std.proofs.Common.{◌≡◌, ◌∙◌, refl, sym, ap, subst, ℤ, pos, ◌+ℤ◌, ◌*ℤ◌, Bool, true, false, List, [], ◌∷◌, map, Option, None, Some, arith}
+use Rattle.std.proofs.Common.{◌≡◌, ◌∙◌, refl, sym, ap, subst, ℤ, pos, ◌+ℤ◌, ◌*ℤ◌, Bool, true, false, List, [], ◌∷◌, map, Option, Some, option_map, arith}
 use Rattle.std.specs.List.{AllZip}
 use Rattle.std.proofs.lemmas.Int.{ints}
 use Rattle.geo_seg.specs.declared.points.Point.{Point}
@@ -13,9 +13,11 @@ use Rattle.board_items.specs.Moves.{AreShifted}
 use Rattle.part_read.specs.declared.numbers.Spot.{Spot}
 use Rattle.part_read.specs.declared.stances.Stance.{Stance}
 use Rattle.part_read.specs.declared.radii.Radius.{Radius}
+use Rattle.part_read.specs.There.{both, after}
 use Rattle.part_read.specs.OnBoard.{tested, fits_board, point_at}
-use Rattle.part_read.specs.Stances.{stood, point_stood, points_stood, with_point}
-use Rattle.part_read.specs.Figures.{cores_between, line_between, cores_around, around}
+use Rattle.part_read.specs.Stances.{stood, point_stood, points_stood}
+use Rattle.part_read.specs.Figures.{line_between, cores_around, around}
+use Rattle.part_read.proofs.There.{some_same, map_some, both_some}
 use Rattle.part_read.proofs.Shapes.{one_point, one_shape, is_tested}
 use Rattle.read_alike.specs.Alike.{Shift}
 use Rattle.read_alike.specs.Moved.{moved_spot}
@@ -23,9 +25,6 @@ use Rattle.read_alike.specs.Standing.{StandsMoved}
 use Rattle.read_alike.proofs.Shapes.{half_near, fits_moved}
 
 -- ---- points
-
-pub some_same : {A : Type 0} {x y : A} → (let o : Option A = Some x in o) ≡ Some y → x ≡ y
-some_same h = cc
 
 pub tested_some : {A : Type 0} (test : Bool) (make : test ≡ true → A) (x : A) → tested test make ≡ Some x → (h : test ≡ true) × (make h ≡ x)
 tested_some true make x e = (refl, some_same e)
@@ -56,11 +55,6 @@ module _ (d : Shift) (stance new : Stance) where
       (λ fits. one_point q (point_at (moved_spot d (stood stance s)) fits) (twice q.x (stood stance s).x d.dx qx) (twice q.y (stood stance s).y d.dy qy))
       (fits_moved (moved_spot d (stood stance s)) near_x near_y))
 
-  with_some : (o : Option Point) (ps : Option (List Point)) (all : List Point) → with_point o ps ≡ Some all → (p : Point) × (rest : List Point) × (o ≡ Some p) × (ps ≡ Some rest) × (all ≡ p ∷ rest)
-  with_some None ps all e = absurd cc
-  with_some (Some p) None all e = absurd cc
-  with_some (Some p) (Some rest) all e = (p, rest, refl, refl, sym (some_same e))
-
   pub points_carried : (ss ts : List Spot) (ps qs : List Point) → AllZip (StandsMoved d stance new) ss ts → points_stood stance ss ≡ Some ps → AllZip moved_point ps qs → points_stood new ts ≡ Some qs
   points_carried [] [] ps qs stands e h = by_nothing ps qs (some_same e) h
     where
@@ -71,55 +65,46 @@ module _ (d : Shift) (stance new : Stance) where
   points_carried [] (t ∷ ts) ps qs stands e h = absurd stands
   points_carried (s ∷ ss) [] ps qs stands e h = absurd stands
   points_carried (s ∷ ss) (t ∷ ts) ps qs stands e h =
-      let k = with_some (point_stood stance s) (points_stood stance ss) ps e in
-      by_first k.0 k.1 qs (subst (λ (l : List Point). AllZip moved_point l qs) k.4 h) (λ q rest a b. ap (λ (o : Option Point). with_point o (points_stood new ts)) (point_carried s t k.0 q stands.0 k.2 a)
-      ∙ ap (λ (o : Option (List Point)). with_point (Some q) o) (points_carried ss ts k.1 rest stands.1 k.3 b))
+      let k = both_some (λ (y : Point) (ys : List Point). y ∷ ys) (point_stood stance s) (points_stood stance ss) ps e in
+      by_first k.0 k.1 qs (subst (λ (l : List Point). AllZip moved_point l qs) k.4 h) (λ q rest a b. ap (λ (o : Option Point). both (λ (y : Point) (ys : List Point). y ∷ ys) o (points_stood new ts)) (point_carried s t k.0 q stands.0 k.2 a)
+      ∙ ap (after (q ∷ [])) (points_carried ss ts k.1 rest stands.1 k.3 b))
     where
-      by_first : (p : Point) (rest qs : List Point) → AllZip moved_point (p ∷ rest) qs → ((q : Point) (others : List Point) → moved_point p q → AllZip moved_point rest others → with_point (point_stood new t) (points_stood new ts) ≡ Some (q ∷ others))
-          → with_point (point_stood new t) (points_stood new ts) ≡ Some qs
+      by_first : (p : Point) (rest qs : List Point) → AllZip moved_point (p ∷ rest) qs → ((q : Point) (others : List Point) → moved_point p q → AllZip moved_point rest others → points_stood new (t ∷ ts) ≡ Some (q ∷ others))
+          → points_stood new (t ∷ ts) ≡ Some qs
       by_first p rest [] h f = absurd h
       by_first p rest (q ∷ qs) h f = f q qs h.0 h.1
 
   -- ---- lines and circles
 
-  pub between_some : (cores : Point → Point → List Core) (o r : Option Point) (all : List Core) → cores_between cores o r ≡ Some all → (p : Point) × (q : Point) × (o ≡ Some p) × (r ≡ Some q) × (all ≡ cores p q)
-  between_some cores None r all e = absurd cc
-  between_some cores (Some p) None all e = absurd cc
-  between_some cores (Some p) (Some q) all e = (p, q, refl, refl, sym (some_same e))
-
   pub one_same : (p q r : Point) → moved_point p q → moved_point p r → q ≡ r
   one_same p q r h k = one_point q r (h.x ∙ sym k.x) (h.y ∙ sym k.y)
 
-  pub line_carried : (a b c e : Spot) (cores others : List Core) → StandsMoved d stance new a c → StandsMoved d stance new b e → cores_between line_between (point_stood stance a) (point_stood stance b) ≡ Some cores
-      → AllZip moved_core cores others → cores_between line_between (point_stood new c) (point_stood new e) ≡ Some others
+  pub line_carried : (a b c e : Spot) (cores others : List Core) → StandsMoved d stance new a c → StandsMoved d stance new b e → both line_between (point_stood stance a) (point_stood stance b) ≡ Some cores
+      → AllZip moved_core cores others → both line_between (point_stood new c) (point_stood new e) ≡ Some others
   line_carried a b c e cores others sa sb some h =
-      let k = between_some line_between (point_stood stance a) (point_stood stance b) cores some in
+      let k = both_some line_between (point_stood stance a) (point_stood stance b) cores some in
       by_core k.0 k.1 k.2 k.3 others (subst (λ (l : List Core). AllZip moved_core l others) k.4 h)
     where
-      by_core : (p q : Point) → point_stood stance a ≡ Some p → point_stood stance b ≡ Some q → (others : List Core) → AllZip moved_core (line_between p q) others → cores_between line_between (point_stood new c) (point_stood new e) ≡ Some others
+      by_core : (p q : Point) → point_stood stance a ≡ Some p → point_stood stance b ≡ Some q → (others : List Core) → AllZip moved_core (line_between p q) others → both line_between (point_stood new c) (point_stood new e) ≡ Some others
       by_core p q ep eq [] h = absurd h
       by_core p q ep eq (x ∷ y ∷ others) h = absurd h.1
       by_core p q ep eq (Area corners ∷ []) h = absurd h.0
       by_core p q ep eq (LineCore s ∷ []) h =
-          ap (λ (o : Option Point). cores_between line_between o (point_stood new e)) (point_carried a c p s.a sa ep h.0.0)
-          ∙ ap (λ (o : Option Point). cores_between line_between (Some s.a) o) (point_carried b e q s.b sb eq h.0.1)
+          ap (λ (o : Option Point). both line_between o (point_stood new e)) (point_carried a c p s.a sa ep h.0.0)
+          ∙ ap (λ (o : Option Point). both line_between (Some s.a) o) (point_carried b e q s.b sb eq h.0.1)
 
   -- ---- filled outlines
 
-  pub around_some : (o : Option (List Point)) (all : List Core) → cores_around true o ≡ Some all → (ps : List Point) × (o ≡ Some ps) × (all ≡ Area ps ∷ [])
-  around_some None all e = absurd cc
-  around_some (Some ps) all e = (ps, refl, sym (some_same e))
-
-  pub filled_carried : (ss ts : List Spot) (cores others : List Core) → AllZip (StandsMoved d stance new) ss ts → cores_around true (points_stood stance ss) ≡ Some cores → AllZip moved_core cores others
-      → cores_around true (points_stood new ts) ≡ Some others
+  pub filled_carried : (ss ts : List Spot) (cores others : List Core) → AllZip (StandsMoved d stance new) ss ts → option_map (cores_around true) (points_stood stance ss) ≡ Some cores → AllZip moved_core cores others
+      → option_map (cores_around true) (points_stood new ts) ≡ Some others
   filled_carried ss ts cores others stands some h =
-      let k = around_some (points_stood stance ss) cores some in by_core k.0 k.1 others (subst (λ (l : List Core). AllZip moved_core l others) k.2 h)
+      let k = map_some (cores_around true) (points_stood stance ss) cores some in by_core k.0 k.1 others (subst (λ (l : List Core). AllZip moved_core l others) k.2 h)
     where
-      by_core : (ps : List Point) → points_stood stance ss ≡ Some ps → (others : List Core) → AllZip moved_core (Area ps ∷ []) others → cores_around true (points_stood new ts) ≡ Some others
+      by_core : (ps : List Point) → points_stood stance ss ≡ Some ps → (others : List Core) → AllZip moved_core (Area ps ∷ []) others → option_map (cores_around true) (points_stood new ts) ≡ Some others
       by_core ps e [] h = absurd h
       by_core ps e (x ∷ y ∷ others) h = absurd h.1
       by_core ps e (LineCore s ∷ []) h = absurd h.0
-      by_core ps e (Area qs ∷ []) h = ap (cores_around true) (points_carried ss ts ps qs stands e h.0)
+      by_core ps e (Area qs ∷ []) h = ap (option_map (cores_around true)) (points_carried ss ts ps qs stands e h.0)
 
 -- ---- parts
 

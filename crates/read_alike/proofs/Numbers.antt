@@ -18,10 +18,10 @@ use Rattle.list_read.specs.Elements.{element, is_naming, naming}
 use Rattle.part_read.specs.Elements.{in_needed, atom_of, text_in, name_among, name_in}
 use Rattle.part_read.specs.Numbers.{read_as, length_in, size_in, number_in, size_at, size_of}
 use Rattle.part_read.specs.LayersOf.{layer_number, ends_in_cu, layer_by, layer_in, copper_by, copper_in, layer_at, layer_of}
-use Rattle.part_read.specs.NetsOf.{declared_in, net_among, net_of}
+use Rattle.part_read.specs.NetsOf.{declared_in, net_of}
 use Rattle.read_alike.specs.Alike.{Shift, is_place_word, Alike, AlikeTrees}
 use Rattle.read_alike.specs.Agreeing.{Agrees, BothAgree, FoundAlike, AlikeParts, SameAtom, Same}
-use Rattle.read_alike.proofs.Elements.{agrees_bind, agrees_both, element_alike, find_alike, heads_alike, inside_by_head, same_value, same_content, atom_alike}
+use Rattle.read_alike.proofs.Elements.{agrees_bind, agrees_both, element_alike, given_or_alike, find_alike, heads_alike, inside_by_head, same_value, same_content, atom_alike}
 
 -- ---- numbers of atoms
 
@@ -124,13 +124,9 @@ declared_alike d board other nets x y h =
     (checked_alike (is_some (name_of board n)) n n (UnknownNet (place p)) (UnknownNet (place q)) refl))))
 
 pub net_alike : (d : Option Shift) (board other : PlainBoard) → ((n : ℕ) → name_of board n ≡ name_of other n) → (i j : Forest) (s r : Span) → Alike d i j → Agrees Same (net_of board (branch s i)) (net_of other (branch r j))
-net_alike d board other nets i j s r h = by_found (element (codes "net") (branch s i)) (element (codes "net") (branch r j)) (element_alike d (codes "net") s r i j h)
-  where
-    by_found : (o p : Option Tree) → FoundAlike d (has_head (codes "net")) o p → Agrees Same (net_among board o) (net_among other p)
-    by_found None None k = refl
-    by_found None (Some y) k = absurd k
-    by_found (Some x) None k = absurd k
-    by_found (Some x) (Some y) k = declared_alike d board other nets x y (inside_by_head d x y (codes "net") k.0 k.1 refl)
+net_alike d board other nets i j s r h =
+    given_or_alike Same d (has_head (codes "net")) 0 0 (declared_in board) (declared_in other) (element (codes "net") (branch s i)) (element (codes "net") (branch r j)) (element_alike d (codes "net") s r i j h) refl
+    (λ x y k e. declared_alike d board other nets x y (inside_by_head d x y (codes "net") k e refl))
 
 -- ---- layers
 

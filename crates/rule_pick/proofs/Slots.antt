@@ -1,5 +1,5 @@
 -- Rows of slots.
-use Rattle.std.proofs.Common.{◌≡◌, ◌≢◌, refl, ℕ, zero, suc, ◌<◌, ◌≤◌, List, [], ◌∷◌, ◌++◌, length, get_or, set, Option, None, arith, ap, ◌∙◌}
+use Rattle.std.proofs.Common.{◌≡◌, ◌≢◌, refl, ℕ, zero, suc, ◌<◌, ◌≤◌, List, [], ◌∷◌, ◌++◌, length, get_or, set, Option, None, arith, ap, sym, ◌∙◌}
 use Rattle.rule_pick.specs.declared.facts.Facts.{Facts}
 use Rattle.rule_pick.specs.ById.{facts_at, IsPut, HasSameFacts}
 
@@ -13,6 +13,25 @@ one_more [] zero = refl
 one_more [] (suc id) = refl
 one_more (s ∷ ss) zero = refl
 one_more (s ∷ ss) (suc id) = one_more ss id
+
+last : (slots : List (Option Facts)) (slot : Option Facts) → facts_at (slots ++ slot ∷ []) (length slots) ≡ slot
+unfolding facts_at
+last [] slot = refl
+last (s ∷ ss) slot = last ss slot
+
+before : (slots : List (Option Facts)) (slot : Option Facts) (other : ℕ) → other ≢ length slots → facts_at (slots ++ slot ∷ []) other ≡ facts_at slots other
+unfolding facts_at
+before [] slot zero apart = absurd (apart refl)
+before [] slot (suc other) apart = refl
+before (s ∷ ss) slot zero apart = refl
+before (s ∷ ss) slot (suc other) apart = before ss slot other (λ e. apart (ap suc e))
+
+-- a slot more, behind the last
+pub put_behind : (slots new : List (Option Facts)) (id : ℕ) (slot : Option Facts) → id ≡ length slots → new ≡ slots ++ slot ∷ [] → IsPut id slot slots new
+put_behind slots new id slot at is = record {
+  here = ap (λ (k : ℕ). facts_at new k) at ∙ (ap (λ (s : List (Option Facts)). facts_at s (length slots)) is ∙ last slots slot);
+  rest = λ other apart. ap (λ (s : List (Option Facts)). facts_at s other) is ∙ before slots slot other (λ e. apart (e ∙ sym at));
+}
 
 -- an empty slot more changes nothing
 pub still : (old slots : List (Option Facts)) → HasSameFacts old slots → HasSameFacts old (slots ++ None ∷ [])

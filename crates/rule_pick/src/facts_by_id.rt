@@ -108,6 +108,10 @@ impl FactsById {
         ensures same { OnErr result (HasSameFacts self.old self.new) }
     {
         let place = id as usize;
+        if place == self.slots.len() {
+            self.slots.push(Some(facts))?;
+            return Ok(());
+        }
         fill_up(&mut self.slots, place + 1)?;
         put(&mut self.slots, place, facts);
         Ok(())

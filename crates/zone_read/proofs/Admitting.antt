@@ -1,5 +1,5 @@
 -- The items of a zone may stand on the board.
-use Rattle.std.proofs.Common.{◌≡◌, ◌∙◌, refl, ap, sym, ℕ, ◌≤◌, ℤ, pos, ◌+ℤ◌, arith, List, [], ◌∷◌, length, Bool, true, false, ◌&&◌, is_some, IsTrue, Option, None, Some}
+use Rattle.std.proofs.Common.{◌≡◌, ◌∙◌, refl, ap, sym, ℕ, ◌≤◌, ℤ, pos, ◌+ℤ◌, arith, List, [], ◌∷◌, length, Bool, true, false, ◌&&◌, is_some, IsTrue, Some}
 use Rattle.std.proofs.lemmas.Int.{ints}
 use Rattle.geo_seg.specs.declared.points.Point.{Point}
 use Rattle.geo_seg.specs.declared.shapes.Shape.{Shape}
@@ -12,7 +12,7 @@ use Rattle.board_items.specs.Boards.{PlainBoard, name_of, is_admitted}
 use Rattle.copper_layers.proofs.LayerLemmas.{single_within}
 use Rattle.part_read.specs.declared.numbers.Spot.{Spot}
 use Rattle.part_read.specs.OnBoard.{tested, fits_board, point_at}
-use Rattle.part_read.specs.Stances.{stood, with_point, points_stood}
+use Rattle.part_read.specs.Stances.{stood, points_stood}
 use Rattle.part_read.specs.Figures.{first_of}
 use Rattle.part_read.specs.PlainItems.{plain_item}
 use Rattle.std.proofs.Common.{◌<◌, ◌++◌, ltb, length-append}
@@ -20,17 +20,13 @@ use Rattle.std.proofs.lemmas.Bool.{ltb-true}
 use Rattle.std.proofs.lemmas.List.Elements.{All-nil, All-cons, All-append}
 use Rattle.board_items.specs.declared.item.Item.{Item}
 use Rattle.board_items.specs.Refusals.{room_of}
+use Rattle.part_read.proofs.There.{map_some, both_some}
 use Rattle.part_read.specs.Ready.{IsReady, AreReady}
-use Rattle.zone_read.specs.ZoneOf.{as_it_is, area_around, area_of, has_room_after}
+use Rattle.zone_read.specs.ZoneOf.{as_it_is, area_with, area_of, has_room_after}
 
 tested_holds : {A : Type 0} (test : Bool) (make : test ≡ true → A) (x : A) → tested test make ≡ Some x → test ≡ true
 tested_holds true make x h = refl
 tested_holds false make x h = absurd cc
-
-with_first : (p : Option Point) (ps : Option (List Point)) (all : List Point) → with_point p ps ≡ Some all → (q : Point) × (p ≡ Some q)
-with_first None ps all h = absurd cc
-with_first (Some p) None all h = absurd cc
-with_first (Some p) (Some ps) all h = (p, refl)
 
 zero_plus : (z : ℤ) → pos 0 +ℤ z ≡ z
 zero_plus z = omega (arith, ints)
@@ -38,18 +34,14 @@ zero_plus z = omega (arith, ints)
 first_near : (corners : List Spot) (points : List Point) → 1 ≤ length corners → points_stood as_it_is corners ≡ Some points → fits_board (first_of corners) ≡ true
 first_near [] points n h = absurd (omega (arith, n))
 first_near (s ∷ ss) points n h =
-    let found = with_first _ _ points h in
-    let near : fits_board (stood as_it_is s) ≡ true = tested_holds (fits_board (stood as_it_is s)) (point_at (stood as_it_is s)) found.0 found.1 in
+    let found = both_some _ _ _ points h in
+    let near : fits_board (stood as_it_is s) ≡ true = tested_holds (fits_board (stood as_it_is s)) (point_at (stood as_it_is s)) found.0 found.2 in
     ap (λ (x : ℤ). let t : Spot = record { x = x; y = s.y } in fits_board t) (sym (zero_plus s.x))
     ∙ ap (λ (y : ℤ). let t : Spot = record { x = pos 0 +ℤ s.x; y = y } in fits_board t) (sym (zero_plus s.y)) ∙ near
 
-around_holds : (ps : Option (List Point)) (shape : Shape) → area_around ps ≡ Some shape → (points : List Point) × (ps ≡ Some points)
-around_holds None shape h = absurd cc
-around_holds (Some points) shape h = (points, refl)
-
 -- the first corner of an area lies on the board
 pub area_near : (corners : List Spot) (shape : Shape) → 1 ≤ length corners → area_of corners ≡ Some shape → fits_board (first_of corners) ≡ true
-area_near corners shape n h = let found = around_holds (points_stood as_it_is corners) shape h in first_near corners found.0 n found.1
+area_near corners shape n h = let found = map_some area_with (points_stood as_it_is corners) shape h in first_near corners found.0 n found.1
 
 both : (a b : Bool) → a ≡ true → b ≡ true → a && b ≡ true
 both true true h k = refl

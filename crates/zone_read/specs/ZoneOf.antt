@@ -1,6 +1,6 @@
 -- Zones: the items that (zone (net N) (layer NAME) (name TEXT) ..) gives. With `keepout` it is a rule area, by its polygon; else each
 -- filled polygon on copper is a fill. The elements are looked at in this order.
-use Rattle.std.specs.Prelude.{ℕ, suc, nat_lt, pos, Bool, false, ◌&&◌, List, [], ◌∷◌, codes, Option, None, Some, Result, Ok, Err, refl, if◌then◌else◌}
+use Rattle.std.specs.Prelude.{ℕ, suc, nat_lt, pos, Bool, false, ◌&&◌, List, [], ◌∷◌, codes, Option, None, Some, option_map, Result, Ok, Err, refl, if◌then◌else◌}
 use Rattle.sexpr_read.specs.Tree.{Tree, parts}
 use Rattle.geo_seg.specs.declared.points.Point.{Point}
 use Rattle.geo_seg.specs.declared.shapes.Core.TheVariants.{Area as AreaCore}
@@ -19,7 +19,7 @@ use Rattle.part_read.specs.declared.stances.Stance.{Stance}
 use Rattle.list_read.specs.Answers.{◌>>=◌, needed, check}
 use Rattle.list_read.specs.Heads.{place, text_of, is_text, has_head}
 use Rattle.list_read.specs.Elements.{element}
-use Rattle.part_read.specs.Elements.{atom_of, in_needed, name_in}
+use Rattle.part_read.specs.Elements.{in_needed, given_or, atom_of, name_in}
 use Rattle.part_read.specs.LayersOf.{layer_in, layers_named, named}
 use Rattle.part_read.specs.LayersWhere.{layers_of_any}
 use Rattle.part_read.specs.NetsOf.{net_of}
@@ -42,13 +42,9 @@ layers_among copper tree None None = Err (Missing (place tree))
 unfoldable pub zone_layers : LayerSet → Tree → Result LayerSet BoardError
 zone_layers copper tree = layers_among copper tree (element (codes "layer") tree) (element (codes "layers") tree)
 
-abbrev pub title_among : Option Tree → Result (List ℕ) BoardError
-title_among None = Ok []
-title_among (Some list) = atom_of 1 list >>= λ atom. Ok (text_of atom)
-
 -- the text of (name TEXT), or the empty one
 unfoldable pub title_of : Tree → Result (List ℕ) BoardError
-title_of tree = title_among (element (codes "name") tree)
+title_of tree = given_or [] (λ list. atom_of 1 list >>= λ atom. Ok (text_of atom)) (element (codes "name") tree)
 
 -- ---- areas with their inside
 
@@ -60,13 +56,9 @@ as_it_is = record { quarter = 0; at = record { x = pos 0; y = pos 0 } }
 abbrev pub area_with : List Point → Shape
 area_with points = around no_radius (AreaCore points)
 
-abbrev pub area_around : Option (List Point) → Option Shape
-area_around None = None
-area_around (Some points) = Some (area_with points)
-
 -- the polygon of these corners, if it lies on the board
 abbrev pub area_of : List Spot → Option Shape
-area_of corners = area_around (points_stood as_it_is corners)
+area_of corners = option_map area_with (points_stood as_it_is corners)
 
 -- ---- room
 
@@ -76,13 +68,9 @@ has_room_after items board unit = nat_lt items (room_of board) && nat_lt unit 42
 
 -- ---- rule areas
 
-abbrev pub ban_among : Option Tree → Result Bool BoardError
-ban_among None = Ok false
-ban_among (Some list) = atom_of 1 list >>= λ atom. Ok (is_text atom (codes "not_allowed"))
-
 -- whether (HEAD not_allowed) stands in the list
 abbrev pub ban_of : List ℕ → Tree → Result Bool BoardError
-ban_of head list = ban_among (element head list)
+ban_of head list = given_or false (λ found. atom_of 1 found >>= λ atom. Ok (is_text atom (codes "not_allowed"))) (element head list)
 
 unfoldable pub bans_in : Tree → Result Bans BoardError
 bans_in list = do
