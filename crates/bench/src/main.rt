@@ -12,14 +12,14 @@ mod pads;
 mod pairs;
 mod plane;
 
-use pairs::Kind;
+use pairs::PairKind;
 use std::alloc::Global;
 use std::env;
 use std::io::Print;
 
 // None where no kind is called so.
 fn count(alloc: Global, name: &str, number: u32) -> anyhow::Result<Option<u64>> {
-    if let Some(kind) = Kind::named(name) {
+    if let Some(kind) = PairKind::named(name) {
         return Ok(Some(pairs::count(alloc, kind, number)?));
     }
     match name {

@@ -13,40 +13,40 @@ struct Pair {
 }
 
 #[derive(Clone, Copy, Drop)]
-pub enum Kind {
+pub enum PairKind {
     Far,
     Near,
     Crossing,
 }
 
-impl Kind {
+impl PairKind {
     // The kind that is called so.
-    pub fn named(name: &str) -> Option<Kind> {
+    pub fn named(name: &str) -> Option<PairKind> {
         match name {
-            "far" => Some(Kind::Far),
-            "near" => Some(Kind::Near),
-            "crossing" => Some(Kind::Crossing),
+            "far" => Some(PairKind::Far),
+            "near" => Some(PairKind::Near),
+            "crossing" => Some(PairKind::Crossing),
             _ => None,
         }
     }
 }
 
-fn drawn(kind: Kind, numbers: &mut Numbers) -> Pair {
+fn drawn(kind: PairKind, numbers: &mut Numbers) -> Pair {
     let x = numbers.draw();
     let y = numbers.draw();
     let u = numbers.draw().wrapping_add(2_000_000);
     let v = numbers.draw().wrapping_add(2_000_000);
     let shift = numbers.draw() & 0xf_ffff;
     match kind {
-        Kind::Far => Pair {
+        PairKind::Far => Pair {
             first: seg(x, y, u, v),
             second: seg(x.wrapping_add(100_000_000), y, v, u),
         },
-        Kind::Near => Pair {
+        PairKind::Near => Pair {
             first: seg(x, y, u, v),
             second: seg(x.wrapping_add(shift), y.wrapping_sub(shift), u, v),
         },
-        Kind::Crossing => Pair {
+        PairKind::Crossing => Pair {
             first: seg(x, y, u, v),
             second: seg(
                 x,
@@ -71,7 +71,7 @@ fn answers(pairs: &[Pair], rounds: u32) -> u64 {
 }
 
 // How many answers are yes, and those within the distance twice.
-pub fn count(alloc: Global, kind: Kind, rounds: u32) -> anyhow::Result<u64> {
+pub fn count(alloc: Global, kind: PairKind, rounds: u32) -> anyhow::Result<u64> {
     let mut numbers = Numbers { state: 7 };
     let mut pairs = Vec::with_capacity(alloc, PAIRS)?;
     for _ in 0..PAIRS {

@@ -12,7 +12,7 @@ use Rattle.read_alike.specs.Carried.{of_unit, ItemsOf}
 use Rattle.pcb_read.specs.declared.sorts.Sort.{Sort}
 use Rattle.pcb_read.specs.declared.sorts.Sort.TheVariants.{Track, Via, Arc, Graphic, Curve, Text, Zone, Footprint}
 use Rattle.pcb_read.specs.BoardOf.{Reading, unread, header_in, SaysParts}
-use Rattle.pcb_read.specs.BoardText.{Says}
+use Rattle.pcb_read.specs.BoardText.{BoardSays}
 use Rattle.pcb_read.specs.ItemsOf.{SaysItems, has_room}
 use Rattle.edit_script.specs.Commands.{PlainCommand}
 use Rattle.list_alike.specs.Footprints.{is_footprint}
@@ -131,14 +131,14 @@ module _ (foot_carried : (board other : PlainBoard) (unit own : ℕ) (t u : Tree
   read_root : (text : List ℕ) (s h : Span) (q : Bool) (c : List ℕ) (others : Forest) (z : Reading) (draft : Draft) (changes : List Change) (fates : List Fate) (out : List ℕ) (last : PlainBoard)
       → header_in (branch s (atom h q c others)) ≡ Ok tt → SaysParts unread (trees (atom h q c others)) (Ok z) → z.layered ≡ true → draft ≡ with_changes (untouched z.board.next_unit) changes → ChangeAll z.board changes last
       → FatesAre draft unread (trees (atom h q c others)) fates → length last.items ≤ 200000 → SpellsEdited out q c (insides_after fates others ++ insides (added_trees draft draft.added))
-      → (again : PlainBoard) × Says out (Ok again) × IsSame again last
+      → (again : PlainBoard) × BoardSays out (Ok again) × IsSame again last
   read_root text s h q c others z draft changes fates out last accepted says layered is done are few w =
       let r = read_again Carries carried as_long plain_sort others_read carries without moved_sort grows ready other_keeps q c h others z changes last fates out draft is says done are few w in
       let header = header_stays text s h q c others draft fates accepted are out (insides (added_trees draft draft.added)) w in
       (r.reading.board, text_says out w.where_it_is w.forest r.reading w.spelled w.shallow header r.says (r.layered ∙ layered), same_board z (trees w.forest) last (last_ground changes z.board last done) r)
 
   by_root : (text : List ℕ) (commands : List PlainCommand) (out : List ℕ) (last : PlainBoard) (w : IsWritten text commands out last) → AreShallow commands → RootSays w.root w.board
-      → (again : PlainBoard) × Says out (Ok again) × IsSame again last
+      → (again : PlainBoard) × BoardSays out (Ok again) × IsSame again last
   by_root text commands out last w shallow r =
       let draft : Draft = with_changes (untouched r.reading.board.next_unit) w.changes in
       let inside : Forest = atom r.head_span r.quoted r.head r.others in
@@ -158,5 +158,5 @@ module _ (foot_carried : (board other : PlainBoard) (unit own : ℕ) (t u : Tree
       read_root text r.span r.head_span r.quoted r.head r.others r.reading draft w.changes w.fates out last r.accepted r.says r.layered refl done fates few
       (subst (λ (o : List ℕ). SpellsEdited o r.quoted r.head (insides_after w.fates r.others ++ insides (added_trees draft draft.added))) (sym written) edited)
 
-  pub read_back : (text : List ℕ) (commands : List PlainCommand) (out : List ℕ) (last : PlainBoard) → AreShallow commands → IsWritten text commands out last → (again : PlainBoard) × Says out (Ok again) × IsSame again last
+  pub read_back : (text : List ℕ) (commands : List PlainCommand) (out : List ℕ) (last : PlainBoard) → AreShallow commands → IsWritten text commands out last → (again : PlainBoard) × BoardSays out (Ok again) × IsSame again last
   read_back text commands out last shallow w = by_root text commands out last w shallow (board_root w.root w.board w.says)

@@ -8,10 +8,10 @@ use Rattle.board_items.specs.declared.item.Item.{Item}
 use Rattle.board_items.specs.Boards.{PlainBoard}
 use Rattle.board_items.specs.Refusals.{room_of}
 use Rattle.board_items.specs.declared.item.About.TheVariants.{Text as OfText, Dimension as OfDimension}
-use Rattle.part_read.specs.declared.drawings.Kind.TheVariants.{Line, Rect, Circle, Outline}
+use Rattle.part_read.specs.declared.drawings.GraphicKind.TheVariants.{Line, Rect, Circle, Outline}
 use Rattle.list_read.specs.Heads.{is_text, first_is}
 use Rattle.tree_text.specs.Pieces.{SameTrees}
-use Rattle.footprint_read.specs.FootprintOf.{Says}
+use Rattle.footprint_read.specs.FootprintOf.{FootprintSays}
 use Rattle.read_alike.specs.Alike.{Shift, place_moved, Alike}
 use Rattle.read_alike.specs.Carried.{shift_of, Becomes, of_unit, ItemsOf}
 use Rattle.read_alike.specs.Moving.{put_if, moved}
@@ -104,9 +104,9 @@ some_room other own (i ∷ items) (n ∷ now) d become some room =
 pub feet_carried : (board other : PlainBoard) (unit own : ℕ) (t u : Tree) (items now : List Item) → SameGround board other → SaysItems board unit t Footprint (Ok items) → Carries Footprint t u items now → has_room other own now ≡ true
     → SaysItems other own u Footprint (Ok (of_unit own now))
 feet_carried board other unit own t u items now ground says c room =
-    let said : Says board unit (branch c.old c.inside) (Ok items) = subst (λ (z : Tree). Says board unit z (Ok items)) c.was says in
+    let said : FootprintSays board unit (branch c.old c.inside) (Ok items) = subst (λ (z : Tree). FootprintSays board unit z (Ok items)) c.was says in
     let fits = some_room other own items now (shift_of c.shift) c.become (foot_some board unit (branch c.old c.inside) items said) room in
-    subst (λ (z : Tree). Says other own z (Ok (of_unit own now))) (sym c.is)
+    subst (λ (z : Tree). FootprintSays other own z (Ok (of_unit own now))) (sym c.is)
     (foot_carried (shift_of c.shift) board other ground.copper (same_nets board other ground) unit own c.inside c.within c.old c.new (unit_moved c.shift c.inside c.within (foot_head c.old c.inside c.is_sort) c.same) items now c.become said fits.0 fits.1)
 
 pub feet_stand : (board : PlainBoard) (unit : ℕ) (t : Tree) (items : List Item) → SaysItems board unit t Footprint (Ok items) → ItemsOf unit items

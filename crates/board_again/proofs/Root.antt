@@ -19,7 +19,7 @@ use Rattle.tree_text.proofs.Cutting.{cut_forest}
 use Rattle.tree_text.proofs.Utf8.{utf8_apart}
 use Rattle.tree_text.proofs.Whole.{take_all_of}
 use Rattle.pcb_read.specs.BoardOf.{Reading, unread, header_in, SaysParts, board_in, SaysAfter, SaysBoard}
-use Rattle.pcb_read.specs.BoardText.{Says}
+use Rattle.pcb_read.specs.BoardText.{BoardSays}
 use Rattle.pcb_read.specs.BoardText as text_of
 use Rattle.board_alike.proofs.Heading.{holds}
 
@@ -97,9 +97,9 @@ text_accepted text s f spelled low = refusal_of_utf8 text spelled.0 ∙ accepted
 
 -- and says the board of it
 pub text_says : (text : List ℕ) (s : Span) (f : Forest) (reading : Reading) → Spells text (branch s f) → suc (levels_in f) ≤ 64 → header_in (branch s f) ≡ Ok tt → SaysParts unread (trees f) (Ok reading) → reading.layered ≡ true
-    → Says text (Ok reading.board)
+    → BoardSays text (Ok reading.board)
 text_says text s f reading spelled low header says layered =
-    subst (λ (o : Option TextError). text_of.SaysAfter text o (Ok reading.board)) (sym (text_accepted text s f spelled low))
+    subst (λ (o : Option TextError). text_of.TextSaysAfter text o (Ok reading.board)) (sym (text_accepted text s f spelled low))
     (branch s f, spelled, subst (λ (a : Result (Unit {0}) BoardError). SaysAfter (branch s f) a (Ok reading.board)) (sym header) (Ok reading, says, board_says))
   where
     board_says : Ok reading.board ≡ board_in (branch s f) (Ok reading)

@@ -13,7 +13,7 @@ use Rattle.board_items.specs.Boards.{PlainBoard}
 use Rattle.board_items.specs.Moves.{unit_stays}
 use Rattle.board_items.specs.Units.{found_of}
 use Rattle.edit_script.specs.Commands.{PlainCommand, add, delete, move, rules, again}
-use Rattle.pcb_read.specs.ItemText.{answer_further, alone, SaysList, SaysAlone, SaysAfter, SaysText}
+use Rattle.pcb_read.specs.ItemText.{answer_further, alone, SaysList, SaysAlone, ItemSaysAfter, SaysText}
 use Rattle.board_edits.specs.declared.refusal.Refusal.{Refusal}
 use Rattle.board_edits.specs.declared.refusal.Refusal.TheVariants.{Item as ItemRefused}
 use Rattle.board_edits.specs.Deeds.{PlainDeed, nothing, append, put_back, take_out, shift, After, appended, to_unit, shifted, Does, IsLeft, DoAll}
@@ -25,7 +25,7 @@ said_alone : (board : PlainBoard) (unit : ℕ) (list : Tree) (items : List Item)
 said_alone board unit list items e true says = says
 said_alone board unit list items e false says = absurd cc
 
-said_after : (board : PlainBoard) (unit : ℕ) (text : List ℕ) (list : Tree) (items : List Item) (o : Option TextError) → IsListIn text list → SaysAfter board unit text o (Ok items) → SaysList board unit list (Ok items)
+said_after : (board : PlainBoard) (unit : ℕ) (text : List ℕ) (list : Tree) (items : List Item) (o : Option TextError) → IsListIn text list → ItemSaysAfter board unit text o (Ok items) → SaysList board unit list (Ok items)
 said_after board unit text list items (Some e) is says = absurd cc
 said_after board unit text list items None (forms, spelled, single) (others, read, says) =
     let same : others ≡ forms = unique_forms text others forms read spelled in

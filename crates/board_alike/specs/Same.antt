@@ -3,7 +3,7 @@ use Rattle.std.specs.Prelude.{◌≡◌, ℕ, List, [], ◌∷◌, ◌↔◌, So
 use Rattle.std.specs.List.{AllZip, slice_get}
 use Rattle.board_items.specs.declared.item.Item.{Item}
 use Rattle.board_items.specs.Boards.{PlainBoard}
-use Rattle.pcb_read.specs.BoardText.{Says}
+use Rattle.pcb_read.specs.BoardText.{BoardSays}
 use Rattle.edit_script.specs.Commands.{PlainCommand, add}
 use Rattle.edit_script.specs.Fits.{IsShallow}
 use Rattle.board_alike.specs.Written.{IsWritten}
@@ -31,4 +31,4 @@ AreShallow (command ∷ commands) = IsShallowIfAdded command × AreShallow comma
 
 -- reading the written text again gives the board after the commands, where no added list is too deep to stand in that of a board
 abbrev pub IsReadBack : Type 0
-IsReadBack = (text : List ℕ) (commands : List PlainCommand) (out : List ℕ) (last : PlainBoard) → AreShallow commands → IsWritten text commands out last → (again : PlainBoard) × Says out (Ok again) × IsSame again last
+IsReadBack = (text : List ℕ) (commands : List PlainCommand) (out : List ℕ) (last : PlainBoard) → AreShallow commands → IsWritten text commands out last → (again : PlainBoard) × BoardSays out (Ok again) × IsSame again last

@@ -14,7 +14,7 @@ use Rattle.part_read.specs.Ready.{AreReady, IsReady}
 use Rattle.pcb_read.specs.BoardOf.{with_items}
 use Rattle.board_edits.specs.declared.making.Made.{Made}
 use Rattle.board_edits.specs.Deeds.{PlainDeed, append}
-use Rattle.board_edits.specs.Fitting.{plain_deed, returned, LeadsBack, AddsNone}
+use Rattle.board_edits.specs.Fitting.{plain_deed, returned_board, DeedLeadsBack, AddsNone}
 use Rattle.board_edits.specs.Making.{ids_of, without_added, IsMade}
 use Rattle.board_edits.specs.Touched.{AreEdited, brought}
 use Rattle.board_edits.proofs.EntryIds.{to_ids, rise_filter, ids_rise, not_given, came, all_new}
@@ -77,13 +77,13 @@ rest_left board unit (item ∷ items) h =
     ∙ ap (λ (b : Bool). filter (left unit) board.items ++ (if not b then (board.next_id, item) ∷ [] else [])) (eq-eqb item.unit unit (All-head (λ (i : Item). i.unit ≡ unit) item items h))
     ∙ append-nil (filter (left unit) board.items)
 
-leads : (board : PlainBoard) (unit : ℕ) (items : List Item) → All (λ (i : Item). i.unit ≡ unit) items → UnitsBelow unit board.items → returned board (with_items board items) ≡ without_unit (with_items board items) unit
+leads : (board : PlainBoard) (unit : ℕ) (items : List Item) → All (λ (i : Item). i.unit ≡ unit) items → UnitsBelow unit board.items → returned_board board (with_items board items) ≡ without_unit (with_items board items) unit
 leads board unit items own below = sym (
     ap (λ (b : PlainBoard). record b { items = filter (left unit) (with_items board items).items }) (others_stay board items)
     ∙ ap (λ (es : List Entry). record board { items = es; next_id = (with_items board items).next_id; next_unit = (with_items board items).next_unit }) (rest_left board unit items own ∙ all_left unit board.items (none_of unit board.items below))
     )
 
-leads_back : (board : PlainBoard) (unit : ℕ) (items : List Item) → All (λ (i : Item). i.unit ≡ unit) items → UnitsBelow unit board.items → LeadsBack (without_added unit items) (with_items board items) board
+leads_back : (board : PlainBoard) (unit : ℕ) (items : List Item) → All (λ (i : Item). i.unit ≡ unit) items → UnitsBelow unit board.items → DeedLeadsBack (without_added unit items) (with_items board items) board
 leads_back board unit [] own below = record { fits = tt; leads = refl }
 leads_back board unit (item ∷ items) own below = record { fits = tt; leads = leads board unit (item ∷ items) own below }
 
@@ -148,7 +148,7 @@ module _ (law : (board : PlainBoard) (items : List Item) (ids : List ℕ) → Is
     made_so : IsMade (append items) old (with_items old items) made
     made_so = record {
       after = refl;
-      leads = subst (λ (d : PlainDeed). LeadsBack d (with_items old items) old) (sym back) (leads_back old old.next_unit items own sound.units);
+      leads = subst (λ (d : PlainDeed). DeedLeadsBack d (with_items old items) old) (sym back) (leads_back old old.next_unit items own sound.units);
       adds_none = subst AddsNone (sym back) (adds_none old.next_unit items);
       edited = edited;
       known = brought refl (all_new old made.ids.items entries given all_fresh);

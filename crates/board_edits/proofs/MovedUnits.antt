@@ -23,7 +23,7 @@ use Rattle.board_laws.proofs.Rest.{Entry, rises, found_at, contains_filter, sour
 use Rattle.edit_script.specs.Fits.{IsNear}
 use Rattle.board_edits.specs.declared.making.Made.{Made}
 use Rattle.board_edits.specs.Deeds.{PlainDeed, shift}
-use Rattle.board_edits.specs.Fitting.{plain_deed, LeadsBack, AddsNone}
+use Rattle.board_edits.specs.Fitting.{plain_deed, DeedLeadsBack, AddsNone}
 use Rattle.board_edits.specs.Making.{HasBounds, ids_of, IsMade}
 use Rattle.board_edits.specs.Touched.{ids_touched, ItemDiffers, reshaped, AreEdited, touched_before}
 use Rattle.board_edits.proofs.EntryIds.{from_ids, to_ids, rise_filter, ids_rise}
@@ -72,7 +72,7 @@ moved_to unit dx dy (x ∷ xs) (y ∷ ys) h e (suc k, lt, same) =
 
 -- ---- moved back
 module _ (back_law : (unit : ℕ) (dx dy : ℤ) (old new : PlainBoard) → IsMoved unit dx dy old new → IsMoved unit (neg_ℤ dx) (neg_ℤ dy) new old) where
-  leads_back : (old new : PlainBoard) (unit : ℕ) (dx dy : ℤ) → IsSound old → IsNear dx → IsNear dy → IsMoved unit dx dy old new → LeadsBack (shift unit (neg_ℤ dx) (neg_ℤ dy)) new old
+  leads_back : (old new : PlainBoard) (unit : ℕ) (dx dy : ℤ) → IsSound old → IsNear dx → IsNear dy → IsMoved unit dx dy old new → DeedLeadsBack (shift unit (neg_ℤ dx) (neg_ℤ dy)) new old
   leads_back old new unit dx dy sound near_x near_y moved = record {
     fits = (as_near dx 1000000000000 near_x, as_near dy 1000000000000 near_y, unit_stay unit (neg_ℤ dx) (neg_ℤ dy) old new.items old.items (back_law unit dx dy old new moved).items sound.admitted);
     leads = subst (λ (b : PlainBoard). IsMoved unit (neg_ℤ dx) (neg_ℤ dy) new b) (sym (returned_same old new (ap (λ (b : PlainBoard). b.next_id) moved.others) (ap (λ (b : PlainBoard). b.next_unit) moved.others))) (back_law unit dx dy old new moved);
@@ -169,7 +169,7 @@ module _ (edit_law : (unit : ℕ) (dx dy : ℤ) (old new : PlainBoard) (ids : Li
       → plain_deed made.back ≡ shift unit (neg_ℤ dx) (neg_ℤ dy) → made.ids.items ≡ ids_touched old (shift unit dx dy) → IsMade (shift unit dx dy) old new made
   moved_made back_law old new unit dx dy made sound still near_x near_y moved bounds back given = record {
     after = moved;
-    leads = subst (λ (d : PlainDeed). LeadsBack d new old) (sym back) (leads_back back_law old new unit dx dy sound near_x near_y moved);
+    leads = subst (λ (d : PlainDeed). DeedLeadsBack d new old) (sym back) (leads_back back_law old new unit dx dy sound near_x near_y moved);
     adds_none = subst AddsNone (sym back) tt;
     edited = edited old new unit dx dy made.ids.items sound still moved bounds given;
     known = touched_before given;

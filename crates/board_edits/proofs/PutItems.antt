@@ -12,7 +12,7 @@ use Rattle.board_laws.specs.Edits.{IsEdit}
 use Rattle.board_laws.proofs.Rest.{Entry, Under, same_from_elements, rises, found_at, contains_filter, source, passed}
 use Rattle.board_edits.specs.declared.making.Made.{Made}
 use Rattle.board_edits.specs.Deeds.{PlainDeed, put_back}
-use Rattle.board_edits.specs.Fitting.{plain_deed, returned, LeadsBack, AddsNone}
+use Rattle.board_edits.specs.Fitting.{plain_deed, returned_board, DeedLeadsBack, AddsNone}
 use Rattle.board_edits.specs.Making.{ids_of, without_put, IsMade}
 use Rattle.board_edits.specs.Touched.{brought}
 use Rattle.board_edits.proofs.EntryIds.{to_ids, ids_rise, came, all_new}
@@ -68,10 +68,10 @@ module _ (old new : PlainBoard) (sound : IsSound old) where
       from : (e : Entry) → Contains old.items e → Contains new.items e
       from e c = All-contains (Contains new.items) old.items e back.merged.kept c
 
-  stays : (items : List Entry) → IsPutBack items old new → returned old new ≡ old
+  stays : (items : List Entry) → IsPutBack items old new → returned_board old new ≡ old
   stays items back = returned_same old new (ap (λ (b : PlainBoard). b.next_id) back.others) (ap (λ (b : PlainBoard). b.next_unit) back.others)
 
-  leads_back : (items : List Entry) → FitsBack old items → IsPutBack items old new → LeadsBack (without_put items) new old
+  leads_back : (items : List Entry) → FitsBack old items → IsPutBack items old new → DeedLeadsBack (without_put items) new old
   leads_back [] fits back = record { fits = tt; leads = stays [] back ∙ sym (none_back back) }
   leads_back (e ∷ es) fits back = record { fits = tt; leads = stays (e ∷ es) back ∙ sym (again e.1.unit (e ∷ es) own others back) }
     where
@@ -94,7 +94,7 @@ module _ (law : (board new : PlainBoard) (items : List Entry) (ids : List ℕ) �
       → IsMade (put_back items) old new made
   put_made old new items made sound still fits put back given = record {
     after = put;
-    leads = subst (λ (d : PlainDeed). LeadsBack d new old) (sym back) (leads_back old new sound items fits put);
+    leads = subst (λ (d : PlainDeed). DeedLeadsBack d new old) (sym back) (leads_back old new sound items fits put);
     adds_none = subst AddsNone (sym back) (adds_none items);
     edited = record {
       rise = subst IsStrictlyIncreasing (sym given) (ids_rise 0 old.next_id items fits.ids);

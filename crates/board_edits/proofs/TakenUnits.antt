@@ -12,7 +12,7 @@ use Rattle.board_laws.specs.Edits.{IsEdit}
 use Rattle.board_laws.proofs.Rest.{Entry, Under, rises, found_at, in_list, contains_filter, source, passed}
 use Rattle.board_edits.specs.declared.making.Made.{Made}
 use Rattle.board_edits.specs.Deeds.{PlainDeed, put_back, take_out}
-use Rattle.board_edits.specs.Fitting.{plain_deed, LeadsBack, AddsNone}
+use Rattle.board_edits.specs.Fitting.{plain_deed, DeedLeadsBack, AddsNone}
 use Rattle.board_edits.specs.Making.{ids_of, IsMade}
 use Rattle.board_edits.specs.Touched.{ids_touched, touched_before}
 use Rattle.board_edits.proofs.EntryIds.{to_ids, rise_filter, ids_rise, went}
@@ -93,7 +93,7 @@ module _ (old : PlainBoard) (unit : ℕ) (sound : IsSound old) where
     only = All-weaker (Contains old.items) (λ (e : Entry). Contains (filter (left unit) old.items) e ⊎ Contains own e) both old.items (All-contains_itself old.items);
   }
 
-  leads_back : LeadsBack (put_back own) (without_unit old unit) old
+  leads_back : DeedLeadsBack (put_back own) (without_unit old unit) old
   leads_back = record { fits = fits; leads = record { merged = merged; others = refl } }
 
 -- ---- the edit
@@ -102,7 +102,7 @@ module _ (law : (board : PlainBoard) (unit : ℕ) (ids : List ℕ) → IsSound b
       → IsMade (take_out unit) old (without_unit old unit) made
   made_so old unit made sound still back given = record {
     after = refl;
-    leads = subst (λ (d : PlainDeed). LeadsBack d (without_unit old unit) old) (sym back) (leads_back old unit sound);
+    leads = subst (λ (d : PlainDeed). DeedLeadsBack d (without_unit old unit) old) (sym back) (leads_back old unit sound);
     adds_none = subst AddsNone (sym back) tt;
     edited = record {
       rise = subst IsStrictlyIncreasing (sym given) (ids_rise 0 old.next_id (entries_of unit old.items) (rise_filter (is_of unit) 0 old.next_id old.items sound.ids));

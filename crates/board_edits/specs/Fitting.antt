@@ -26,13 +26,13 @@ DeedFits board (take_out unit) = Unit {0}
 DeedFits board (shift unit dx dy) = IsNear dx × IsNear dy × (unit_stays unit dx dy board.items ≡ true)
 
 -- no id and no unit number is given twice: a board that comes back goes on with those of the present
-abbrev pub returned : PlainBoard → PlainBoard → PlainBoard
-returned board now = record board { next_id = now.next_id; next_unit = now.next_unit }
+abbrev pub returned_board : PlainBoard → PlainBoard → PlainBoard
+returned_board board now = record board { next_id = now.next_id; next_unit = now.next_unit }
 
 -- made of the new board, it gives the old one, but for the numbers that come next
-pub record LeadsBack (back : PlainDeed) (new old : PlainBoard) : Type 0 where
+pub record DeedLeadsBack (back : PlainDeed) (new old : PlainBoard) : Type 0 where
   pub fits : DeedFits new back
-  pub leads : After new back (returned old new)
+  pub leads : After new back (returned_board old new)
 
 -- what leads back adds no items that are new
 abbrev pub AddsNone : PlainDeed → Type 0

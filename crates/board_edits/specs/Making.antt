@@ -7,7 +7,7 @@ use Rattle.board_items.specs.Extents.{AreBoundsOf}
 use Rattle.board_items.specs.Parts.{parts_of}
 use Rattle.board_edits.specs.declared.making.Made.{Made}
 use Rattle.board_edits.specs.Deeds.{PlainDeed, nothing, take_out, After}
-use Rattle.board_edits.specs.Fitting.{plain_deed, LeadsBack, AddsNone}
+use Rattle.board_edits.specs.Fitting.{plain_deed, DeedLeadsBack, AddsNone}
 use Rattle.board_edits.specs.Touched.{ids_touched, AreEdited, AreKnown}
 
 -- the item has bounds where it has parts
@@ -31,7 +31,7 @@ without_put (entry ∷ entries) = take_out entry.1.unit
 -- what is known of a deed that was done
 pub record IsMade (deed : PlainDeed) (old new : PlainBoard) (made : Made) : Type 0 where
   pub after : After old deed new
-  pub leads : LeadsBack (plain_deed made.back) new old
+  pub leads : DeedLeadsBack (plain_deed made.back) new old
   pub adds_none : AddsNone (plain_deed made.back)
   pub edited : AreEdited old new made.ids.items
   pub known : AreKnown old (ids_touched old deed) made.ids.items

@@ -8,7 +8,7 @@ ghost use Rattle.board_items.specs.Walks.{unit_left};
 ghost use Rattle.part_read.specs.Ready.{AreReady};
 ghost use Rattle.edit_script.specs.Fits.{IsNear};
 ghost use Rattle.board_edits.specs.Deeds.{After, append, put_back, take_out, shift};
-ghost use Rattle.board_edits.specs.Fitting.{plain_deed, DeedFits, LeadsBack, AddsNone};
+ghost use Rattle.board_edits.specs.Fitting.{plain_deed, DeedFits, DeedLeadsBack, AddsNone};
 ghost use Rattle.board_edits.specs.Making.{HasBounds, ids_of, without_added, without_put, IsMade};
 ghost use Rattle.board_edits.specs.Touched.{ids_touched, AreEdited, AreKnown};
 
@@ -194,7 +194,7 @@ pub fn make(
     requires touched { touched.items ≡ ids_touched board.old (plain_deed deed) }
     ensures after { OnOk result (After board.old (plain_deed deed) board.new) }
     ensures sound { IsSound board.old × IsSound board.new }
-    ensures back { IfOk result (λ made. LeadsBack (plain_deed made.back) board.new board.old × AddsNone (plain_deed made.back)) }
+    ensures back { IfOk result (λ made. DeedLeadsBack (plain_deed made.back) board.new board.old × AddsNone (plain_deed made.back)) }
     ensures edited { IfOk result (λ made. AreEdited board.old board.new made.ids.items) }
     ensures known { IfOk result (λ made. AreKnown board.old (ids_touched board.old (plain_deed deed)) made.ids.items) }
 {

@@ -6,7 +6,7 @@ use Rattle.std.specs.declared.alloc.Global.{Global}
 use Rattle.copper_layers.specs.declared.set.LayerSet.{LayerSet}
 use Rattle.board_items.specs.declared.item.Item.{Item}
 use Rattle.board_items.specs.Boards.{PlainBoard, AreDistinct}
-use Rattle.board_items.specs.Kept.{AreIdsOf, IsWhole}
+use Rattle.board_items.specs.Kept.{AreIdsOf, IsWholeBoard}
 use Rattle.board_items.specs.Slots.{present}
 use Rattle.board_items.proofs.Nets.{absent_parts}
 
@@ -43,15 +43,15 @@ abbrev pub plain : LayerSet → List (ℕ × List ℕ) → List (Option Item) �
 plain copper nets slots next_unit = record { copper = copper; nets = nets; items = present 0 slots; next_id = length slots; next_unit = next_unit }
 
 pub whole_copied : (copper : LayerSet) (next_unit live : ℕ) (in_order : Bool) (nets nets2 : List (ℕ × List ℕ)) (slots slots2 : List (Option Item)) (marks marks2 notes notes2 tags tags2 units units2 : List ℕ) (lists lists2 : List (Vec ℕ Global))
-    → IsWhole (plain copper nets slots next_unit) marks notes lists live slots tags units in_order → nets2 ≡ nets → slots2 ≡ slots → marks2 ≡ marks → notes2 ≡ notes → tags2 ≡ tags → units2 ≡ units → lists_of lists2 ≡ lists_of lists
-    → IsWhole (plain copper nets2 slots2 next_unit) marks2 notes2 lists2 live slots2 tags2 units2 in_order
+    → IsWholeBoard (plain copper nets slots next_unit) marks notes lists live slots tags units in_order → nets2 ≡ nets → slots2 ≡ slots → marks2 ≡ marks → notes2 ≡ notes → tags2 ≡ tags → units2 ≡ units → lists_of lists2 ≡ lists_of lists
+    → IsWholeBoard (plain copper nets2 slots2 next_unit) marks2 notes2 lists2 live slots2 tags2 units2 in_order
 whole_copied copper next_unit live in_order nets nets2 slots slots2 marks marks2 notes notes2 tags tags2 units units2 lists lists2 h en es em eo et eu el =
-    subst (λ (ns : List (ℕ × List ℕ)). IsWhole (plain copper ns slots2 next_unit) marks2 notes2 lists2 live slots2 tags2 units2 in_order) (sym en)
-    (subst (λ (ss : List (Option Item)). IsWhole (plain copper nets ss next_unit) marks2 notes2 lists2 live ss tags2 units2 in_order) (sym es)
-    (subst (λ (ms : List ℕ). IsWhole (plain copper nets slots next_unit) ms notes2 lists2 live slots tags2 units2 in_order) (sym em)
-    (subst (λ (ms : List ℕ). IsWhole (plain copper nets slots next_unit) marks ms lists2 live slots tags2 units2 in_order) (sym eo)
-    (subst (λ (ts : List ℕ). IsWhole (plain copper nets slots next_unit) marks notes lists2 live slots ts units2 in_order) (sym et)
-    (subst (λ (us : List ℕ). IsWhole (plain copper nets slots next_unit) marks notes lists2 live slots tags us in_order) (sym eu)
+    subst (λ (ns : List (ℕ × List ℕ)). IsWholeBoard (plain copper ns slots2 next_unit) marks2 notes2 lists2 live slots2 tags2 units2 in_order) (sym en)
+    (subst (λ (ss : List (Option Item)). IsWholeBoard (plain copper nets ss next_unit) marks2 notes2 lists2 live ss tags2 units2 in_order) (sym es)
+    (subst (λ (ms : List ℕ). IsWholeBoard (plain copper nets slots next_unit) ms notes2 lists2 live slots tags2 units2 in_order) (sym em)
+    (subst (λ (ms : List ℕ). IsWholeBoard (plain copper nets slots next_unit) marks ms lists2 live slots tags2 units2 in_order) (sym eo)
+    (subst (λ (ts : List ℕ). IsWholeBoard (plain copper nets slots next_unit) marks notes lists2 live slots ts units2 in_order) (sym et)
+    (subst (λ (us : List ℕ). IsWholeBoard (plain copper nets slots next_unit) marks notes lists2 live slots tags us in_order) (sym eu)
     (record {
       kept = record { sound = h.kept.sound; marks = h.kept.marks; of_nets = ids_copied (present 0 slots) nets lists lists2 h.kept.of_nets el; count = h.kept.count };
       notes = h.notes;

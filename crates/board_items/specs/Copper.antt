@@ -16,12 +16,12 @@ pub record SomeMeet (parts others : List Part) : Type 0 where
   pub some : Any (λ part. Any (λ other. Meet part.shape other.shape) others) parts
 
 -- no part of the one list and part of the other are nearer to each other than v nanometres
-pub record AreApart (parts others : List Part) (v : ℤ) : Type 0 where
+pub record PartsAreApart (parts others : List Part) (v : ℤ) : Type 0 where
   pub each : All (λ part. All (λ other. Apart part.shape other.shape (pos 2 *ℤ v)) others) parts
 
 -- the two lists keep the distance v; nothing has to be kept where it is 0
 abbrev pub Keeps : List Part → List Part → ℤ → Type 0
-Keeps parts others v = (v ≡ pos 0) ⊎ AreApart parts others v
+Keeps parts others v = (v ≡ pos 0) ⊎ PartsAreApart parts others v
 
 -- the copper of the two items meets on the layer
 abbrev pub MeetOn : ℕ → Item → Item → Type 0

@@ -28,7 +28,7 @@ pub record IsKept (board : PlainBoard) (mark_ids : List ℕ) (net_ids : List (Ve
   pub count : live ≡ length board.items
 
 -- the same with the row of slots, beside which the tag and the unit of each stand, and which is in order where units rise along it
-pub record IsWhole (board : PlainBoard) (mark_ids note_ids : List ℕ) (net_ids : List (Vec ℕ Global)) (live : ℕ) (slots : List (Option Item)) (tags units : List ℕ) (in_order : Bool) : Type 0 where
+pub record IsWholeBoard (board : PlainBoard) (mark_ids note_ids : List ℕ) (net_ids : List (Vec ℕ Global)) (live : ℕ) (slots : List (Option Item)) (tags units : List ℕ) (in_order : Bool) : Type 0 where
   pub kept : IsKept board mark_ids net_ids live
   pub notes : note_ids ≡ notes_of board.items
   pub tags_in : AreTagsIn slots tags

@@ -66,14 +66,14 @@ pub struct Board {
 impl Model for Board {
     ghost use Rattle.std.specs.Prelude.{length};
     ghost use Rattle.board_items.specs.Boards.{PlainBoard};
-    ghost use Rattle.board_items.specs.Kept.{IsWhole};
+    ghost use Rattle.board_items.specs.Kept.{IsWholeBoard};
     ghost use Rattle.board_items.specs.Slots.{present};
 
     ghost Value = { PlainBoard };
 
     ghost view = { λ b. record { copper = b.copper; nets = b.names.entries; items = present 0 b.slots.items; next_id = length b.slots.items; next_unit = b.next_unit } };
 
-    ghost invariant = { λ b. IsWhole (record { copper = b.copper; nets = b.names.entries; items = present 0 b.slots.items; next_id = length b.slots.items; next_unit = b.next_unit }) b.marks.items b.notes.items b.of_nets.items b.live b.slots.items b.tags.items b.units.items b.in_order };
+    ghost invariant = { λ b. IsWholeBoard (record { copper = b.copper; nets = b.names.entries; items = present 0 b.slots.items; next_id = length b.slots.items; next_unit = b.next_unit }) b.marks.items b.notes.items b.of_nets.items b.live b.slots.items b.tags.items b.units.items b.in_order };
 }
 
 // Whether all these parts lie on layers of the board.

@@ -6,16 +6,16 @@ use Rattle.tree_text.specs.Anew.{leaves, becomes}
 use Rattle.read_alike.specs.Alike.{Shift}
 use Rattle.read_alike.specs.Moving.{moved}
 use Rattle.board_alike.specs.Written.{Draft, is_gone, shift_of_unit, first_at, moved_unit, moved_if, fate_by, unit_fate, inside_of, span_of, added_one, added_trees}
-use Rattle.board_write.specs.declared.distance.Shift.{Shift as CodeShift}
+use Rattle.board_write.specs.declared.distance.Distance.{Distance}
 use Rattle.board_write.specs.declared.marks.Mark.{Mark}
 use Rattle.board_write.specs.declared.marks.Mark.TheVariants.{Stays, Gone, Moved}
 use Rattle.board_write.specs.declared.places.Moving.TheVariants.{First, All}
-use Rattle.board_write.specs.declared.course.Added.{Added}
+use Rattle.board_write.specs.declared.course.AddedList.{AddedList}
 use Rattle.board_write.specs.Marks.{plain_shift, plain_mark, mark_at, mark_of_unit, mark_by, mark_in, AreMarks}
 use Rattle.board_write.specs.Settings.{inside, renewed, unit_moving}
 use Rattle.board_write.specs.Fates.{mark_fate, one_list, plain_added, one_by, added_by}
 
-unit_renewed : (by : CodeShift) (f : Forest) → renewed (unit_moving by f) f ≡ moved_unit (plain_shift by) f
+unit_renewed : (by : Distance) (f : Forest) → renewed (unit_moving by f) f ≡ moved_unit (plain_shift by) f
 unit_renewed by f = by_head (first_is (trees f) (codes "footprint"))
   where
     by_head : (b : Bool) → renewed (cond b (First by) (All by)) f ≡ cond b (first_at (plain_shift by) f) (moved (plain_shift by) f)
@@ -41,7 +41,7 @@ as_it_is : (t : Tree) (others : Forest) → list (span t) (inside t) others ≡ 
 as_it_is (leaf s q c) others = refl
 as_it_is (branch s i) others = refl
 
-as_moved : (t : Tree) (by : CodeShift) (others : Forest) → list (span t) (renewed (unit_moving by (inside t)) (inside t)) others ≡ list (span_of t) (moved_unit (plain_shift by) (inside_of t)) others
+as_moved : (t : Tree) (by : Distance) (others : Forest) → list (span t) (renewed (unit_moving by (inside t)) (inside t)) others ≡ list (span_of t) (moved_unit (plain_shift by) (inside_of t)) others
 as_moved (leaf s q c) by others = ap (λ (g : Forest). list s g others) (unit_renewed by none)
 as_moved (branch s i) by others = ap (λ (g : Forest). list s g others) (unit_renewed by i)
 
@@ -61,7 +61,7 @@ one_added draft marks (Some u) t others are = by_draft (mark_at marks u) (is_gon
     by_draft (Moved by) false (Some other) e =
         let same : plain_shift by ≡ other = cc in as_moved t by others ∙ ap (λ (s : Shift). list (span_of t) (moved_unit s (inside_of t)) others) same
 
-pub all_added : (draft : Draft) (marks : List Mark) (added : List Added) → AreMarks draft marks → added_by marks added ≡ added_trees draft (map plain_added added)
+pub all_added : (draft : Draft) (marks : List Mark) (added : List AddedList) → AreMarks draft marks → added_by marks added ≡ added_trees draft (map plain_added added)
 all_added draft marks [] are = refl
 all_added draft marks (a ∷ more) are =
     ap (one_by (mark_of_unit marks a.unit) (one_list a)) (all_added draft marks more are) ∙ one_added draft marks a.unit (one_list a) (added_trees draft (map plain_added more)) are

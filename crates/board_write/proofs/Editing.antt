@@ -9,7 +9,7 @@ use Rattle.board_write.specs.declared.marks.Mark.{Mark}
 use Rattle.board_write.specs.declared.marks.Mark.TheVariants.{Stays, Gone, Moved}
 use Rattle.board_write.specs.declared.setting.Setting.TheVariants.{AsInText, Spaced}
 use Rattle.board_write.specs.declared.places.Moving.{Moving}
-use Rattle.board_write.specs.declared.course.Added.{Added}
+use Rattle.board_write.specs.declared.course.AddedList.{AddedList}
 use Rattle.board_write.specs.Marks.{mark_of_unit}
 use Rattle.board_write.specs.Settings.{grove, inside, set_down, renewed, list_down, unit_moving, moving_by}
 use Rattle.board_write.specs.Opened.{atom_down}
@@ -113,12 +113,12 @@ spaced_one Stays t others = ap (λ (l : List ℕ). 32 ∷ (40 ∷ l)) (sym (appe
 spaced_one (Moved by) t others =
     ap (λ (l : List ℕ). 32 ∷ (40 ∷ l)) (sym (append_assoc (spaced true (renewed (unit_moving by (inside t)) (inside t))) (41 ∷ []) (spaced false others)))
 
-pub past_added : (marks : List Mark) (added : Added) (left later : List Added) (was now all : List ℕ) → left ≡ added ∷ later → was ++ spaced false (added_by marks left) ≡ all → now ≡ was ++ one_down marks added
+pub past_added : (marks : List Mark) (added : AddedList) (left later : List AddedList) (was now all : List ℕ) → left ≡ added ∷ later → was ++ spaced false (added_by marks left) ≡ all → now ≡ was ++ one_down marks added
     → now ++ spaced false (added_by marks later) ≡ all
 past_added marks added left later was now all steps holds e =
     more was (one_down marks added) e (spaced false (added_by marks later))
     ∙ ap (λ (l : List ℕ). was ++ l) (sym (spaced_one (mark_of_unit marks added.unit) (one_list added) (added_by marks later)))
-    ∙ ap (λ (l : List Added). was ++ spaced false (added_by marks l)) (sym steps)
+    ∙ ap (λ (l : List AddedList). was ++ spaced false (added_by marks l)) (sym steps)
     ∙ holds
 
 -- ---- the whole

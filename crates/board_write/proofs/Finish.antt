@@ -20,9 +20,9 @@ use Rattle.pcb_read.specs.Spans.{AreSpans}
 use Rattle.tree_text.specs.Anew.{Fate, edited_whole}
 use Rattle.board_alike.specs.Written.{Draft, untouched, with_changes, FatesAre, span_of, inside_of, added_trees, IsWritten}
 use Rattle.board_write.specs.declared.marks.Mark.{Mark}
-use Rattle.board_write.specs.declared.course.Added.{Added}
+use Rattle.board_write.specs.declared.course.AddedList.{AddedList}
 use Rattle.board_write.specs.declared.course.Course.{Course}
-use Rattle.board_write.specs.declared.source.Source.{Source}
+use Rattle.board_write.specs.declared.source.SourceText.{SourceText}
 use Rattle.board_write.specs.Marks.{mark_in, AreMarks}
 use Rattle.board_write.specs.Settings.{inside}
 use Rattle.board_write.specs.Fates.{fates_by, added_by}
@@ -63,7 +63,7 @@ root_parts : (text : List ℕ) (root : Tree) (fates : List Fate) (added : Forest
 root_parts text (leaf s q c) fates added = refl
 root_parts text (branch s f) fates added = refl
 
-pub finish : (text : List ℕ) (commands : List PlainCommand) (source : Source) (course : Course) (whole : List ℕ) → IsSource text source → Reached source.board commands course
+pub finish : (text : List ℕ) (commands : List PlainCommand) (source : SourceText) (course : Course) (whole : List ℕ) → IsSource text source → Reached source.board commands course
     → whole ≡ edited_whole text (span (root_of source.doc)) (fates_by course.marks.items source.spans (parts (root_of source.doc))) (inside (root_of source.doc)) (added_by course.marks.items course.added.items)
     → (outcome : Outcome text commands course.refused) × (whole ≡ outcome.out)
 finish text commands source course whole is r e =
@@ -90,7 +90,7 @@ finish text commands source course whole is r e =
 
 -- ---- what was read
 
-pub read_is : (text : List ℕ) (source : Source) → refusal_of_one text ≡ None → Spells text (root_of source.doc) → levels (root_of source.doc) ≤ 64 → SaysBoard (root_of source.doc) (Ok source.board)
+pub read_is : (text : List ℕ) (source : SourceText) → refusal_of_one text ≡ None → Spells text (root_of source.doc) → levels (root_of source.doc) ≤ 64 → SaysBoard (root_of source.doc) (Ok source.board)
     → AreSpans (root_of source.doc) source.spans → length source.spans ≡ source.board.next_unit → IsSource text source
 read_is text source accepted spelled shallow says spans each = record { accepted = accepted; spelled = spelled; shallow = shallow; says = says; spans = spans; each = each }
 
@@ -99,7 +99,7 @@ keeps_itself None = tt
 keeps_itself (Some bytes) = refl
 
 -- the same of what the call holds
-pub finish_by : (text : List ℕ) (commands : List PlainCommand) (source : Source) (board : PlainBoard) (doc : Doc) (course : Course) (marks : List Mark) (spans : List Span) (added : List Added) (whole : List ℕ) → IsSource text source
+pub finish_by : (text : List ℕ) (commands : List PlainCommand) (source : SourceText) (board : PlainBoard) (doc : Doc) (course : Course) (marks : List Mark) (spans : List Span) (added : List AddedList) (whole : List ℕ) → IsSource text source
     → board ≡ source.board → doc ≡ source.doc → spans ≡ source.spans → marks ≡ course.marks.items → added ≡ course.added.items → Reached board commands course
     → whole ≡ edited_whole text (span (root_of doc)) (fates_by marks spans (parts (root_of doc))) (inside (root_of doc)) (added_by marks added) → (outcome : Outcome text commands course.refused) × (whole ≡ outcome.out)
 finish_by text commands source board doc course marks spans added whole is b d s m a r e =
@@ -108,4 +108,4 @@ finish_by text commands source board doc course marks spans added whole is b d s
     ∙ ap (λ (x : Doc). edited_whole text (span (root_of x)) (fates_by marks spans (parts (root_of x))) (inside (root_of x)) (added_by marks added)) d
     ∙ ap (λ (x : List Span). edited_whole text (span (root_of source.doc)) (fates_by marks x (parts (root_of source.doc))) (inside (root_of source.doc)) (added_by marks added)) s
     ∙ ap (λ (x : List Mark). edited_whole text (span (root_of source.doc)) (fates_by x source.spans (parts (root_of source.doc))) (inside (root_of source.doc)) (added_by x added)) m
-    ∙ ap (λ (x : List Added). edited_whole text (span (root_of source.doc)) (fates_by course.marks.items source.spans (parts (root_of source.doc))) (inside (root_of source.doc)) (added_by course.marks.items x)) a)
+    ∙ ap (λ (x : List AddedList). edited_whole text (span (root_of source.doc)) (fates_by course.marks.items source.spans (parts (root_of source.doc))) (inside (root_of source.doc)) (added_by course.marks.items x)) a)

@@ -4,7 +4,7 @@ use Rattle.exact_dec.specs.Computed.{mm_cut_answer}
 use Rattle.sexpr_read.specs.Tree.{Forest, none, atom, list, Tree, leaf, branch, trees, parts, value, is_list, levels, levels_in}
 use Rattle.list_read.specs.Heads.{first_is, has_head}
 use Rattle.read_alike.specs.Alike.{Shift, is_place_head, both, moved_by, place_moved}
-use Rattle.board_write.specs.declared.distance.Shift.{Shift as CodeShift}
+use Rattle.board_write.specs.declared.distance.Distance.{Distance}
 use Rattle.board_write.specs.declared.places.Moving.TheVariants.{Nothing, First, All}
 use Rattle.board_write.specs.Marks.{plain_shift}
 use Rattle.board_write.specs.Settings.{grove, inside, own_place, behind, unit_moving}
@@ -40,22 +40,22 @@ unfolding has_head
 head_is word (leaf s q c) = refl
 head_is word (branch s i) = refl
 
-pub unit_first : (by : CodeShift) (t : Tree) → has_head (codes "footprint") t ≡ true → First by ≡ unit_moving by (inside t)
+pub unit_first : (by : Distance) (t : Tree) → has_head (codes "footprint") t ≡ true → First by ≡ unit_moving by (inside t)
 unit_first by t h = let e : first_is (trees (inside t)) (codes "footprint") ≡ true = sym (head_is (codes "footprint") t) ∙ h in rw e refl
 
-pub unit_all : (by : CodeShift) (t : Tree) → has_head (codes "footprint") t ≡ false → All by ≡ unit_moving by (inside t)
+pub unit_all : (by : Distance) (t : Tree) → has_head (codes "footprint") t ≡ false → All by ≡ unit_moving by (inside t)
 unit_all by t h = let e : first_is (trees (inside t)) (codes "footprint") ≡ false = sym (head_is (codes "footprint") t) ∙ h in rw e refl
 
-pub own_at : (by : CodeShift) (t : Tree) → has_head (codes "at") t ≡ true → place_moved (plain_shift by) (inside t) ≡ own_place (First by) (inside t)
+pub own_at : (by : Distance) (t : Tree) → has_head (codes "at") t ≡ true → place_moved (plain_shift by) (inside t) ≡ own_place (First by) (inside t)
 own_at by t h = let e : first_is (trees (inside t)) (codes "at") ≡ true = sym (head_is (codes "at") t) ∙ h in rw e refl
 
-pub own_other : (by : CodeShift) (t : Tree) → has_head (codes "at") t ≡ false → None ≡ own_place (First by) (inside t)
+pub own_other : (by : Distance) (t : Tree) → has_head (codes "at") t ≡ false → None ≡ own_place (First by) (inside t)
 own_other by t h = let e : first_is (trees (inside t)) (codes "at") ≡ false = sym (head_is (codes "at") t) ∙ h in rw e refl
 
-pub behind_at : (by : CodeShift) (t : Tree) → has_head (codes "at") t ≡ true → Nothing ≡ behind (First by) (inside t)
+pub behind_at : (by : Distance) (t : Tree) → has_head (codes "at") t ≡ true → Nothing ≡ behind (First by) (inside t)
 behind_at by t h = let e : first_is (trees (inside t)) (codes "at") ≡ true = sym (head_is (codes "at") t) ∙ h in rw e refl
 
-pub behind_other : (by : CodeShift) (t : Tree) → has_head (codes "at") t ≡ false → First by ≡ behind (First by) (inside t)
+pub behind_other : (by : Distance) (t : Tree) → has_head (codes "at") t ≡ false → First by ≡ behind (First by) (inside t)
 behind_other by t h = let e : first_is (trees (inside t)) (codes "at") ≡ false = sym (head_is (codes "at") t) ∙ h in rw e refl
 
 -- ---- places

@@ -8,7 +8,7 @@ use Rattle.board_items.specs.Boards.{PlainBoard}
 use Rattle.tree_text.specs.Anew.{Fate}
 use Rattle.pcb_read.specs.Sorts.{sort_of}
 use Rattle.pcb_read.specs.BoardOf.{Reading, SaysBoard, unread}
-use Rattle.pcb_read.specs.BoardText.{Says, SaysAfter}
+use Rattle.pcb_read.specs.BoardText.{BoardSays, TextSaysAfter}
 use Rattle.pcb_read.proofs.OneReading.{one_part}
 use Rattle.edit_script.specs.Commands.{PlainCommand, add, delete, move, rules, again}
 use Rattle.board_edits.specs.declared.refusal.Refusal.{Refusal}
@@ -85,11 +85,11 @@ module _ (one_deed : (board : PlainBoard) (command : PlainCommand) (a b : Result
 
 module _ (one_tree : (text : List ℕ) (s t : Tree) → Spells text s → Spells text t → s ≡ t)
     (one_forms : (text : List ℕ) (s t : Tree) → SpellsAll text s → SpellsAll text t → s ≡ t)
-    (one_reading : (text : List ℕ) (a b : Result PlainBoard BoardError) → Says text a → Says text b → a ≡ b)
+    (one_reading : (text : List ℕ) (a b : Result PlainBoard BoardError) → BoardSays text a → BoardSays text b → a ≡ b)
     (one_deed : (board : PlainBoard) (command : PlainCommand) (a b : Result PlainDeed Refusal) → Does board command a → Does board command b → a ≡ b)
     (one_board : (old : PlainBoard) (deed : PlainDeed) (a b : PlainBoard) → After old deed a → After old deed b → a ≡ b) where
-  says : (text : List ℕ) (root : Tree) (board : PlainBoard) → refusal_of_one text ≡ None → Spells text root → SaysBoard root (Ok board) → Says text (Ok board)
-  says text root board accepted spelled of = subst (λ r. SaysAfter text r (Ok board)) (sym accepted) (root, spelled, of)
+  says : (text : List ℕ) (root : Tree) (board : PlainBoard) → refusal_of_one text ≡ None → Spells text root → SaysBoard root (Ok board) → BoardSays text (Ok board)
+  says text root board accepted spelled of = subst (λ r. TextSaysAfter text r (Ok board)) (sym accepted) (root, spelled, of)
 
   one_text : (text : List ℕ) (commands : List PlainCommand) (o p : List ℕ) (x y : PlainBoard) (v : IsWritten text commands o x) (w : IsWritten text commands p y) → (v.answers ≡ w.answers) × (o ≡ p)
   one_text text commands o p x y v w =

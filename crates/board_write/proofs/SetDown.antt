@@ -7,7 +7,7 @@ use Rattle.list_read.specs.Heads.{first_is}
 use Rattle.read_alike.specs.Alike.{place_moved}
 use Rattle.read_alike.specs.Moving.{put_if}
 use Rattle.board_alike.specs.Written.{first_at}
-use Rattle.board_write.specs.declared.distance.Shift.{Shift as CodeShift}
+use Rattle.board_write.specs.declared.distance.Distance.{Distance}
 use Rattle.board_write.specs.declared.setting.Setting.{Setting}
 use Rattle.board_write.specs.declared.setting.Left.{Left}
 use Rattle.board_write.specs.declared.places.Moving.{Moving}
@@ -30,7 +30,7 @@ atom_renewed Nothing (leaf s q c) others h setting from to first ts = refl
 atom_renewed (First by) (leaf s q c) others h setting from to first ts = refl
 atom_renewed (All by) (leaf s q c) others h setting from to first ts = refl
 
-first_list : (by : CodeShift) (t : Tree) (ts : List Tree) → is_list t ≡ true → renewed (First by) (grove (t ∷ ts)) ≡ list (span t) (renewed_inside (First by) (inside t)) (renewed (behind (First by) (inside t)) (grove ts))
+first_list : (by : Distance) (t : Tree) (ts : List Tree) → is_list t ≡ true → renewed (First by) (grove (t ∷ ts)) ≡ list (span t) (renewed_inside (First by) (inside t)) (renewed (behind (First by) (inside t)) (grove ts))
 first_list by (leaf s q c) ts h = absurd cc
 first_list by (branch s i) ts h = by_head (first_is (trees i) (codes "at"))
   where

@@ -8,15 +8,15 @@ use Rattle.board_errors.specs.declared.errors.BoardError.{BoardError}
 use Rattle.board_errors.specs.declared.errors.BoardError.TheVariants.{Text, NotABoard, Version, Missing, BadNumber, OutOfBoard, Arc, Turned, PadShape, Ring, UnknownNet, UnknownLayer, ThickFill, TooMany, OutOfMemory as NoMemory}
 use Rattle.board_items.specs.Boards.{PlainBoard}
 use Rattle.pcb_read.specs.BoardOf.{SaysBoard}
-use Rattle.pcb_read.specs.BoardText.{Says, SaysAfter}
+use Rattle.pcb_read.specs.BoardText.{BoardSays, TextSaysAfter}
 use Rattle.board_write.specs.declared.error.WriteError.{WriteError}
 use Rattle.board_write.specs.declared.error.WriteError.TheVariants.{Board, OutOfMemory}
 use Rattle.board_write.specs.Answers.{IsCauseBefore}
 use Rattle.board_write.specs.Causes.{write_error}
 
 -- what the tree of a text says, the text says
-pub tree_says : (text : List ℕ) (tree : Tree) (answer : Result PlainBoard BoardError) → refusal_of_one text ≡ None → Spells text tree → SaysBoard tree answer → Says text answer
-tree_says text tree answer none spelled h = subst (λ (refused : Option TextError). SaysAfter text refused answer) (sym none) (tree, spelled, h)
+pub tree_says : (text : List ℕ) (tree : Tree) (answer : Result PlainBoard BoardError) → refusal_of_one text ≡ None → Spells text tree → SaysBoard tree answer → BoardSays text answer
+tree_says text tree answer none spelled h = subst (λ (refused : Option TextError). TextSaysAfter text refused answer) (sym none) (tree, spelled, h)
 
 one_of_two : (e : BoardError) → (write_error e ≡ OutOfMemory) ⊎ (write_error e ≡ Board e)
 one_of_two (Text x) = inr refl
@@ -45,7 +45,7 @@ module _ (text : List ℕ) (tree : Tree) (e : BoardError) (none : refusal_of_one
       by (inr says) (inr w) = subst (IsCauseBefore text) (sym w) (tree_says text tree (Err e) none spelled says)
 
   -- and where the text is refused, this is its refusal
-  pub tree_refused : ((a b : Result PlainBoard BoardError) → Says text a → Says text b → a ≡ b) → (why : BoardError) → Says text (Err why) → (write_error e ≡ Board why) ⊎ (write_error e ≡ OutOfMemory)
+  pub tree_refused : ((a b : Result PlainBoard BoardError) → BoardSays text a → BoardSays text b → a ≡ b) → (why : BoardError) → BoardSays text (Err why) → (write_error e ≡ Board why) ⊎ (write_error e ≡ OutOfMemory)
   tree_refused one why told = by given (one_of_two e)
     where
       by : (e ≡ NoMemory) ⊎ SaysBoard tree (Err e) → (write_error e ≡ OutOfMemory) ⊎ (write_error e ≡ Board e) → (write_error e ≡ Board why) ⊎ (write_error e ≡ OutOfMemory)
@@ -58,7 +58,7 @@ module _ (text : List ℕ) (tree : Tree) (e : BoardError) (none : refusal_of_one
 
 -- a text of which a board is read is not refused
 pub read_not_refused : (text : List ℕ) (tree : Tree) (board : PlainBoard) (why : BoardError) → refusal_of_one text ≡ None → Spells text tree → SaysBoard tree (Ok board)
-    → ((a b : Result PlainBoard BoardError) → Says text a → Says text b → a ≡ b) → Says text (Err why) → ⊥
+    → ((a b : Result PlainBoard BoardError) → BoardSays text a → BoardSays text b → a ≡ b) → BoardSays text (Err why) → ⊥
 read_not_refused text tree board why none spelled says one told =
     let both : (let r : Result PlainBoard BoardError = Ok board in r) ≡ Err why = one (Ok board) (Err why) (tree_says text tree (Ok board) none spelled says) told in
     cc

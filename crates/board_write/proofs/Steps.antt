@@ -25,13 +25,13 @@ use Rattle.board_items.specs.Units.{found_of}
 use Rattle.part_read.specs.Ready.{IsReady}
 use Rattle.edit_script.specs.Commands.{PlainCommand, add, delete, move, rules, again}
 use Rattle.read_alike.specs.Alike.{Shift}
-use Rattle.pcb_read.specs.ItemText.{answer_further, alone, SaysAlone, SaysAfter, SaysText}
+use Rattle.pcb_read.specs.ItemText.{answer_further, alone, SaysAlone, ItemSaysAfter, SaysText}
 use Rattle.board_edits.specs.declared.refusal.Refusal.{Refusal}
 use Rattle.board_edits.specs.declared.refusal.Refusal.TheVariants.{Item as ItemRefused}
 use Rattle.board_edits.specs.Deeds.{PlainDeed, nothing, append, put_back, take_out, shift, After, appended, to_unit, shifted, Does, IsLeft, DoAll}
 use Rattle.board_edits.specs.Fitting.{DeedFits}
 use Rattle.board_alike.specs.Changes.{Change, unchanged, takes_out, shifts, appends, IsListIn, IsChangeBy, IsChange, AreChanges, IsNamed}
-use Rattle.board_alike.specs.Written.{Draft, Added as PlainAdded, untouched, with_list, with_change, with_changes}
+use Rattle.board_alike.specs.Written.{Draft, Added, untouched, with_list, with_change, with_changes}
 use Rattle.board_alike.proofs.Ledger.{UnitsOf, next_with}
 use Rattle.board_alike.proofs.Turning.{one_change}
 use Rattle.board_write.specs.declared.marks.Mark.{Mark}
@@ -54,7 +54,7 @@ said_list board unit (t ∷ u ∷ us) items says = by_test (is_list t) says
     by_test true says = absurd cc
     by_test false says = absurd cc
 
-said_after : (board : PlainBoard) (unit : ℕ) (text : List ℕ) (items : List Item) (forms : Tree) (o : Option TextError) → SpellsAll text forms → SaysAfter board unit text o (Ok items) → (t : Tree) × (parts forms ≡ t ∷ [])
+said_after : (board : PlainBoard) (unit : ℕ) (text : List ℕ) (items : List Item) (forms : Tree) (o : Option TextError) → SpellsAll text forms → ItemSaysAfter board unit text o (Ok items) → (t : Tree) × (parts forms ≡ t ∷ [])
 said_after board unit text items forms (Some e) spelled says = absurd cc
 said_after board unit text items forms None spelled (others, read, says) =
     let same : others ≡ forms = unique_forms text others forms read spelled in
@@ -224,7 +224,7 @@ module _ (command : PlainCommand) (old new : Course) (draft : Draft) (sound : Is
 
     added_now : (unit : Option ℕ) → n.list.unit ≡ unit → draft.added ++ record { unit = unit; tree = one_list n.list } ∷ [] ≡ map plain_added new.added.items
     added_now unit e =
-        ap (λ (l : List PlainAdded). l ++ record { unit = unit; tree = one_list n.list } ∷ []) h.added
+        ap (λ (l : List Added). l ++ record { unit = unit; tree = one_list n.list } ∷ []) h.added
         ∙ ap (λ (o : Option ℕ). map plain_added old.added.items ++ record { unit = o; tree = one_list n.list } ∷ []) (sym e)
         ∙ sym (map-append plain_added old.added.items (n.list ∷ []))
         ∙ ap (map plain_added) (sym n.added)

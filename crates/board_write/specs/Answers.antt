@@ -5,7 +5,7 @@ use Rattle.drc_io.specs.Causes.{Rose}
 use Rattle.drc_io.specs.Sinks.{AppendsFront}
 use Rattle.board_items.specs.Boards.{PlainBoard}
 use Rattle.edit_script.specs.Commands.{PlainCommand}
-use Rattle.pcb_read.specs.BoardText.{Says}
+use Rattle.pcb_read.specs.BoardText.{BoardSays}
 use Rattle.board_edits.specs.declared.refusal.Refusal.{Refusal}
 use Rattle.board_edits.specs.Deeds.{PlainDeed}
 use Rattle.board_alike.specs.Written.{IsWritten}
@@ -38,12 +38,12 @@ WroteFront text commands old new = (refused : ℕ) × (outcome : Outcome text co
 
 -- why no text came of it
 abbrev pub IsCauseBefore : List ℕ → WriteError → Type 0
-IsCauseBefore text (Board e) = Says text (Err e)
+IsCauseBefore text (Board e) = BoardSays text (Err e)
 IsCauseBefore text Failed = ⊥
 IsCauseBefore text OutOfMemory = ⊤
 
 -- why nothing came of it: the text is refused, which wrote nothing; the sink failed in between; or memory ran out, before anything was written
 abbrev pub IsCause : List ℕ → List PlainCommand → Option (List ℕ) → Option (List ℕ) → ℕ → ℕ → WriteError → Type 0
-IsCause text commands old new before now (Board e) = Says text (Err e) × Keeps old new
+IsCause text commands old new before now (Board e) = BoardSays text (Err e) × Keeps old new
 IsCause text commands old new before now Failed = WroteFront text commands old new × Rose before now
 IsCause text commands old new before now OutOfMemory = Keeps old new

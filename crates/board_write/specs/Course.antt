@@ -11,7 +11,7 @@ use Rattle.board_edits.specs.Fitting.{DeedFits}
 use Rattle.board_alike.specs.Changes.{Change, AreChanges}
 use Rattle.board_alike.specs.Written.{Draft, untouched, with_changes}
 use Rattle.board_write.specs.declared.marks.Mark.TheVariants.{Stays, Gone}
-use Rattle.board_write.specs.declared.course.Added.{Added}
+use Rattle.board_write.specs.declared.course.AddedList.{AddedList}
 use Rattle.board_write.specs.declared.course.Course.{Course}
 use Rattle.board_write.specs.Marks.{plain_mark, mark_at, AreMarks, IsMarkedOn, IsShort}
 use Rattle.board_write.specs.Fates.{IsAlone, plain_added}
@@ -30,7 +30,7 @@ pub record SameNotes (old new : Course) : Type 0 where
 
 -- the list of the text is noted last, and where it gives items it is the unit that comes next, which stays
 pub record IsListNoted (text : List ℕ) (is_empty : Bool) (old new : Course) : Type 0 where
-  pub list : Added
+  pub list : AddedList
   pub spelled : SpellsAll text (root_of list.doc)
   pub unit : list.unit ≡ (if is_empty then None else Some old.board.next_unit)
   pub added : new.added.items ≡ old.added.items ++ list ∷ []

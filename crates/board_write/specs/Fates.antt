@@ -4,10 +4,10 @@ use Rattle.sexpr_read.specs.declared.place.Span.{Span}
 use Rattle.sexpr_read.specs.Tree.{Forest, none, list, Tree, leaf, branch, span, parts}
 use Rattle.sexpr_read.specs.Views.{root_of}
 use Rattle.tree_text.specs.Anew.{Fate, stays, leaves, becomes, spaced}
-use Rattle.board_alike.specs.Written.{Added as PlainAdded}
+use Rattle.board_alike.specs.Written.{Added}
 use Rattle.board_write.specs.declared.marks.Mark.{Mark}
 use Rattle.board_write.specs.declared.marks.Mark.TheVariants.{Stays, Gone, Moved}
-use Rattle.board_write.specs.declared.course.Added.{Added}
+use Rattle.board_write.specs.declared.course.AddedList.{AddedList}
 use Rattle.board_write.specs.Marks.{mark_at, mark_of_unit}
 use Rattle.board_write.specs.Settings.{inside, renewed, unit_moving}
 
@@ -48,13 +48,13 @@ abbrev pub first_of : List Tree → Tree
 first_of [] = leaf (record { at = 0; end = 0 }) false []
 first_of (t ∷ ts) = t
 
-abbrev pub one_list : Added → Tree
+abbrev pub one_list : AddedList → Tree
 one_list added = first_of (parts (root_of added.doc))
 
-abbrev pub IsAlone : Added → Type 0
+abbrev pub IsAlone : AddedList → Type 0
 IsAlone added = (t : Tree) × (parts (root_of added.doc) ≡ t ∷ [])
 
-abbrev pub plain_added : Added → PlainAdded
+abbrev pub plain_added : AddedList → Added
 plain_added added = record { unit = added.unit; tree = one_list added }
 
 -- the list as it now is, before others
@@ -63,10 +63,10 @@ one_by Gone t others = others
 one_by Stays t others = list (span t) (inside t) others
 one_by (Moved by) t others = list (span t) (renewed (unit_moving by (inside t)) (inside t)) others
 
-abbrev pub added_by : List Mark → List Added → Forest
+abbrev pub added_by : List Mark → List AddedList → Forest
 added_by marks [] = none
 added_by marks (added ∷ others) = one_by (mark_of_unit marks added.unit) (one_list added) (added_by marks others)
 
 -- its text
-abbrev pub one_down : List Mark → Added → List ℕ
+abbrev pub one_down : List Mark → AddedList → List ℕ
 one_down marks added = spaced false (one_by (mark_of_unit marks added.unit) (one_list added) none)

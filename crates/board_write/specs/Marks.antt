@@ -2,11 +2,11 @@
 use Rattle.std.specs.Prelude.{◌≡◌, ℕ, ◌≤◌, ◌*◌, ◌+ℤ◌, ℤ, Bool, true, false, List, Option, None, Some, slice_index_or, slice_set, unsigned_abs, ⊤}
 use Rattle.read_alike.specs.Alike.{Shift}
 use Rattle.board_alike.specs.Written.{Draft, is_gone, shift_of_unit}
-use Rattle.board_write.specs.declared.distance.Shift.{Shift as CodeShift}
+use Rattle.board_write.specs.declared.distance.Distance.{Distance}
 use Rattle.board_write.specs.declared.marks.Mark.{Mark}
 use Rattle.board_write.specs.declared.marks.Mark.TheVariants.{Stays, Gone, Moved}
 
-abbrev pub plain_shift : CodeShift → Shift
+abbrev pub plain_shift : Distance → Shift
 plain_shift by = record { dx = by.dx; dy = by.dy }
 
 -- a unit's mark; one that was not marked stays

@@ -8,7 +8,7 @@ use Rattle.tree_text.specs.Anew.{space_before}
 use Rattle.read_alike.specs.Alike.{place_moved}
 use Rattle.read_alike.specs.Moving.{put_if, moved}
 use Rattle.board_alike.specs.Written.{first_at}
-use Rattle.board_write.specs.declared.distance.Shift.{Shift as CodeShift}
+use Rattle.board_write.specs.declared.distance.Distance.{Distance}
 use Rattle.board_write.specs.declared.marks.Mark.{Mark}
 use Rattle.board_write.specs.declared.marks.Mark.TheVariants.{Stays, Gone, Moved}
 use Rattle.board_write.specs.declared.setting.Setting.{Setting}
@@ -82,7 +82,7 @@ list_down setting s f = 40 ∷ (set_down setting (s.at + 1) (s.end - 1) true f +
 -- ---- units
 
 -- in a footprint its own first place is moved, in another unit all are
-abbrev pub unit_moving : CodeShift → Forest → Moving
+abbrev pub unit_moving : Distance → Forest → Moving
 unit_moving by f = if first_is (trees f) (codes "footprint") then First by else All by
 
 -- a unit's list by what became of it: an added list, with its fate

@@ -7,11 +7,11 @@ use Rattle.sexpr_read.specs.Views.{root_of}
 use Rattle.pcb_read.specs.BoardOf.{SaysBoard}
 use Rattle.pcb_read.specs.Spans.{AreSpans}
 use Rattle.edit_script.specs.Commands.{PlainCommand}
-use Rattle.board_write.specs.declared.source.Source.{Source}
+use Rattle.board_write.specs.declared.source.SourceText.{SourceText}
 use Rattle.board_write.specs.declared.written.Written.{Written}
 use Rattle.board_write.specs.Answers.{Outcome}
 
-pub record IsSource (text : List ℕ) (source : Source) : Type 0 where
+pub record IsSource (text : List ℕ) (source : SourceText) : Type 0 where
   pub accepted : refusal_of_one text ≡ None
   pub spelled : Spells text (root_of source.doc)
   pub shallow : levels (root_of source.doc) ≤ 64

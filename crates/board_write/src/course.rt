@@ -16,7 +16,7 @@ use std::alloc::{AllocError, Global};
 
 /// A list that was added, and its unit where it gave items.
 #[derive(Drop)]
-pub(crate) struct Added<'t> {
+pub(crate) struct AddedList<'t> {
     pub doc: Doc<'t>,
     pub unit: Option<u32>,
 }
@@ -28,7 +28,7 @@ pub(crate) struct Course<'t> {
     /// What became of each unit, by its number; also of those that came in.
     pub marks: Vec<Mark>,
     /// The lists that were added, in order.
-    pub added: Vec<Added<'t>>,
+    pub added: Vec<AddedList<'t>>,
     /// How many commands were refused.
     pub refused: u32,
 }
@@ -57,12 +57,12 @@ fn note_added<'t>(
         return Err(AllocError);
     };
     if is_empty {
-        course.added.push(Added { doc, unit: None })?;
+        course.added.push(AddedList { doc, unit: None })?;
         return Ok(());
     }
     let unit = Some(course.board.next_unit());
     course.marks.push(Mark::Stays)?;
-    course.added.push(Added { doc, unit })?;
+    course.added.push(AddedList { doc, unit })?;
     Ok(())
 }
 

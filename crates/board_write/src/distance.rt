@@ -4,7 +4,7 @@ ghost use Rattle.std.specs.Prelude.{◌≤◌, unsigned_abs};
 
 /// How far a unit was moved, in nanometres: all its moves together, which may be more than fit into 64 bits.
 #[derive(Clone, Copy)]
-pub(crate) struct Shift {
+pub(crate) struct Distance {
     pub dx: i128,
     pub dy: i128,
     // As far as 2^32 - 1 moves of 10^12 nanometres.

@@ -9,7 +9,7 @@ ghost use Rattle.std.specs.Prelude.{◌≡◌, ◌≤◌, ◌<◌, ◌⊎◌, le
 ghost use Rattle.board_errors.specs.declared.errors.BoardError.{BoardError};
 ghost use Rattle.edit_script.specs.Commands.{plain_command};
 ghost use Rattle.edit_script.specs.Fits.{Fits};
-ghost use Rattle.pcb_read.specs.BoardText.{Says};
+ghost use Rattle.pcb_read.specs.BoardText.{BoardSays};
 ghost use Rattle.board_write.specs.Answers.{Wrote, IsCause};
 ghost use Rattle.board_write.specs.Sources.{IsSource};
 ghost use Rattle.board_write.specs.declared.error.WriteError.{WriteError};
@@ -30,7 +30,7 @@ pub use board_errors::InTwo;
 use drc_io::{Sink, put_all};
 use edit_script::Command;
 pub use error::WriteError;
-pub use source::{Source, read_source};
+pub use source::{SourceText, read_source};
 use std::alloc::Global;
 
 /// Writes the text of the board after the commands to the sink, and gives how many of them were refused. `text` is that of a board, of
@@ -48,7 +48,7 @@ pub fn write_board<W: Sink>(
     requires few { length commands.now < 4_294_967_295 }
     requires fit { All Fits (map plain_command commands.now) }
     ensures written { MatchResult result (Wrote text.now (map plain_command commands.now) (W.written out.old) (W.written out.new)) (IsCause text.now (map plain_command commands.now) (W.written out.old) (W.written out.new) (W.faults out.old) (W.faults out.new)) }
-    ensures refused { (why : BoardError) → Says text.now (Err why) → (result ≡ Err (WriteError.Board why)) ⊎ (result ≡ Err WriteError.OutOfMemory) }
+    ensures refused { (why : BoardError) → BoardSays text.now (Err why) → (result ≡ Err (WriteError.Board why)) ⊎ (result ≡ Err WriteError.OutOfMemory) }
     ensures counts { W.faults out.old ≤ W.faults out.new }
 {
     let source = read_source(alloc, text)?;
@@ -59,7 +59,7 @@ pub fn write_board<W: Sink>(
 pub fn write_source<W: Sink>(
     alloc: Global,
     text: &[u8],
-    source: Source<'_>,
+    source: SourceText<'_>,
     commands: &[Command<'_>],
     out: &mut W,
 ) -> Result<u32, WriteError>

@@ -5,7 +5,7 @@ ghost use Rattle.edit_script.specs.Fits.{IsNear};
 ghost use Rattle.board_write.specs.declared.marks.Mark.{Mark};
 ghost use Rattle.board_write.specs.Marks.{plain_mark, mark_at, mark_of_unit, moved_on, IsShort, IsMarkedOn};
 
-use crate::distance::Shift;
+use crate::distance::Distance;
 use edit_script::Nm;
 
 /// What has become of a unit.
@@ -13,7 +13,7 @@ use edit_script::Nm;
 pub(crate) enum Mark {
     Stays,
     Gone,
-    Moved(Shift),
+    Moved(Distance),
 }
 
 /// The mark of a unit, if the list has one.
@@ -45,11 +45,11 @@ fn moved_on(mark: Mark, dx: Nm, dy: Nm) -> Mark
 {
     match mark {
         Mark::Gone => Mark::Gone,
-        Mark::Stays => Mark::Moved(Shift {
+        Mark::Stays => Mark::Moved(Distance {
             dx: i128::from(dx),
             dy: i128::from(dy),
         }),
-        Mark::Moved(by) => Mark::Moved(Shift {
+        Mark::Moved(by) => Mark::Moved(Distance {
             dx: by.dx + i128::from(dx),
             dy: by.dy + i128::from(dy),
         }),

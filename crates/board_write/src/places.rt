@@ -8,7 +8,7 @@ ghost use Rattle.board_write.specs.Marks.{plain_shift};
 ghost use Rattle.board_write.specs.Settings.{inside};
 ghost use Rattle.board_write.specs.Places.{atom_moved, numbers_of, StandsIn};
 
-use crate::distance::Shift;
+use crate::distance::Distance;
 use exact_dec::{Nm, mm_cut};
 use list_read::has_head;
 use sexpr_read::{Children, Node};
@@ -21,9 +21,9 @@ const FARTHEST: i128 = 1_000_000_000_000;
 pub(crate) enum Moving {
     Nothing,
     /// That of the first list with the head `at`.
-    First(Shift),
+    First(Distance),
     /// Those of all lists, at any depth.
-    All(Shift),
+    All(Distance),
 }
 
 /// An atom that gives way to a number.
@@ -87,7 +87,7 @@ fn both<'d, 't>(
 }
 
 // The place of a list, moved, if it has one of which both numbers can be.
-fn place_of<'d, 't>(list: Node<'d, 't>, by: Shift) -> Option<Place<'d, 't>>
+fn place_of<'d, 't>(list: Node<'d, 't>, by: Distance) -> Option<Place<'d, 't>>
     ensures numbers { option_map numbers_of result ≡ place_moved (plain_shift by) (inside (tree_of list.entry)) }
     ensures stands { IfSome result (StandsIn (inside (tree_of list.entry))) }
 {
@@ -108,7 +108,7 @@ impl Moving {
     ghost use Rattle.board_write.specs.Places.{numbers_of, StandsIn};
 
     /// What is moved in the list of a unit: in a footprint its own place, in another all of them.
-    pub fn of_unit(list: Node<'_, '_>, by: Shift) -> Moving
+    pub fn of_unit(list: Node<'_, '_>, by: Distance) -> Moving
         ensures { result ≡ unit_moving by (inside (tree_of list.entry)) }
     {
         if has_head(list, b"footprint") {

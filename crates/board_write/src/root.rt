@@ -7,7 +7,7 @@ ghost use Rattle.tree_text.specs.Anew.{list_by, edited, edited_whole, spaced};
 ghost use Rattle.board_write.specs.Settings.{inside, moving_by};
 ghost use Rattle.board_write.specs.Fates.{mark_fate, is_first, mark_here, spans_behind, marks_behind, fates_by, IsAlone, added_by, one_down, one_by};
 
-use crate::course::Added;
+use crate::course::AddedList;
 use crate::marks::{Mark, mark_at, mark_of};
 use crate::places::Moving;
 use crate::setting::{Setting, append, append_atom, append_list, end_inside, piece};
@@ -139,7 +139,7 @@ fn append_spaced(out: &mut Vec<u8>, list: Node<'_, '_>, mark: Mark) -> Result<()
 }
 
 // Appends a list that was added, unless it was taken out.
-fn append_one(out: &mut Vec<u8>, added: &Added<'_>, marks: &[Mark]) -> Result<(), AllocError>
+fn append_one(out: &mut Vec<u8>, added: &AddedList<'_>, marks: &[Mark]) -> Result<(), AllocError>
     requires { IsAlone added.now }
     ensures { OnOk result (out.new.items ≡ out.old.items ++ one_down marks.now added.now) }
 {
@@ -155,7 +155,11 @@ fn append_one(out: &mut Vec<u8>, added: &Added<'_>, marks: &[Mark]) -> Result<()
 }
 
 // Appends the lists that were added and not taken out.
-fn append_added(out: &mut Vec<u8>, added: &[Added<'_>], marks: &[Mark]) -> Result<(), AllocError>
+fn append_added(
+    out: &mut Vec<u8>,
+    added: &[AddedList<'_>],
+    marks: &[Mark],
+) -> Result<(), AllocError>
     requires { All IsAlone added.now }
     ensures { OnOk result (out.new.items ≡ out.old.items ++ spaced false (added_by marks.now added.now)) }
 {
@@ -171,7 +175,7 @@ pub(crate) fn text_after(
     doc: &Doc<'_>,
     text: &[u8],
     units: Units<'_>,
-    added: &[Added<'_>],
+    added: &[AddedList<'_>],
 ) -> Result<Vec<u8>, AllocError>
     requires { All IsAlone added.now }
     ensures { IfOk result (λ whole. whole.items ≡ edited_whole text.now (span (root_of doc.now)) (fates_by units.entry.marks.now units.entry.spans.now (parts (root_of doc.now)))

@@ -2,7 +2,7 @@
 
 ghost use Rattle.std.specs.Prelude.{◌≡◌, ◌≤◌, ◌⊎◌, length, IfOk, IfErr, Ok, Err};
 ghost use Rattle.board_errors.specs.declared.errors.BoardError.{BoardError};
-ghost use Rattle.pcb_read.specs.BoardText.{Says};
+ghost use Rattle.pcb_read.specs.BoardText.{BoardSays};
 ghost use Rattle.board_write.specs.Answers.{IsCauseBefore};
 ghost use Rattle.board_write.specs.Sources.{IsSource};
 ghost use Rattle.board_write.specs.declared.error.WriteError.{WriteError};
@@ -16,25 +16,25 @@ use std::alloc::Global;
 
 /// A board, where its units stand in the text, and the tree of the text.
 #[derive(Drop)]
-pub struct Source<'t> {
+pub struct SourceText<'t> {
     pub board: Board,
     pub spans: Spans,
     pub doc: Doc<'t>,
 }
 
 /// Reads a board with the tree of its text, which has at most 33,554,432 bytes.
-pub fn read_source<'t>(alloc: Global, text: &'t [u8]) -> Result<Source<'t>, WriteError>
+pub fn read_source<'t>(alloc: Global, text: &'t [u8]) -> Result<SourceText<'t>, WriteError>
     requires { length text.now ≤ 33_554_432 }
     ensures read { IfOk result (IsSource text.entry.now) }
-    ensures says { IfOk result (λ source. Says text.entry.now (Ok source.board)) }
+    ensures says { IfOk result (λ source. BoardSays text.entry.now (Ok source.board)) }
     ensures cause { IfErr result (IsCauseBefore text.entry.now) }
-    ensures refused { (why : BoardError) → Says text.entry.now (Err why) → (result ≡ Err (WriteError.Board why)) ⊎ (result ≡ Err WriteError.OutOfMemory) }
+    ensures refused { (why : BoardError) → BoardSays text.entry.now (Err why) → (result ≡ Err (WriteError.Board why)) ⊎ (result ≡ Err WriteError.OutOfMemory) }
 {
     one_reading();
     match parse_one(alloc, text) {
         Ok(doc) => {
             let (board, spans) = read_tree(alloc, &doc)?;
-            Ok(Source { board, spans, doc })
+            Ok(SourceText { board, spans, doc })
         }
         Err(TextError::OutOfMemory) => Err(WriteError::OutOfMemory),
         Err(error) => Err(WriteError::Board(BoardError::Text(error))),

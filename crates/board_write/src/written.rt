@@ -7,7 +7,7 @@ ghost use Rattle.board_write.specs.Sources.{IsSource, HasText};
 
 use crate::course::carried_out;
 use crate::root::{Units, text_after};
-use crate::source::Source;
+use crate::source::SourceText;
 use edit_script::Command;
 use std::alloc::{AllocError, Global};
 
@@ -22,7 +22,7 @@ pub(crate) struct Written {
 pub(crate) fn text_by(
     alloc: Global,
     text: &[u8],
-    source: Source<'_>,
+    source: SourceText<'_>,
     commands: &[Command<'_>],
 ) -> Result<Written, AllocError>
     requires read { IsSource text.now source }
@@ -30,7 +30,7 @@ pub(crate) fn text_by(
     requires fit { All Fits (map plain_command commands.now) }
     ensures { IfOk result (HasText text.now (map plain_command commands.now)) }
 {
-    let Source { board, spans, doc } = source;
+    let SourceText { board, spans, doc } = source;
     let course = carried_out(alloc, board, commands)?;
     let units = Units {
         spans: spans.as_slice(),

@@ -10,7 +10,7 @@ use Rattle.std.proofs.lemmas.List.Elements.{All-contains, All-push, All-weaker}
 use Rattle.box_index.specs.declared.corners.Corner.{Corner}
 use Rattle.box_index.specs.declared.entry.Entry.{Entry}
 use Rattle.box_index.specs.Corners.{BeginsBy}
-use Rattle.box_index.specs.Tiles.{PlainIndex, IsSound, IsComplete, AnswersForNone, margin, lane, near_of, owner_of}
+use Rattle.box_index.specs.Tiles.{PlainIndex, IsSoundIndex, IsComplete, AnswersForNone, margin, lane, near_of, owner_of}
 use Rattle.box_index.proofs.Buckets.{wide_from}
 use Rattle.box_index.proofs.TileLemmas.{lane-mono, lane-within}
 
@@ -56,7 +56,7 @@ row_of row column tile w e = omega arith
 leb_false : (a b : ℕ) → nat_le a b ≡ false → b < a
 leb_false a b h = grind (arith, nat_tests)
 
-module _ (index : PlainIndex) (sound : IsSound index) (whole : IsComplete index) (tile : ℕ) (last : Corner) (begun : All (BeginsBy last) (near_of index tile)) where
+module _ (index : PlainIndex) (sound : IsSoundIndex index) (whole : IsComplete index) (tile : ℕ) (last : Corner) (begun : All (BeginsBy last) (near_of index tile)) where
   module _ (a b : Entry) (ca : Contains index.entries a) (cb : Contains index.entries b) (near : IsTrue (are_near (margin index) a.bounds b.bounds)) (is : owner_of (margin index) a.bounds b.bounds ≡ tile) where
     abbrev x : ℤ
     x = int_max (a.bounds.left -ℤ margin index) b.bounds.left

@@ -12,10 +12,10 @@ use Rattle.geo_seg.specs.declared.boxes.Bounds.{Bounds}
 use Rattle.geo_seg.specs.Boxes.{FitsWithin, widened}
 use Rattle.box_index.specs.declared.area.Area.{Area}
 use Rattle.box_index.specs.declared.entry.Entry.{Entry}
-use Rattle.box_index.specs.Tiles.{PlainIndex, IsSound, IsComplete, IsRising, IsAbsent, margin, is_in, meets_tile, near_of, is_held, is_met_by, numbers_below, dirty_of, owner_of, placed, without, tile_count}
+use Rattle.box_index.specs.Tiles.{PlainIndex, IsSoundIndex, IsComplete, IsRising, IsAbsent, margin, is_in, meets_tile, near_of, is_held, is_met_by, numbers_below, dirty_of, owner_of, placed, without, tile_count}
 use Rattle.box_index.specs.Areas.{has_tile}
 use Rattle.box_index.specs.Cuts.{IsCut}
-use Rattle.box_index.specs.Walks.{Bucket, AreBuckets, IsChanged, CanTake, HasRoom, DoStay, IsPut, IsTaken}
+use Rattle.box_index.specs.Walks.{Bucket, AreBuckets, IsChanged, CanTake, HasRoom, DoStay, IsPutIn, IsTakenFrom}
 use Rattle.box_index.proofs.TileLemmas.{lane-within, owns_both}
 use Rattle.box_index.proofs.Numbers.{any_kept, filter_same, filter_nothing}
 use Rattle.box_index.proofs.EntryLists.{filter_all, filter_none, filter_swap, pairs_first, pairs_rest, below_true, below_false, is_below}
@@ -59,7 +59,7 @@ rising_placed e xs r =
     pairs_append R (filter low xs) (e ∷ filter high xs) (AllPairs-filter R low xs r) (AllPairs-cons R e (filter high xs) above (AllPairs-filter R high xs r))
     (All-weaker (λ (x : Entry). x.id < e.id) (λ (x : Entry). All (R x) (e ∷ filter high xs)) (λ x h. All-cons (R x) e (filter high xs) h (All-weaker (R e) (R x) (λ y g. omega arith) (filter high xs) above)) (filter low xs) below)
 
-pub sound_placed : (reach : ℤ) (xs : List Entry) (e : Entry) → IsSound (index_of reach xs) → FitsWithin (pos 2000000000) e.bounds → IsSound (index_of reach (placed e xs))
+pub sound_placed : (reach : ℤ) (xs : List Entry) (e : Entry) → IsSoundIndex (index_of reach xs) → FitsWithin (pos 2000000000) e.bounds → IsSoundIndex (index_of reach (placed e xs))
 sound_placed reach xs e s f =
     let P : Entry → Type 0 = λ x. FitsWithin (pos 2000000000) x.bounds in record {
       reach_from = s.reach_from;
@@ -115,14 +115,14 @@ pub stayed : (reach : ℤ) (xs ys : List Entry) (old new q : List Bucket) (n : �
 stayed reach xs ys old new q n e l m s b =
     refilled (AreBuckets (index_of reach ys)) n new q (m ∙ l) (subst (λ (zs : List Entry). AreBuckets (index_of reach zs) new) (sym e) (record { long = m ∙ b.long; each = λ tile d k. s tile d ∙ b.each tile d k }))
 
-put_tile : (reach : ℤ) (xs : List Entry) (e : Entry) (area : Area) (old new : List Bucket) → IsRising xs → IsAbsent e.id xs → ((tile : ℕ) → has_tile area tile ≡ is_in (index_of reach xs) tile e) → AreBuckets (index_of reach xs) old → IsChanged (IsPut e) area old new
+put_tile : (reach : ℤ) (xs : List Entry) (e : Entry) (area : Area) (old new : List Bucket) → IsRising xs → IsAbsent e.id xs → ((tile : ℕ) → has_tile area tile ≡ is_in (index_of reach xs) tile e) → AreBuckets (index_of reach xs) old → IsChanged (IsPutIn e) area old new
     → (tile : ℕ) (d : Bucket) → tile < tile_count → (b : Bool) → has_tile area tile ≡ b → (slice_index_or new tile d).items ≡ near_of (index_of reach (placed e xs)) tile
 put_tile reach xs e area old new r a same k c tile d l true t =
     c.inside tile d t ∙ ap (placed e) (k.each tile d l) ∙ sym (near_with (is_in (index_of reach xs) tile) e xs (sym (same tile) ∙ t))
 put_tile reach xs e area old new r a same k c tile d l false t =
     ap (λ (v : Bucket). v.items) (c.outside tile d t) ∙ k.each tile d l ∙ sym (near_past (is_in (index_of reach xs) tile) e xs r a (sym (same tile) ∙ t))
 
-pub put_buckets : (reach : ℤ) (xs : List Entry) (e : Entry) (area : Area) (old new : List Bucket) → IsRising xs → IsAbsent e.id xs → ((tile : ℕ) → has_tile area tile ≡ is_in (index_of reach xs) tile e) → AreBuckets (index_of reach xs) old → IsChanged (IsPut e) area old new
+pub put_buckets : (reach : ℤ) (xs : List Entry) (e : Entry) (area : Area) (old new : List Bucket) → IsRising xs → IsAbsent e.id xs → ((tile : ℕ) → has_tile area tile ≡ is_in (index_of reach xs) tile e) → AreBuckets (index_of reach xs) old → IsChanged (IsPutIn e) area old new
     → AreBuckets (index_of reach (placed e xs)) new
 put_buckets reach xs e area old new r a same k c = record { long = c.long ∙ k.long; each = λ tile d l. put_tile reach xs e area old new r a same k c tile d l (has_tile area tile) refl }
 
@@ -132,7 +132,7 @@ has_within_at l c r t w b h e = grind (arith, nat_tests)
 pub has_within : (area : Area) (tile : ℕ) → has_tile area tile ≡ true → tile < tile_count
 has_within area tile h = let w = has_within_at area.left (tile % 125) area.right area.top (tile / 125) area.bottom area.bottom_within h in omega arith
 
-pub ready : (reach : ℤ) (xs : List Entry) (e : Entry) (area : Area) (old now : List Bucket) → IsSound (index_of reach xs) → IsAbsent e.id xs → AreBuckets (index_of reach xs) old → IsChanged HasRoom area old now → (tile : ℕ) (d : Bucket) → has_tile area tile ≡ true → CanTake e (slice_index_or now tile d)
+pub ready : (reach : ℤ) (xs : List Entry) (e : Entry) (area : Area) (old now : List Bucket) → IsSoundIndex (index_of reach xs) → IsAbsent e.id xs → AreBuckets (index_of reach xs) old → IsChanged HasRoom area old now → (tile : ℕ) (d : Bucket) → has_tile area tile ≡ true → CanTake e (slice_index_or now tile d)
 ready reach xs e area old now s a k c tile d t =
     let items = (c.inside tile d t).items ∙ k.each tile d (has_within area tile t) in record {
       rising = subst IsRising (sym items) (AllPairs-filter (λ (y z : Entry). y.id < z.id) (is_in (index_of reach xs) tile) xs s.rising);
@@ -141,9 +141,9 @@ ready reach xs e area old now s a k c tile d t =
     }
 
 -- ---- an entry taken out
-pub sound_without : (reach : ℤ) (xs ys : List Entry) (id : ℕ) → IsSound (index_of reach xs) → ys ≡ without id xs → IsSound (index_of reach ys)
+pub sound_without : (reach : ℤ) (xs ys : List Entry) (id : ℕ) → IsSoundIndex (index_of reach xs) → ys ≡ without id xs → IsSoundIndex (index_of reach ys)
 sound_without reach xs ys id s e =
-    subst (λ (zs : List Entry). IsSound (index_of reach zs)) (sym e) (record {
+    subst (λ (zs : List Entry). IsSoundIndex (index_of reach zs)) (sym e) (record {
       reach_from = s.reach_from;
       reach_to = s.reach_to;
       rising = AllPairs-filter (λ (y z : Entry). y.id < z.id) (λ (x : Entry). not (x.id == id)) xs s.rising;
@@ -155,21 +155,21 @@ near_cut p xs ys e c f =
     ap (filter p) c.is ∙ filter-append p c.front c.back
     ∙ sym (ap (filter p) c.was ∙ filter-append p c.front (e ∷ c.back) ∙ ap (λ b. filter p c.front ++ cond b (e ∷ filter p c.back) (filter p c.back)) f)
 
-taken_tile : (reach : ℤ) (xs ys : List Entry) (id : ℕ) (e : Entry) (area : Area) (old new : List Bucket) → IsCut xs e ys → ys ≡ without id xs → ((tile : ℕ) → has_tile area tile ≡ is_in (index_of reach xs) tile e) → AreBuckets (index_of reach xs) old → IsChanged (IsTaken id) area old new
+taken_tile : (reach : ℤ) (xs ys : List Entry) (id : ℕ) (e : Entry) (area : Area) (old new : List Bucket) → IsCut xs e ys → ys ≡ without id xs → ((tile : ℕ) → has_tile area tile ≡ is_in (index_of reach xs) tile e) → AreBuckets (index_of reach xs) old → IsChanged (IsTakenFrom id) area old new
     → (tile : ℕ) (d : Bucket) → tile < tile_count → (b : Bool) → has_tile area tile ≡ b → (slice_index_or new tile d).items ≡ near_of (index_of reach ys) tile
 taken_tile reach xs ys id e area old new cut w same k c tile d l true t =
     c.inside tile d t ∙ ap (without id) (k.each tile d l) ∙ filter_swap (λ (x : Entry). not (x.id == id)) (is_in (index_of reach xs) tile) xs ∙ ap (filter (is_in (index_of reach xs) tile)) (sym w)
 taken_tile reach xs ys id e area old new cut w same k c tile d l false t =
     ap (λ (v : Bucket). v.items) (c.outside tile d t) ∙ k.each tile d l ∙ sym (near_cut (is_in (index_of reach xs) tile) xs ys e cut (sym (same tile) ∙ t))
 
-pub taken_buckets : (reach : ℤ) (xs ys : List Entry) (id : ℕ) (e : Entry) (area : Area) (old new : List Bucket) → IsCut xs e ys → ys ≡ without id xs → ((tile : ℕ) → has_tile area tile ≡ is_in (index_of reach xs) tile e) → AreBuckets (index_of reach xs) old → IsChanged (IsTaken id) area old new
+pub taken_buckets : (reach : ℤ) (xs ys : List Entry) (id : ℕ) (e : Entry) (area : Area) (old new : List Bucket) → IsCut xs e ys → ys ≡ without id xs → ((tile : ℕ) → has_tile area tile ≡ is_in (index_of reach xs) tile e) → AreBuckets (index_of reach xs) old → IsChanged (IsTakenFrom id) area old new
     → AreBuckets (index_of reach ys) new
 taken_buckets reach xs ys id e area old new cut w same k c = record { long = c.long ∙ k.long; each = λ tile d l. taken_tile reach xs ys id e area old new cut w same k c tile d l (has_tile area tile) refl }
 
-pub fits_cut : (reach : ℤ) (xs ys : List Entry) (e : Entry) → IsSound (index_of reach xs) → IsCut xs e ys → FitsWithin (pos 2000000000) e.bounds
+pub fits_cut : (reach : ℤ) (xs ys : List Entry) (e : Entry) → IsSoundIndex (index_of reach xs) → IsCut xs e ys → FitsWithin (pos 2000000000) e.bounds
 fits_cut reach xs ys e s c = All-contains (λ (x : Entry). FitsWithin (pos 2000000000) x.bounds) xs e s.fit (subst (λ (zs : List Entry). Contains zs e) (sym c.was) (Contains-append_right c.front (e ∷ c.back) e (0, omega arith, refl)))
 
-pub rising_buckets : (reach : ℤ) (xs : List Entry) (area : Area) (old : List Bucket) → IsSound (index_of reach xs) → AreBuckets (index_of reach xs) old → (tile : ℕ) (d : Bucket) → has_tile area tile ≡ true → IsRising (slice_index_or old tile d).items
+pub rising_buckets : (reach : ℤ) (xs : List Entry) (area : Area) (old : List Bucket) → IsSoundIndex (index_of reach xs) → AreBuckets (index_of reach xs) old → (tile : ℕ) (d : Bucket) → has_tile area tile ≡ true → IsRising (slice_index_or old tile d).items
 rising_buckets reach xs area old s k tile d t = subst IsRising (sym (k.each tile d (has_within area tile t))) (AllPairs-filter (λ (y z : Entry). y.id < z.id) (is_in (index_of reach xs) tile) xs s.rising)
 
 -- ---- what is lent
@@ -183,7 +183,7 @@ near_beyond index tile h =
 pub wide_from : (reach : ℤ) → pos 0 ≤ℤ reach → pos 0 ≤ℤ (reach +ℤ reach)
 wide_from reach h = omega (arith, ints)
 
-pub complete : (index : PlainIndex) → IsSound index → IsComplete index
+pub complete : (index : PlainIndex) → IsSoundIndex index → IsComplete index
 complete index s a b ha hb near =
     let P : Entry → Type 0 = λ x. FitsWithin (pos 2000000000) x.bounds in
     let fa : FitsWithin (pos 2000000000) a.bounds = All-contains P index.entries a s.fit ha in
@@ -199,10 +199,10 @@ complete index s a b ha hb near =
 doubled : (reach : ℤ) → pos 0 ≤ℤ reach → reach ≤ℤ pos 500000000 → passed (pos 2 *ℤ passed reach) ≡ reach +ℤ reach
 doubled reach h k = omega (arith, ints)
 
-pub margin_is : (inside : PlainIndex) (index : PlainIndex) → inside ≡ index → IsSound inside → passed (pos 2 *ℤ passed inside.reach) ≡ margin index
+pub margin_is : (inside : PlainIndex) (index : PlainIndex) → inside ≡ index → IsSoundIndex inside → passed (pos 2 *ℤ passed inside.reach) ≡ margin index
 margin_is inside index e s = doubled inside.reach s.reach_from s.reach_to ∙ ap (λ (i : PlainIndex). margin i) e
 
-pub area_tiles : (reach : ℤ) (xs : List Entry) (area : Area) (e : Entry) → IsSound (index_of reach xs) → ((tile : ℕ) → has_tile area tile ≡ meets_tile (widened e.bounds (passed (pos 2 *ℤ passed reach))) tile) → (tile : ℕ) → has_tile area tile ≡ is_in (index_of reach xs) tile e
+pub area_tiles : (reach : ℤ) (xs : List Entry) (area : Area) (e : Entry) → IsSoundIndex (index_of reach xs) → ((tile : ℕ) → has_tile area tile ≡ meets_tile (widened e.bounds (passed (pos 2 *ℤ passed reach))) tile) → (tile : ℕ) → has_tile area tile ≡ is_in (index_of reach xs) tile e
 area_tiles reach xs area e s h tile = h tile ∙ ap (λ m. meets_tile (widened e.bounds m) tile) (doubled reach s.reach_from s.reach_to)
 
 -- ---- tiles that hold an entry, and tiles that are met by one of the boxes
@@ -211,7 +211,7 @@ held_tile inside index buckets tile v b k s l e h =
     ap not h ∙ ap (λ n. not (n == 0)) v.ok.0 ∙ ap (λ (xs : List Entry). not (length xs == 0)) (ap (λ (w : Bucket). w.items) e ∙ k.each tile v l)
     ∙ any_kept (is_in inside tile) inside.entries ∙ ap (λ (i : PlainIndex). is_held i tile) s
 
-pub dirty_is : (inside index : PlainIndex) (boxes : List Bounds) (all : Bool) (old new now : List Bool) → inside ≡ index → IsSound inside → ((tile : ℕ) (d : Bool) → tile < tile_count → slice_index_or old tile d ≡ all)
+pub dirty_is : (inside index : PlainIndex) (boxes : List Bounds) (all : Bool) (old new now : List Bool) → inside ≡ index → IsSoundIndex inside → ((tile : ℕ) (d : Bool) → tile < tile_count → slice_index_or old tile d ≡ all)
     → ((tile : ℕ) (d : Bool) → tile < tile_count → slice_index_or new tile d ≡ (slice_index_or old tile d || is_met_by (passed (pos 2 *ℤ passed inside.reach)) boxes tile)) → now ≡ new
     → filter (λ tile. is_held index tile && slice_index_or now tile false) (numbers_below tile_count) ≡ dirty_of index boxes all
 dirty_is inside index boxes all old new now s sound o n e =

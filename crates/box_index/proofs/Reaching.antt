@@ -9,7 +9,7 @@ use Rattle.geo_seg.specs.Boxes.{FitsWithin, BoxesMeet, widened, do_boxes_meet, a
 use Rattle.box_index.specs.declared.area.Area.{Area}
 use Rattle.box_index.specs.declared.entry.Entry.{Entry}
 use Rattle.box_index.specs.Areas.{has_tile, end_of}
-use Rattle.box_index.specs.Tiles.{PlainIndex, IsSound, margin, meets_tile, near_of, is_in, owner_of}
+use Rattle.box_index.specs.Tiles.{PlainIndex, IsSoundIndex, margin, meets_tile, near_of, is_in, owner_of}
 use Rattle.box_index.specs.Reached.{IsMet, HasReached}
 use Rattle.box_index.proofs.Buckets.{contains_filter}
 use Rattle.box_index.proofs.TileLemmas.{owns_both, four_le}
@@ -122,7 +122,7 @@ module _ (index : PlainIndex) (area : Area) (box : Bounds) (old : List ℕ) wher
       only : (id : ℕ) → Contains then id → Contains old id ⊎ IsMet box index.entries id
       only id c = elim (h.only id c) [ inl there ↦ w.only id there | inr m ↦ inr (among_more box (near_of index here) index.entries id (in_index here) m) ]
 
-  pub walk_done : (ids : List ℕ) (here : ℕ) → IsWalked index area box old ids here → IsSound index → FitsWithin (pos 2000000000) box
+  pub walk_done : (ids : List ℕ) (here : ℕ) → IsWalked index area box old ids here → IsSoundIndex index → FitsWithin (pos 2000000000) box
       → ((tile : ℕ) → has_tile area tile ≡ meets_tile (widened box (margin index)) tile) → ((tile : ℕ) → here ≤ tile → has_tile area tile ≡ false) → HasReached box index.entries old ids
   walk_done ids here w sound fits tiles past = record { kept = w.kept; met = met; only = w.only }
     where

@@ -19,7 +19,7 @@ pub record HasReached (box : Bounds) (entries : List Entry) (old new : List ℕ)
   pub only : (id : ℕ) → Contains new id → Contains old id ⊎ IsMet box entries id
 
 -- the ids in order, each once
-pub record AreInOrder (old new : List ℕ) : Type 0 where
+pub record AreSorted (old new : List ℕ) : Type 0 where
   pub rise : IsStrictlyIncreasing new
   pub kept : (id : ℕ) → Contains old id → Contains new id
   pub only : (id : ℕ) → Contains new id → Contains old id

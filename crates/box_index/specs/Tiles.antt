@@ -42,7 +42,7 @@ abbrev pub IsRising : List Entry → Type 0
 IsRising xs = AllPairs (λ a b. a.id < b.id) xs
 
 -- what holds of each index
-pub record IsSound (index : PlainIndex) : Type 0 where
+pub record IsSoundIndex (index : PlainIndex) : Type 0 where
   pub reach_from : pos 0 ≤ℤ index.reach
   pub reach_to : index.reach ≤ℤ pos 500000000
   pub rising : IsRising index.entries

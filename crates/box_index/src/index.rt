@@ -6,7 +6,7 @@ ghost use Rattle.geo_seg.specs.Boxes.{FitsWithin, widened, are_near};
 ghost use Rattle.box_index.specs.declared.entry.Entry.{Entry};
 ghost use Rattle.box_index.specs.Areas.{has_tile};
 ghost use Rattle.box_index.specs.Walks.{AreEmpty, AreMarks, HaveSameEntries};
-ghost use Rattle.box_index.specs.Tiles.{PlainIndex, IsSound, IsComplete, AnswersForNone, IsAbsent, OwnsBoth, meets_tile, near_of, owner_of, margin, placed, without, held_of, is_held, dirty_of, numbers_below, tile_count};
+ghost use Rattle.box_index.specs.Tiles.{PlainIndex, IsSoundIndex, IsComplete, AnswersForNone, IsAbsent, OwnsBoth, meets_tile, near_of, owner_of, margin, placed, without, held_of, is_held, dirty_of, numbers_below, tile_count};
 
 use crate::area::Area;
 use crate::corners::last_corner;
@@ -36,14 +36,14 @@ pub struct TileIndex {
 
 impl Model for TileIndex {
     ghost use Rattle.box_index.specs.Walks.{AreEmpty, AreMarks};
-    ghost use Rattle.box_index.specs.Tiles.{PlainIndex, IsSound};
+    ghost use Rattle.box_index.specs.Tiles.{PlainIndex, IsSoundIndex};
     ghost use Rattle.box_index.specs.Walks.{AreBuckets};
 
     ghost Value = { PlainIndex };
 
     ghost view = { λ t. record { reach = t.reach; entries = t.boxes } };
 
-    ghost invariant = { λ t. IsSound (record { reach = t.reach; entries = t.boxes }) × AreBuckets (record { reach = t.reach; entries = t.boxes }) t.tiles.items };
+    ghost invariant = { λ t. IsSoundIndex (record { reach = t.reach; entries = t.boxes }) × AreBuckets (record { reach = t.reach; entries = t.boxes }) t.tiles.items };
 }
 
 impl TileIndex {
@@ -102,7 +102,7 @@ impl TileIndex {
     pub fn near(&self, tile: u32) -> &[Entry]
         ensures entries { result.now ≡ near_of self.now tile }
         ensures complete { IsComplete self.now }
-        ensures sound { IsSound self.now }
+        ensures sound { IsSoundIndex self.now }
     {
         match self.tiles.get(tile as usize) {
             Some(entries) => entries,
@@ -136,7 +136,7 @@ impl TileIndex {
     pub fn area(&self, bounds: Bounds) -> Area
         requires { FitsWithin (pos 2000000000) bounds }
         ensures tiles { (tile : ℕ) → has_tile result tile ≡ meets_tile (widened bounds (margin self.now)) tile }
-        ensures sound { IsSound self.now }
+        ensures sound { IsSoundIndex self.now }
     {
         Area::around(2 * self.reach, bounds)
     }
@@ -177,7 +177,7 @@ impl TileIndex {
     pub fn dirty(&self, boxes: &[Bounds], all: bool) -> Result<Vec<u32>, AllocError>
         requires { All (λ b. FitsWithin (pos 2000000000) b) boxes.now }
         ensures tiles { IfOk result (λ tiles. tiles.items ≡ dirty_of self.now boxes.now all) }
-        ensures sound { IsSound self.now }
+        ensures sound { IsSoundIndex self.now }
     {
         let alloc = *self.tiles.allocator();
         // What no box marks is not walked over.

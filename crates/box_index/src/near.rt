@@ -3,7 +3,7 @@
 ghost use Rattle.std.specs.Prelude.{pos, OnOk};
 ghost use Rattle.geo_seg.specs.Boxes.{FitsWithin};
 ghost use Rattle.box_index.specs.Tiles.{near_of};
-ghost use Rattle.box_index.specs.Reached.{HasReached, AreInOrder};
+ghost use Rattle.box_index.specs.Reached.{HasReached, AreSorted};
 
 use crate::boxes::do_boxes_meet;
 use crate::index::TileIndex;
@@ -49,7 +49,7 @@ pub fn push_ids_near(
 
 /// Puts ids in order, each once. It takes no memory.
 pub fn put_in_order(ids: &mut Vec<u32>)
-    ensures { AreInOrder ids.old.items ids.new.items }
+    ensures { AreSorted ids.old.items ids.new.items }
 {
     ids.sort_unstable();
     ids.dedup();

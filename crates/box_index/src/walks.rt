@@ -4,7 +4,7 @@ ghost use Rattle.std.specs.Prelude.{◌≡◌, ℕ, ◌<◌, length, true, slice
 ghost use Rattle.geo_seg.specs.Boxes.{FitsWithin};
 ghost use Rattle.box_index.specs.Tiles.{IsRising, is_met_by, tile_count};
 ghost use Rattle.box_index.specs.Areas.{has_tile};
-ghost use Rattle.box_index.specs.Walks.{IsChanged, Bucket, CanTake, HasRoom, DoStay, IsPut, IsTaken};
+ghost use Rattle.box_index.specs.Walks.{IsChanged, Bucket, CanTake, HasRoom, DoStay, IsPutIn, IsTakenFrom};
 
 use crate::area::Area;
 use crate::entry::Entry;
@@ -31,7 +31,7 @@ pub(crate) fn reserve_each(tiles: &mut [Vec<Entry>], area: Area) -> Result<(), A
 pub(crate) fn put_each(tiles: &mut [Vec<Entry>], area: Area, entry: Entry)
     requires long { length tiles.old ≡ tile_count }
     requires ready { (tile : ℕ) → (d : Bucket) → has_tile area tile ≡ true → CanTake entry (slice_index_or tiles.old tile d) }
-    ensures { IsChanged (IsPut entry) area tiles.old tiles.new }
+    ensures { IsChanged (IsPutIn entry) area tiles.old tiles.new }
 {
     let end = area.end();
     let mut tile = area.first();
@@ -45,7 +45,7 @@ pub(crate) fn put_each(tiles: &mut [Vec<Entry>], area: Area, entry: Entry)
 pub(crate) fn take_out_each(tiles: &mut [Vec<Entry>], area: Area, id: u32)
     requires long { length tiles.old ≡ tile_count }
     requires rising { (tile : ℕ) → (d : Bucket) → has_tile area tile ≡ true → IsRising (slice_index_or tiles.old tile d).items }
-    ensures { IsChanged (IsTaken id) area tiles.old tiles.new }
+    ensures { IsChanged (IsTakenFrom id) area tiles.old tiles.new }
 {
     let end = area.end();
     let mut tile = area.first();

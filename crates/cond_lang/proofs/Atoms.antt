@@ -18,7 +18,7 @@ use Rattle.cond_lang.specs.declared.values.Head.TheVariants.{Value, Asked}
 use Rattle.cond_lang.specs.Found.{Found, read, fault, and_then, place, stuck, byte}
 use Rattle.cond_lang.specs.Signs.{is_blank, after_blanks, is_letter, is_digit, is_in_name, front_name, after_name, begins_name, name, word_of, side_of, side, front_text, after_text, text_of, quoted}
 use Rattle.cond_lang.specs.Numbers.{measure}
-use Rattle.cond_lang.specs.Trees.{Tree, any, all, negated, call, compare}
+use Rattle.cond_lang.specs.Trees.{CondTree, any, all, negated, call, compare}
 use Rattle.cond_lang.specs.Values.{meant, member, begins_number, head, argument, opened, called, with_equals, operator, clash, compared, comparison, atom_of, atom}
 use Rattle.cond_lang.specs.Atoms.{Blanks, AreInName, goes_on, Named, side_letter, Selected, HasNoQuote, Quoted, Measured, Valued, Argued, Called, no_equals, Operates, Compared, Atom}
 use Rattle.cond_lang.proofs.Steps.{then_read}
@@ -365,7 +365,7 @@ argument_complete n ExistsOnLayer v x signs y rest b h close = (y, text_complete
 argument_complete n IntersectsArea v x signs y rest b h close = (y, text_complete n v x signs y b h, skipped y (41 ∷ rest) close)
 argument_complete n IntersectsCourtyard v x signs y rest b h close = (y, text_complete n v x signs y b h, skipped y (41 ∷ rest) close)
 
-called_sound : (n levels : ℕ) (s : Side) (f : Func) (text u : List ℕ) (t : Tree) (r : List ℕ) → Selected s (Function f) text u → called n levels s f u ≡ read t r → Atom n levels t text r
+called_sound : (n levels : ℕ) (s : Side) (f : Func) (text u : List ℕ) (t : CondTree) (r : List ℕ) → Selected s (Function f) text u → called n levels s f u ≡ read t r → Atom n levels t text r
 unfolding called
 called_sound n levels s f text u t r selects h =
     let a = then_back (opened n levels (after_blanks u)) _ t r h in
@@ -466,7 +466,7 @@ operator_complete n AtMost text r h = (ap (operator n) h ∙ refl, ap after_blan
 operator_complete n More text r h = (ap (operator n) h.0 ∙ with_none More AtLeast r h.1, ap after_blanks h.0 ∙ sym h.0)
 operator_complete n AtLeast text r h = (ap (operator n) h ∙ refl, ap after_blanks h ∙ sym h)
 
-compared_sound : (n levels : ℕ) (at : List ℕ) (left : Term) (op : Op) (right : Head) (text u v x y end : List ℕ) (t : Tree) (r : List ℕ)
+compared_sound : (n levels : ℕ) (at : List ℕ) (left : Term) (op : Op) (right : Head) (text u v x y end : List ℕ) (t : CondTree) (r : List ℕ)
     → Valued n left text u → Blanks u v → Operates op v x → Blanks x y → Headed n right y end → compared n at left op right end ≡ read t r → Atom n levels t text r
 compared_sound n levels at left op (Asked s f) text u v x y end t r a b c d e h = absurd (grind (arith, h))
 compared_sound n levels at left op (Value right) text u v x y end t r a b c d e h = by_test (clash left op right) refl
@@ -480,7 +480,7 @@ compared_sound n levels at left op (Value right) text u v x y end t r a b c d e 
         let last : end ≡ r = grind (arith, m) in
         subst (λ z. Atom n levels z text r) what (u, v, x, y, a, b, c, d, subst (Valued n right y) last e, k)
 
-comparison_sound : (n levels : ℕ) (left : Term) (text u : List ℕ) (t : Tree) (r : List ℕ) → Valued n left text u → comparison n left u ≡ read t r → Atom n levels t text r
+comparison_sound : (n levels : ℕ) (left : Term) (text u : List ℕ) (t : CondTree) (r : List ℕ) → Valued n left text u → comparison n left u ≡ read t r → Atom n levels t text r
 unfolding comparison
 comparison_sound n levels left text u t r valued h =
     let a = then_back (operator n (after_blanks u)) _ t r h in
@@ -500,17 +500,17 @@ compared_complete n levels left op right text r (u, v, x, y, valued, blanks, ope
 
 -- ---- both
 
-atom_of_sound : (n levels : ℕ) (h : Head) (text u : List ℕ) (t : Tree) (r : List ℕ) → Headed n h text u → atom_of n levels h u ≡ read t r → Atom n levels t text r
+atom_of_sound : (n levels : ℕ) (h : Head) (text u : List ℕ) (t : CondTree) (r : List ℕ) → Headed n h text u → atom_of n levels h u ≡ read t r → Atom n levels t text r
 atom_of_sound n levels (Value left) text u t r k e = comparison_sound n levels left text u t r k e
 atom_of_sound n levels (Asked s f) text u t r k e = called_sound n levels s f text u t r k e
 
-pub atom_sound : (n levels : ℕ) (text : List ℕ) (t : Tree) (r : List ℕ) → atom n levels text ≡ read t r → Atom n levels t text r
+pub atom_sound : (n levels : ℕ) (text : List ℕ) (t : CondTree) (r : List ℕ) → atom n levels text ≡ read t r → Atom n levels t text r
 unfolding atom
 atom_sound n levels text t r h =
     let first = then_back (head n true text) (atom_of n levels) t r h in
     atom_of_sound n levels first.0 text first.1 t r (head_sound n true text first.0 first.1 first.2) first.3
 
-pub atom_complete : (n levels : ℕ) (t : Tree) (text r : List ℕ) → Atom n levels t text r → atom n levels text ≡ read t r
+pub atom_complete : (n levels : ℕ) (t : CondTree) (text r : List ℕ) → Atom n levels t text r → atom n levels text ≡ read t r
 atom_complete n levels (call s f signs) text r h = called_complete n levels s f signs text r h
 atom_complete n levels (compare left op right) text r h = compared_complete n levels left op right text r h
 atom_complete n levels (any ts) text r h = absurd h

@@ -3,7 +3,7 @@ use Rattle.std.proofs.Common.{◌≡◌, inl, inr, ℕ, zero, suc, ◌≤◌, Bo
 use Rattle.std.proofs.lemmas.List.{append_assoc, length-append}
 use Rattle.cond_lang.specs.Found.{Found, read, and_then, byte}
 use Rattle.cond_lang.specs.Signs.{is_blank, after_blanks, side}
-use Rattle.cond_lang.specs.Trees.{Tree, Trees, any, all}
+use Rattle.cond_lang.specs.Trees.{CondTree, Trees, any, all}
 use Rattle.cond_lang.specs.Values.{atom, head, member}
 use Rattle.cond_lang.specs.Conditions.{joined, begins_with, link, links, chain, alternatives, closed, bang, bracket, plain, shallow, shallow_at, nested_at, negation, disjunction, reading}
 use Rattle.cond_lang.specs.Atoms.{Blanks}
@@ -17,15 +17,15 @@ use Rattle.cond_lang.proofs.Shrinking.{atom_shorter}
 pub blanks_longer : (text rest : List ℕ) → Blanks text rest → length rest ≤ length text
 blanks_longer text rest h = let e = length-append h.0 rest in subst (λ y. length rest ≤ length y) (sym h.2) (omega (arith, e))
 
-abbrev pub Shortens : (Tree → List ℕ → List ℕ → Type 0) → Type 0
-Shortens Part = (t : Tree) (text rest : List ℕ) → Part t text rest → length rest ≤ length text
+abbrev pub Shortens : (CondTree → List ℕ → List ℕ → Type 0) → Type 0
+Shortens Part = (t : CondTree) (text rest : List ℕ) → Part t text rest → length rest ≤ length text
 
 -- a tree that stands there is read there, where what follows behind space does not go on
-abbrev pub IsRead : (List ℕ → Found Tree) → (Tree → List ℕ → List ℕ → Type 0) → (List ℕ → Type 0) → Type 0
-IsRead part Part Stop = (t : Tree) (text rest : List ℕ) → Part t text rest → Stop (after_blanks rest) → (r : List ℕ) × (part text ≡ read t r) × (after_blanks r ≡ after_blanks rest)
+abbrev pub IsRead : (List ℕ → Found CondTree) → (CondTree → List ℕ → List ℕ → Type 0) → (List ℕ → Type 0) → Type 0
+IsRead part Part Stop = (t : CondTree) (text rest : List ℕ) → Part t text rest → Stop (after_blanks rest) → (r : List ℕ) × (part text ≡ read t r) × (after_blanks r ≡ after_blanks rest)
 
-module _ (sign : ℕ) (make : Trees → Tree) (Part : Tree → List ℕ → List ℕ → Type 0) (shorter : Shortens Part) where
-  pub members_shorter : (ts : List Tree) (text rest : List ℕ) → Members sign Part ts text rest → length rest ≤ length text
+module _ (sign : ℕ) (make : Trees → CondTree) (Part : CondTree → List ℕ → List ℕ → Type 0) (shorter : Shortens Part) where
+  pub members_shorter : (ts : List CondTree) (text rest : List ℕ) → Members sign Part ts text rest → length rest ≤ length text
   members_shorter [] text rest h = absurd h
   members_shorter (t ∷ []) text rest h = shorter t text rest h
   members_shorter (t ∷ u ∷ ts) text rest h =
@@ -34,12 +34,12 @@ module _ (sign : ℕ) (make : Trees → Tree) (Part : Tree → List ℕ → List
   pub chain_shorter : Shortens (Chain sign make Part)
   chain_shorter t text rest h = let a = members_shorter h.0 text h.1 h.2 in let b = blanks_longer h.1 rest h.3 in omega (arith, a, b)
 
-module _ (n sign : ℕ) (make : Trees → Tree) (part : List ℕ → Found Tree) (Part : Tree → List ℕ → List ℕ → Type 0) (Stop : List ℕ → Type 0)
+module _ (n sign : ℕ) (make : Trees → CondTree) (part : List ℕ → Found CondTree) (Part : CondTree → List ℕ → List ℕ → Type 0) (Stop : List ℕ → Type 0)
     (solid : is_blank sign ≡ false) (shorter : Shortens Part) (is_read : IsRead part Part Stop) (stops : (v : List ℕ) → Stop (sign ∷ sign ∷ v)) where
   sign_stays : (v : List ℕ) → after_blanks (sign ∷ sign ∷ v) ≡ sign ∷ sign ∷ v
   sign_stays v = ap (λ t. if t then after_blanks (sign ∷ v) else (sign ∷ sign ∷ v)) solid
 
-  links_end : (k : ℕ) (ts : List Tree) (text : List ℕ) → begins_with sign text ≡ false → links n sign make part k ts text ≡ read (joined make ts) text
+  links_end : (k : ℕ) (ts : List CondTree) (text : List ℕ) → begins_with sign text ≡ false → links n sign make part k ts text ≡ read (joined make ts) text
   unfolding links
   links_end zero ts text e = refl
   links_end (suc k) ts text e = ap (link n sign make part (links n sign make part k) ts text) e
@@ -54,11 +54,11 @@ module _ (n sign : ℕ) (make : Trees → Tree) (part : List ℕ → Found Tree)
   begins_same : (v : List ℕ) → begins_with sign (sign ∷ v) ≡ true
   begins_same v = grind arith
 
-  links_on : (k : ℕ) (ts : List Tree) (v : List ℕ) → links n sign make part (suc k) ts (sign ∷ sign ∷ v) ≡ and_then (part v) (λ t behind. links n sign make part k (ts ++ (t ∷ [])) (after_blanks behind))
+  links_on : (k : ℕ) (ts : List CondTree) (v : List ℕ) → links n sign make part (suc k) ts (sign ∷ sign ∷ v) ≡ and_then (part v) (λ t behind. links n sign make part k (ts ++ (t ∷ [])) (after_blanks behind))
   unfolding links
   links_on k ts v = ap (link n sign make part (links n sign make part k) ts (sign ∷ sign ∷ v)) (begins_same (sign ∷ v)) ∙ then_read (byte n sign (sign ∷ v)) _ tt v _ (byte_same v) refl
 
-  pub members_read : (us : List Tree) (t : Tree) (ts : List Tree) (text s : List ℕ) (k : ℕ) → Members sign Part (t ∷ us) text s → Stop (after_blanks s) → begins_with sign (after_blanks s) ≡ false → length text ≤ k
+  pub members_read : (us : List CondTree) (t : CondTree) (ts : List CondTree) (text s : List ℕ) (k : ℕ) → Members sign Part (t ∷ us) text s → Stop (after_blanks s) → begins_with sign (after_blanks s) ≡ false → length text ≤ k
       → and_then (part text) (λ u rest. links n sign make part k (ts ++ (u ∷ [])) (after_blanks rest)) ≡ read (joined make (ts ++ (t ∷ us))) (after_blanks s)
   members_read [] t ts text s k h stop ends enough =
       let one = is_read t text s h stop in
@@ -73,14 +73,14 @@ module _ (n sign : ℕ) (make : Trees → Tree) (part : List ℕ → Found Tree)
       ∙ members_read us u (ts ++ (t ∷ [])) h.1 s k h.4 stop ends (omega (arith, a, b, enough))
       ∙ ap (λ y. read (joined make y) (after_blanks s)) (append_assoc ts (t ∷ []) (u ∷ us)))
 
-  pub chain_read : (t : Tree) (text rest : List ℕ) → Chain sign make Part t text rest → Stop (after_blanks rest) → begins_with sign (after_blanks rest) ≡ false → chain n sign make part text ≡ read t (after_blanks rest)
+  pub chain_read : (t : CondTree) (text rest : List ℕ) → Chain sign make Part t text rest → Stop (after_blanks rest) → begins_with sign (after_blanks rest) ≡ false → chain n sign make part text ≡ read t (after_blanks rest)
   unfolding chain
   chain_read t text rest h stop ends = by_members h.0 h.2 h.4
     where
       same : after_blanks h.1 ≡ after_blanks rest
       same = skipped h.1 rest h.3
 
-      by_members : (ts : List Tree) → Members sign Part ts text h.1 → t ≡ joined make ts → chain n sign make part text ≡ read t (after_blanks rest)
+      by_members : (ts : List CondTree) → Members sign Part ts text h.1 → t ≡ joined make ts → chain n sign make part text ≡ read t (after_blanks rest)
       by_members [] m e = absurd m
       by_members (u ∷ us) m e =
           members_read us u [] text h.1 (length text) m (subst Stop (sym same) stop) (subst (λ y. begins_with sign y ≡ false) (sym same) ends) (omega arith)
@@ -89,11 +89,11 @@ module _ (n sign : ℕ) (make : Trees → Tree) (part : List ℕ → Found Tree)
 idem : (rest : List ℕ) → after_blanks (after_blanks rest) ≡ after_blanks rest
 idem rest = sym (skipped rest (after_blanks rest) (blanks_of rest))
 
-module _ (n : ℕ) (part : List ℕ → Found Tree) (Part : Tree → List ℕ → List ℕ → Type 0) (shorter : Shortens Part) (is_read : IsRead part Part (λ _. Unit {0})) where
+module _ (n : ℕ) (part : List ℕ → Found CondTree) (Part : CondTree → List ℕ → List ℕ → Type 0) (shorter : Shortens Part) (is_read : IsRead part Part (λ _. Unit {0})) where
   all_read : IsRead (chain n 38 all part) (Chain 38 all Part) (λ w. begins_with 38 w ≡ false)
   all_read t text rest h stop = (after_blanks rest, chain_read n 38 all part Part (λ _. Unit {0}) refl shorter is_read (λ v. tt) t text rest h tt stop, idem rest)
 
-  pub alternatives_read : (t : Tree) (text rest : List ℕ) → Alternatives Part t text rest → begins_with 38 (after_blanks rest) ≡ false → begins_with 124 (after_blanks rest) ≡ false → alternatives n part text ≡ read t (after_blanks rest)
+  pub alternatives_read : (t : CondTree) (text rest : List ℕ) → Alternatives Part t text rest → begins_with 38 (after_blanks rest) ≡ false → begins_with 124 (after_blanks rest) ≡ false → alternatives n part text ≡ read t (after_blanks rest)
   alternatives_read t text rest h one two =
       chain_read n 124 any (chain n 38 all part) (Chain 38 all Part) (λ w. begins_with 38 w ≡ false) refl (chain_shorter 38 all Part shorter) all_read (λ v. refl) t text rest h one two
 
@@ -113,7 +113,7 @@ record Solid (at : List ℕ) : Type 0 where
   pub no_bang : begins_with 33 at ≡ false
   pub no_bracket : begins_with 40 at ≡ false
 
-solid_atom : (n levels : ℕ) (at : List ℕ) (t : Tree) (rest : List ℕ) → atom n levels at ≡ read t rest → Solid at
+solid_atom : (n levels : ℕ) (at : List ℕ) (t : CondTree) (rest : List ℕ) → atom n levels at ≡ read t rest → Solid at
 unfolding atom head member side
 solid_atom n levels [] t rest h = absurd (grind (arith, h))
 solid_atom n levels (c ∷ cs) t rest h = by_tests (is_blank c) refl (c == 33) refl (c == 40) refl
@@ -167,7 +167,7 @@ negation_read n (suc k) t text rest (s, b, inr (inr h)) stop =
     let solid = solid_atom n (suc k) s t rest found in
     (rest, ap (nested_at n (suc k) (negation n k)) (skipped text s b ∙ solid.stays) ∙ nested_plain n (suc k) (negation n k) s solid.no_bang solid.no_bracket ∙ found, refl)
 
-pub reading_complete : (text : List ℕ) (t : Tree) → Spells text t → reading text ≡ read t []
+pub reading_complete : (text : List ℕ) (t : CondTree) → Spells text t → reading text ≡ read t []
 unfolding reading disjunction Spells
 reading_complete text t h =
     then_read (alternatives (length text) (negation (length text) 64) text) _ t [] _

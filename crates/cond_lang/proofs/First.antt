@@ -5,7 +5,7 @@ use Rattle.std.specs.Str.Lossy.{utf8_valid_len}
 use Rattle.cond_lang.specs.declared.error.CondError.TheVariants.{Bad, TypeClash, TooDeep}
 use Rattle.cond_lang.specs.Found.{Found, read, fault, and_then, place}
 use Rattle.cond_lang.specs.Signs.{front_text}
-use Rattle.cond_lang.specs.Trees.{Tree}
+use Rattle.cond_lang.specs.Trees.{CondTree}
 use Rattle.cond_lang.specs.Conditions.{reading}
 use Rattle.cond_lang.specs.Fronts.{Passes, GoesOn, IsRefusedLength, IsFirstOfLength, StandsFirst}
 use Rattle.cond_lang.proofs.Follows.{Anything, Begins}
@@ -20,7 +20,7 @@ types_come k = tt
 levels_come : (k : ℕ) → Passes (fault (TooDeep k))
 levels_come k = tt
 
-then_read_same : (x : Found Tree) → and_then x read ≡ x
+then_read_same : (x : Found CondTree) → and_then x read ≡ x
 then_read_same (read t r) = refl
 then_read_same (fault e) = refl
 

@@ -20,7 +20,7 @@ use Rattle.cond_lang.specs.Found.{Found, read, fault, and_then, place, stuck, by
 use Rattle.cond_lang.specs.Signs.{is_in_name, after_blanks, after_name, after_text, begins_name, name, side, text_of, quoted, word_of}
 use Rattle.cond_lang.specs.Numbers.{digits, fraction, mantissa, power, metric, unit, spelled, in_range, measure}
 use Rattle.cond_lang.specs.Values.{meant, selected, member, begins_number, head, argument, opened, called, with_equals, operator, clash, compared, comparison, atom_of, atom}
-use Rattle.cond_lang.specs.Trees.{Tree, compare}
+use Rattle.cond_lang.specs.Trees.{CondTree, compare}
 use Rattle.cond_lang.proofs.Links.{blanks_shorter}
 
 abbrev pub Shrinks : {A : Type 0} → Found A → List ℕ → Type 0
@@ -207,7 +207,7 @@ comparison_shrinks n left text = shrinks_then (operator n (after_blanks text)) _
     shrinks_then (head n false (after_blanks rest)) _ rest (past (head n false (after_blanks rest)) rest (head_shrinks n false (after_blanks rest))) (λ right behind. by_head op behind right))
   where
     by_head : (op : Op) (behind : List ℕ) (h : Head) → Shrinks (compared n (after_blanks text) left op h behind) behind
-    by_head op behind (Value right) = either {A = Tree} (clash left op right) (fault (TypeClash (place n (after_blanks text)))) (read (compare left op right) behind) behind tt (omega arith)
+    by_head op behind (Value right) = either {A = CondTree} (clash left op right) (fault (TypeClash (place n (after_blanks text)))) (read (compare left op right) behind) behind tt (omega arith)
     by_head op behind (Asked s f) = tt
 
 pub atom_shrinks : (n levels : ℕ) (text : List ℕ) → Shrinks (atom n levels text) text
@@ -218,5 +218,5 @@ atom_shrinks n levels text = shrinks_then (head n true text) _ text (head_shrink
     by_head (Value left) rest = comparison_shrinks n left rest
     by_head (Asked s f) rest = called_shrinks n levels s f rest
 
-pub atom_shorter : (n levels : ℕ) (text : List ℕ) (t : Tree) (rest : List ℕ) → atom n levels text ≡ read t rest → length rest ≤ length text
+pub atom_shorter : (n levels : ℕ) (text : List ℕ) (t : CondTree) (rest : List ℕ) → atom n levels text ≡ read t rest → length rest ≤ length text
 atom_shorter n levels text t rest h = subst (λ f. Shrinks f text) h (atom_shrinks n levels text)

@@ -11,7 +11,7 @@ use Rattle.cond_lang.specs.declared.values.Head.{Head}
 use Rattle.cond_lang.specs.declared.values.Head.TheVariants.{Value, Asked}
 use Rattle.cond_lang.specs.Found.{Found, read, fault, and_then, place, stuck}
 use Rattle.cond_lang.specs.Signs.{after_blanks}
-use Rattle.cond_lang.specs.Trees.{Tree, call, compare}
+use Rattle.cond_lang.specs.Trees.{CondTree, call, compare}
 use Rattle.cond_lang.specs.Values.{head, argument, opened, called, operator, clash, compared, comparison_at, comparison, atom_of, atom}
 use Rattle.cond_lang.specs.Conditions.{closed}
 use Rattle.cond_lang.proofs.Follows.{EndsValue, Begins, Anything}
@@ -51,34 +51,34 @@ abbrev quotes : Reader (List ℕ)
 quotes = both (sign 39) (λ _. texts)
 
 -- what stands in the brackets of a function, and the closing one
-abbrev arguments : Side → Func → Reader Tree
+abbrev arguments : Side → Func → Reader CondTree
 arguments s f e u = and_then (argument e.0 f (after_blanks u)) (λ arg behind. closed e.0 (call s f arg) behind)
 
-abbrev calls : ℕ → Side → Func → Reader Tree
+abbrev calls : ℕ → Side → Func → Reader CondTree
 calls levels s f e u = called e.0 levels s f u
 
 -- the end of a comparison whose types clash
-abbrev judged_by : Bool → Tree → Reader Tree
+abbrev judged_by : Bool → CondTree → Reader CondTree
 judged_by clashing t e u = if clashing then fault (TypeClash (place e.0 [])) else read t u
 
 -- the end of a comparison whose operator stands nowhere
-abbrev judged : Term → Op → Head → Reader Tree
+abbrev judged : Term → Op → Head → Reader CondTree
 judged left op h e u = compared e.0 [] left op h u
 
 -- the other side
-abbrev other_sides : Term → Op → Reader Tree
+abbrev other_sides : Term → Op → Reader CondTree
 other_sides left op = both (past (heads false)) (judged left op)
 
-abbrev unplaced : Term → Reader Tree
+abbrev unplaced : Term → Reader CondTree
 unplaced left = both operators (other_sides left)
 
-abbrev placed : Term → Reader Tree
+abbrev placed : Term → Reader CondTree
 placed left e u = comparison_at e.0 left u
 
-abbrev comparisons : Term → Reader Tree
+abbrev comparisons : Term → Reader CondTree
 comparisons left e u = comparison e.0 left u
 
-abbrev pub atoms : ℕ → Reader Tree
+abbrev pub atoms : ℕ → Reader CondTree
 atoms levels e u = atom e.0 levels u
 
 -- ---- where the operator stands tells only where types clash
@@ -87,7 +87,7 @@ compared_alike : (n : ℕ) (x y : List ℕ) (left : Term) (op : Op) (h : Head) (
 compared_alike n x y left op (Asked s f) r = inl refl
 compared_alike n x y left op (Value right) r = by (clash left op right) refl
   where
-    at : List ℕ → Bool → Found Tree
+    at : List ℕ → Bool → Found CondTree
     at v b = if b then fault (TypeClash (place n v)) else read (compare left op right) r
 
     by : (b : Bool) → clash left op right ≡ b → Alike Clash (compared n x left op (Value right) r) (compared n y left op (Value right) r)
@@ -132,13 +132,13 @@ module _ {X : Type 0} (P : Found X → Type 0) (clashes : (k : ℕ) → P (fault
   quote_eating : Eating P Spoilt quotes Anything Anything (Begins 39)
   quote_eating = each_eating P Spoilt (sign_eating P Spoilt 39) (λ _. quoted_eating P) (λ z h. tt)
 
-  text_steady : (make : List ℕ → Tree) → Steady P Spoilt (past (both quotes (λ text. closing (make text)))) Anything Anything Stays
+  text_steady : (make : List ℕ → CondTree) → Steady P Spoilt (past (both quotes (λ text. closing (make text)))) Anything Anything Stays
   text_steady make = wider P Spoilt (λ z h. h) (begins_stays 39 refl) text_eating.steady
     where
       text_eating : Eating P Spoilt (past (both quotes (λ text. closing (make text)))) Anything Anything (Begins 39)
       text_eating = past_eating P Spoilt (begins_stays 39 refl) (each_eating P Spoilt quote_eating (λ text. closing_eating P Spoilt (make text)) (λ z h. tt))
 
-  empty_steady : (t : Tree) → Steady P Spoilt (past (closing t)) Anything Anything Stays
+  empty_steady : (t : CondTree) → Steady P Spoilt (past (closing t)) Anything Anything Stays
   empty_steady t = wider P Spoilt (λ z h. h) (begins_stays 41 refl) empty_eating.steady
     where
       empty_eating : Eating P Spoilt (past (closing t)) Anything Anything (Begins 41)
@@ -156,7 +156,7 @@ module _ {X : Type 0} (P : Found X → Type 0) (clashes : (k : ℕ) → P (fault
 
   -- ---- comparisons
 
-  judged_by_steady : (clashing : Bool) (t : Tree) → Steady P Spoilt (judged_by clashing t) Anything EndsValue EndsValue
+  judged_by_steady : (clashing : Bool) (t : CondTree) → Steady P Spoilt (judged_by clashing t) Anything EndsValue EndsValue
   judged_by_steady false t = pure_steady P Spoilt tt
   judged_by_steady true t = refusing.steady
     where

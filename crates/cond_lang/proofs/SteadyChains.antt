@@ -4,7 +4,7 @@ use Rattle.std.proofs.lemmas.List.{length-append}
 use Rattle.cond_lang.specs.declared.error.CondError.TheVariants.{Bad}
 use Rattle.cond_lang.specs.Found.{Found, read, fault, and_then, byte}
 use Rattle.cond_lang.specs.Signs.{after_blanks}
-use Rattle.cond_lang.specs.Trees.{Tree, Trees}
+use Rattle.cond_lang.specs.Trees.{CondTree, Trees}
 use Rattle.cond_lang.specs.Conditions.{joined, begins_with, link, links, chain, ended}
 use Rattle.cond_lang.proofs.Steps.{then_read}
 use Rattle.cond_lang.proofs.Blanks.{then_back, byte_back}
@@ -54,11 +54,11 @@ module _ (sign : ℕ) where
       by_test true e = absurd (grind (arith, e, h, other))
       by_test false e = e
 
-module _ (P : Found Tree → Type 0) (Spoils : ℕ → List ℕ → ℕ → Type 0) where
+module _ (P : Found CondTree → Type 0) (Spoils : ℕ → List ℕ → ℕ → Type 0) where
   -- ---- one reader and then another, at one text
 
-  module _ {A : Type 0} (f : Reader A) (g : A → Reader Tree) (S T Trailing Leading : List ℕ → Type 0) (first : (z : List ℕ) → Leading z → S z) (taken : Eating P Spoils f Anything S T) where
-    both_kept_at : (e : ℕ × List ℕ) (u : List ℕ) (t : Tree) (q : List ℕ) → ((z : List ℕ) → Trailing z → S z)
+  module _ {A : Type 0} (f : Reader A) (g : A → Reader CondTree) (S T Trailing Leading : List ℕ → Type 0) (first : (z : List ℕ) → Leading z → S z) (taken : Eating P Spoils f Anything S T) where
+    both_kept_at : (e : ℕ × List ℕ) (u : List ℕ) (t : CondTree) (q : List ℕ) → ((z : List ℕ) → Trailing z → S z)
         → ((a : A) (r : List ℕ) → f e u ≡ read a r → g a e r ≡ read t q → KeptAt (g a) Trailing r t q) → both f g e u ≡ read t q → KeptAt (both f g) Trailing u t q
     both_kept_at e u t q quiet two h =
         let b = then_back (f e u) (λ a r. g a e r) t q h in
@@ -71,43 +71,43 @@ module _ (P : Found Tree → Type 0) (Spoils : ℕ → List ℕ → ℕ → Type
       where
         by_first : (x : Found A) → f e u ≡ x → and_then x (λ a r. g a e r) ≡ fault (Bad k) → BarredAt P Spoils (both f g) Anything Trailing T e.0 u k
         by_first (read a r) i j = both_right P Spoils f g Anything Anything S T Trailing Leading first e.0 u a r k (taken.steady.kept e u a r i) (two a r i j) (λ same. absurd (taken.eats e u a (i ∙ ap (read a) (sym same))))
-        by_first (fault x) i j = both_left P Spoils f g Anything Anything S T Trailing Leading first (λ a q. opening a) e.0 u k (taken.steady.barred e u k (i ∙ ap fault (bad_error {A = Tree} x k j)))
+        by_first (fault x) i j = both_left P Spoils f g Anything Anything S T Trailing Leading first (λ a q. opening a) e.0 u k (taken.steady.barred e u k (i ∙ ap fault (bad_error {A = CondTree} x k j)))
 
   -- ---- chains
 
-  module _ (sign : ℕ) (make : Trees → Tree) (part : Reader Tree) (S T : List ℕ → Type 0) (other : (sign == 41) ≡ false)
+  module _ (sign : ℕ) (make : Trees → CondTree) (part : Reader CondTree) (S T : List ℕ → Type 0) (other : (sign == 41) ≡ false)
       (closes : (z : List ℕ) → Closes z → S z) (taken : Eating P Spoils part Anything S T) where
     -- further members, as many as there are
-    abbrev further : List Tree → Reader Tree
+    abbrev further : List CondTree → Reader CondTree
     further ts e u = links e.0 sign make (part e) (length u) ts u
 
     abbrev sign_byte : Reader (Unit {0})
     sign_byte e u = byte e.0 sign u
 
     -- a member, and further ones
-    abbrev member : List Tree → Reader Tree
+    abbrev member : List CondTree → Reader CondTree
     member ts = both part (λ t. past (further (ts ++ (t ∷ []))))
 
-    abbrev second : List Tree → Reader Tree
+    abbrev second : List CondTree → Reader CondTree
     second ts = both sign_byte (λ _. member ts)
 
-    abbrev doubled : List Tree → Reader Tree
+    abbrev doubled : List CondTree → Reader CondTree
     doubled ts = both sign_byte (λ _. second ts)
 
-    part_shorter : (e : ℕ × List ℕ) (u : List ℕ) (t : Tree) (r : List ℕ) → part e u ≡ read t r → length r ≤ length u
+    part_shorter : (e : ℕ × List ℕ) (u : List ℕ) (t : CondTree) (r : List ℕ) → part e u ≡ read t r → length r ≤ length u
     part_shorter e u t r h =
         let k = taken.steady.kept e u t r h in
         let l : length u ≡ length (k.0 ++ r) = ap length k.1 in
         let m = length-append k.0 r in omega (arith, l, m)
 
     -- a member, and at most k further ones
-    abbrev going : ℕ → List Tree → Reader Tree
+    abbrev going : ℕ → List CondTree → Reader CondTree
     going k ts e v = and_then (part e v) (λ t behind. links e.0 sign make (part e) k (ts ++ (t ∷ [])) (after_blanks behind))
 
     abbrev SameLinks : (ℕ × List ℕ) → ℕ → ℕ → Type 0
-    SameLinks e j k = (ts : List Tree) (u : List ℕ) → length u ≤ j → length u ≤ k → links e.0 sign make (part e) j ts u ≡ links e.0 sign make (part e) k ts u
+    SameLinks e j k = (ts : List CondTree) (u : List ℕ) → length u ≤ j → length u ≤ k → links e.0 sign make (part e) j ts u ≡ links e.0 sign make (part e) k ts u
 
-    going_same : (e : ℕ × List ℕ) (j k : ℕ) (ts : List Tree) (v : List ℕ) → SameLinks e j k → length v ≤ j → length v ≤ k → going j ts e v ≡ going k ts e v
+    going_same : (e : ℕ × List ℕ) (j k : ℕ) (ts : List CondTree) (v : List ℕ) → SameLinks e j k → length v ≤ j → length v ≤ k → going j ts e v ≡ going k ts e v
     going_same e j k ts v same a b =
         then_equal (part e v) (λ t behind. links e.0 sign make (part e) j (ts ++ (t ∷ [])) (after_blanks behind)) (λ t behind. links e.0 sign make (part e) k (ts ++ (t ∷ [])) (after_blanks behind))
         (λ t behind h. let s = part_shorter e v t behind h in let m = blanks_shorter behind in same (ts ++ (t ∷ [])) (after_blanks behind) (omega (arith, a, s, m)) (omega (arith, b, s, m)))
@@ -137,13 +137,13 @@ module _ (P : Found Tree → Type 0) (Spoils : ℕ → List ℕ → ℕ → Type
     links_enough e (suc j) zero ts (c ∷ cs) a b = absurd (omega (arith, b))
     links_enough e (suc j) (suc k) ts u a b = same_more e j k (links_enough e j k) ts u a b
 
-    going_enough : (k : ℕ) (ts : List Tree) (e : ℕ × List ℕ) (v : List ℕ) → length v ≤ k → going k ts e v ≡ member ts e v
+    going_enough : (k : ℕ) (ts : List CondTree) (e : ℕ × List ℕ) (v : List ℕ) → length v ≤ k → going k ts e v ≡ member ts e v
     going_enough k ts e v a =
         then_equal (part e v) (λ t behind. links e.0 sign make (part e) k (ts ++ (t ∷ [])) (after_blanks behind)) (λ t behind. further (ts ++ (t ∷ [])) e (after_blanks behind))
         (λ t behind h. let s = part_shorter e v t behind h in let m = blanks_shorter behind in
         links_enough e k (length (after_blanks behind)) (ts ++ (t ∷ [])) (after_blanks behind) (omega (arith, a, s, m)) (omega arith))
 
-    further_begun : (ts : List Tree) (e : ℕ × List ℕ) (s : List ℕ) → further ts e (sign ∷ s) ≡ doubled ts e (sign ∷ s)
+    further_begun : (ts : List CondTree) (e : ℕ × List ℕ) (s : List ℕ) → further ts e (sign ∷ s) ≡ doubled ts e (sign ∷ s)
     unfolding links
     further_begun ts e s =
         ap (link e.0 sign make (part e) (links e.0 sign make (part e) (length s)) ts (sign ∷ s)) (begins_same sign s)
@@ -151,41 +151,41 @@ module _ (P : Found Tree → Type 0) (Spoils : ℕ → List ℕ → ℕ → Type
         (λ a v h. let l = byte_shorter e.0 s v a h in going_enough (length s) ts e v (omega (arith, l)))
         ∙ sym (then_read (byte e.0 sign (sign ∷ s)) (λ _ v. second ts e v) tt s (second ts e s) (byte_same e.0 sign s) refl)
 
-    same_doubled : (ts : List Tree) (e : ℕ × List ℕ) (u : List ℕ) → Begins sign u → further ts e u ≡ doubled ts e u
+    same_doubled : (ts : List CondTree) (e : ℕ × List ℕ) (u : List ℕ) → Begins sign u → further ts e u ≡ doubled ts e u
     same_doubled ts e u (s, eq) = subst (λ y. further ts e y ≡ doubled ts e y) (sym eq) (further_begun ts e s)
 
-    further_ending : (ts : List Tree) (e : ℕ × List ℕ) (u : List ℕ) → begins_with sign u ≡ false → further ts e u ≡ read (joined make ts) u
+    further_ending : (ts : List CondTree) (e : ℕ × List ℕ) (u : List ℕ) → begins_with sign u ≡ false → further ts e u ≡ read (joined make ts) u
     unfolding links
     further_ending ts e [] h = refl
     further_ending ts e (c ∷ cs) h = ap (link e.0 sign make (part e) (links e.0 sign make (part e) (length cs)) ts (c ∷ cs)) h
 
     -- ---- what opens them
 
-    further_opens : (ts : List Tree) → OpensTo P Spoils (further ts) Anything Closes Closes
+    further_opens : (ts : List CondTree) → OpensTo P Spoils (further ts) Anything Closes Closes
     further_opens ts K ends =
         let o = ends (joined make ts) tt in
         (o.0, o.1, λ e. subst P (sym (then_read (further ts e o.0) (K e) (joined make ts) o.0 _ (further_ending ts e o.0 (closes_none sign other o.0 o.1)) refl)) (o.2 e))
 
-    past_further_opens : (ts : List Tree) → OpensTo P Spoils (past (further ts)) Anything Closes Closes
+    past_further_opens : (ts : List CondTree) → OpensTo P Spoils (past (further ts)) Anything Closes Closes
     past_further_opens ts = past_opens P Spoils (further ts) Anything Closes Closes closes_stays (further_opens ts)
 
-    member_opens : (ts : List Tree) → OpensTo P Spoils (member ts) Anything Closes T
+    member_opens : (ts : List CondTree) → OpensTo P Spoils (member ts) Anything Closes T
     member_opens ts = both_opens P Spoils part (λ t. past (further (ts ++ (t ∷ [])))) Anything Anything S T Closes Closes closes (λ t q. past_further_opens (ts ++ (t ∷ []))) taken.steady.opens
 
-    second_opens : (ts : List Tree) → OpensTo P Spoils (second ts) Anything Closes (Begins sign)
+    second_opens : (ts : List CondTree) → OpensTo P Spoils (second ts) Anything Closes (Begins sign)
     second_opens ts = both_opens P Spoils sign_byte (λ _. member ts) Anything Anything Anything (Begins sign) Closes T (λ z t. tt) (λ _ q. member_opens ts) (sign_eating P Spoils sign).steady.opens
 
     -- ---- what is kept
 
-    left_shorter : (e : ℕ × List ℕ) (u s v : List ℕ) (a b : Unit {0}) (t : Tree) (y : List ℕ) (k : ℕ)
+    left_shorter : (e : ℕ × List ℕ) (u s v : List ℕ) (a b : Unit {0}) (t : CondTree) (y : List ℕ) (k : ℕ)
         → byte e.0 sign u ≡ read a s → byte e.0 sign s ≡ read b v → part e v ≡ read t y → length u ≤ suc k → length (after_blanks y) ≤ k
     left_shorter e u s v a b t y k h i j short =
         let l = byte_shorter e.0 u s a h in let m = byte_shorter e.0 s v b i in let p = part_shorter e v t y j in let q = blanks_shorter y in omega (arith, l, m, p, q, short)
 
     abbrev KeptFor : ℕ → Type 0
-    KeptFor k = (ts : List Tree) (e : ℕ × List ℕ) (u : List ℕ) (t : Tree) (r : List ℕ) → length u ≤ k → further ts e u ≡ read t r → KeptAt (further ts) Closes u t r
+    KeptFor k = (ts : List CondTree) (e : ℕ × List ℕ) (u : List ℕ) (t : CondTree) (r : List ℕ) → length u ≤ k → further ts e u ≡ read t r → KeptAt (further ts) Closes u t r
 
-    further_kept_end : (ts : List Tree) (e : ℕ × List ℕ) (u : List ℕ) (t : Tree) (r : List ℕ) → begins_with sign u ≡ false → further ts e u ≡ read t r → KeptAt (further ts) Closes u t r
+    further_kept_end : (ts : List CondTree) (e : ℕ × List ℕ) (u : List ℕ) (t : CondTree) (r : List ℕ) → begins_with sign u ≡ false → further ts e u ≡ read t r → KeptAt (further ts) Closes u t r
     further_kept_end ts e u t r none h = ([], rest, λ d z next. further_ending ts d z (still z next) ∙ ap (λ y. read y z) value)
       where
         found : read (joined make ts) u ≡ read t r
@@ -201,13 +201,13 @@ module _ (P : Found Tree → Type 0) (Spoils : ℕ → List ℕ → ℕ → Type
         still z (inl c) = closes_none sign other z c
         still z (inr same) = head_none sign u z none (subst (λ y. SameHead y z) (sym rest) same)
 
-    kept_back : (ts : List Tree) (u : List ℕ) (t : Tree) (r : List ℕ) → KeptAt (doubled ts) Closes u t r → KeptAt (further ts) Closes u t r
+    kept_back : (ts : List CondTree) (u : List ℕ) (t : CondTree) (r : List ℕ) → KeptAt (doubled ts) Closes u t r → KeptAt (further ts) Closes u t r
     kept_back ts u t r (w, eq, keep) = (w, eq, λ d z next. same_doubled ts d (w ++ z) (begins d z (keep d z next)) ∙ keep d z next)
       where
         begins : (d : ℕ × List ℕ) (z : List ℕ) → doubled ts d (w ++ z) ≡ read t z → Begins sign (w ++ z)
         begins d z h = let b = then_back (byte d.0 sign (w ++ z)) (λ _ r. second ts d r) t z h in (b.1, byte_back d.0 sign (w ++ z) b.1 b.2)
 
-    kept_doubled : (k : ℕ) → KeptFor k → (ts : List Tree) (e : ℕ × List ℕ) (u : List ℕ) (t : Tree) (r : List ℕ) → length u ≤ suc k → doubled ts e u ≡ read t r → KeptAt (doubled ts) Closes u t r
+    kept_doubled : (k : ℕ) → KeptFor k → (ts : List CondTree) (e : ℕ × List ℕ) (u : List ℕ) (t : CondTree) (r : List ℕ) → length u ≤ suc k → doubled ts e u ≡ read t r → KeptAt (doubled ts) Closes u t r
     kept_doubled k before ts e u t r short h =
         both_kept_at sign_byte (λ _. second ts) Anything (Begins sign) Closes (Begins sign) (λ z _. tt) (sign_eating P Spoils sign) e u t r (λ z _. tt)
         (λ a s i1 h1. both_kept_at sign_byte (λ _. member ts) Anything (Begins sign) Closes T (λ z _. tt) (sign_eating P Spoils sign) e s t r (λ z _. tt)
@@ -229,13 +229,13 @@ module _ (P : Found Tree → Type 0) (Spoils : ℕ → List ℕ → ℕ → Type
     -- ---- where they are barred
 
     abbrev BarredFor : ℕ → Type 0
-    BarredFor k = (ts : List Tree) (e : ℕ × List ℕ) (u : List ℕ) (q : ℕ) → length u ≤ k → further ts e u ≡ fault (Bad q) → BarredAt P Spoils (further ts) Anything Closes Closes e.0 u q
+    BarredFor k = (ts : List CondTree) (e : ℕ × List ℕ) (u : List ℕ) (q : ℕ) → length u ≤ k → further ts e u ≡ fault (Bad q) → BarredAt P Spoils (further ts) Anything Closes Closes e.0 u q
 
-    further_barred_end : (ts : List Tree) (e : ℕ × List ℕ) (u : List ℕ) (q : ℕ) → begins_with sign u ≡ false → further ts e u ≡ fault (Bad q)
+    further_barred_end : (ts : List CondTree) (e : ℕ × List ℕ) (u : List ℕ) (q : ℕ) → begins_with sign u ≡ false → further ts e u ≡ fault (Bad q)
         → BarredAt P Spoils (further ts) Anything Closes Closes e.0 u q
     further_barred_end ts e u q none h = let i : read (joined make ts) u ≡ fault (Bad q) = sym (further_ending ts e u none) ∙ h in absurd (grind (arith, i))
 
-    barred_back : (ts : List Tree) (n : ℕ) (u : List ℕ) (q : ℕ) → Begins sign u → BarredAt P Spoils (doubled ts) Anything Closes (Begins sign) n u q
+    barred_back : (ts : List CondTree) (n : ℕ) (u : List ℕ) (q : ℕ) → Begins sign u → BarredAt P Spoils (doubled ts) Anything Closes (Begins sign) n u q
         → BarredAt P Spoils (further ts) Anything Closes Closes n u q
     barred_back ts n u q begins (w, v, eq, why, on) = (w, v, eq, cause why, onward)
       where
@@ -260,7 +260,7 @@ module _ (P : Found Tree → Type 0) (Spoils : ℕ → List ℕ → ℕ → Type
               λ d. subst (λ y. P (and_then y (K d))) (sym (same_doubled ts d (w ++ o.0) (next_begins (w ++ o.0) o.1))) (o.2 d),
             )
 
-    barred_doubled : (k : ℕ) → BarredFor k → (ts : List Tree) (e : ℕ × List ℕ) (u : List ℕ) (q : ℕ) → length u ≤ suc k → doubled ts e u ≡ fault (Bad q)
+    barred_doubled : (k : ℕ) → BarredFor k → (ts : List CondTree) (e : ℕ × List ℕ) (u : List ℕ) (q : ℕ) → length u ≤ suc k → doubled ts e u ≡ fault (Bad q)
         → BarredAt P Spoils (doubled ts) Anything Closes (Begins sign) e.0 u q
     barred_doubled k before ts e u q short h =
         both_barred_at sign_byte (λ _. second ts) Anything (Begins sign) Closes (Begins sign) (λ z _. tt) (sign_eating P Spoils sign) e u q (λ _. second_opens ts)
@@ -282,7 +282,7 @@ module _ (P : Found Tree → Type 0) (Spoils : ℕ → List ℕ → ℕ → Type
 
     -- ---- all
 
-    further_steady : (ts : List Tree) → Steady P Spoils (further ts) Anything Closes Closes
+    further_steady : (ts : List CondTree) → Steady P Spoils (further ts) Anything Closes Closes
     further_steady ts = record {
       reads = λ e u a r h. tt;
       kept = λ e u a r h. kept_for (length u) ts e u a r (omega arith) h;
@@ -290,7 +290,7 @@ module _ (P : Found Tree → Type 0) (Spoils : ℕ → List ℕ → ℕ → Type
       opens = further_opens ts;
     }
 
-    member_eating : (ts : List Tree) → Eating P Spoils (member ts) Anything Closes T
+    member_eating : (ts : List CondTree) → Eating P Spoils (member ts) Anything Closes T
     member_eating ts = both_eating P Spoils taken (λ t q. past_steady P Spoils closes_stays (λ e u a h. closes_stays) (further_steady (ts ++ (t ∷ [])))) closes closes
 
     chain_same : (e : ℕ × List ℕ) (u : List ℕ) → chain e.0 sign make (part e) u ≡ member [] e u
@@ -305,7 +305,7 @@ module _ (P : Found Tree → Type 0) (Spoils : ℕ → List ℕ → ℕ → Type
 
   -- ---- the end
 
-  pub ended_steady : (t : Tree) → Steady P Spoils (λ (e : ℕ × List ℕ) u. ended e.0 t u) Anything (λ z. z ≡ []) (λ z. z ≡ [])
+  pub ended_steady : (t : CondTree) → Steady P Spoils (λ (e : ℕ × List ℕ) u. ended e.0 t u) Anything (λ z. z ≡ []) (λ z. z ≡ [])
   ended_steady t = record {
     reads = λ e u a r h. tt;
     kept = kept;
@@ -313,10 +313,10 @@ module _ (P : Found Tree → Type 0) (Spoils : ℕ → List ℕ → ℕ → Type
     opens = opens;
   }
     where
-      last : Reader Tree
+      last : Reader CondTree
       last e u = ended e.0 t u
 
-      kept : (e : ℕ × List ℕ) (u : List ℕ) (a : Tree) (r : List ℕ) → last e u ≡ read a r → KeptAt last (λ z. z ≡ []) u a r
+      kept : (e : ℕ × List ℕ) (u : List ℕ) (a : CondTree) (r : List ℕ) → last e u ≡ read a r → KeptAt last (λ z. z ≡ []) u a r
       kept e [] a r h =
           let rest : [] ≡ r = grind (arith, h) in let value : t ≡ a = grind (arith, h) in
           ([], rest, λ d z next. by_next (subst (λ y. Next (λ z. z ≡ []) y z) (sym rest) next) d value)
@@ -332,4 +332,4 @@ module _ (P : Found Tree → Type 0) (Spoils : ℕ → List ℕ → ℕ → Type
       barred : (e : ℕ × List ℕ) (u : List ℕ) (k : ℕ) → last e u ≡ fault (Bad k) → BarredAt P Spoils last Anything (λ z. z ≡ []) (λ z. z ≡ []) e.0 u k
       barred e [] k h = absurd (grind (arith, h))
       barred e (c ∷ cs) k h =
-          barred_at_once P Spoils last Anything (λ z. z ≡ []) (λ z. z ≡ []) e.0 (c ∷ cs) k opens (stuck_place {A = Tree} e.0 k (c ∷ cs) h) (λ b s eq d z. refl)
+          barred_at_once P Spoils last Anything (λ z. z ≡ []) (λ z. z ≡ []) e.0 (c ∷ cs) k opens (stuck_place {A = CondTree} e.0 k (c ∷ cs) h) (λ b s eq d z. refl)

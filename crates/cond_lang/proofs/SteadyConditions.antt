@@ -3,7 +3,7 @@ use Rattle.std.proofs.Common.{◌≡◌, ◌⊎◌, inl, ℕ, zero, suc, Bool, t
 use Rattle.cond_lang.specs.declared.error.CondError.TheVariants.{TypeClash, TooDeep}
 use Rattle.cond_lang.specs.Found.{Found, read, fault, and_then}
 use Rattle.cond_lang.specs.Signs.{after_blanks}
-use Rattle.cond_lang.specs.Trees.{Tree, any, all, negated}
+use Rattle.cond_lang.specs.Trees.{CondTree, any, all, negated}
 use Rattle.cond_lang.specs.Values.{atom}
 use Rattle.cond_lang.specs.Conditions.{chain, alternatives, bang, bracket, plain, shallow, nested, shallow_at, nested_at, negation, disjunction, ended}
 use Rattle.cond_lang.proofs.Follows.{EndsValue, Closes, Begins, Anything}
@@ -20,48 +20,48 @@ closes_ends (c ∷ cs) h = subst (λ y. EndsValue (y ∷ cs)) (sym h) refl
 
 -- ---- the readers
 
-abbrev negations : ℕ → Reader Tree
+abbrev negations : ℕ → Reader CondTree
 negations levels e u = negation e.0 levels u
 
 -- a chain of `&&`
-abbrev ands : ℕ → Reader Tree
+abbrev ands : ℕ → Reader CondTree
 ands levels e u = chain e.0 38 all (negation e.0 levels) u
 
 -- a chain of `||`
-abbrev ors : ℕ → Reader Tree
+abbrev ors : ℕ → Reader CondTree
 ors levels e u = alternatives e.0 (negation e.0 levels) u
 
 -- behind a `!`
-abbrev denied : ℕ → Reader Tree
+abbrev denied : ℕ → Reader CondTree
 denied levels = both (negations levels) (λ t e u. read (negated t) u)
 
 -- behind an opening bracket
-abbrev bracketed : ℕ → Reader Tree
+abbrev bracketed : ℕ → Reader CondTree
 bracketed levels = both (ors levels) closing
 
 -- a negation behind space where no level is left, and where some are
-abbrev lowest : Reader Tree
+abbrev lowest : Reader CondTree
 lowest e u = shallow_at e.0 u
 
-abbrev higher : ℕ → Reader Tree
+abbrev higher : ℕ → Reader CondTree
 higher k e u = nested_at e.0 (suc k) (negation e.0 k) u
 
-abbrev nothing_more : Tree → Reader Tree
+abbrev nothing_more : CondTree → Reader CondTree
 nothing_more t = past (λ e u. ended e.0 t u)
 
-abbrev pub whole : Reader Tree
+abbrev pub whole : Reader CondTree
 whole e u = and_then (disjunction e.0 64 u) (λ t rest. ended e.0 t (after_blanks rest))
 
 abbrev pub Ends : List ℕ → Type 0
 Ends z = z ≡ []
 
-module _ (P : Found Tree → Type 0) (clashes : (k : ℕ) → P (fault (TypeClash k))) (deep : (k : ℕ) → P (fault (TooDeep k))) where
+module _ (P : Found CondTree → Type 0) (clashes : (k : ℕ) → P (fault (TypeClash k))) (deep : (k : ℕ) → P (fault (TooDeep k))) where
   -- ---- no level left
 
   lowest_choice : (c : ℕ) → Chosen P Spoilt lowest Anything EndsValue c ⊎ StuckWith P Spoilt lowest c
   lowest_choice c = inl (by (c == 33) refl (c == 40) refl)
     where
-      at : (e : ℕ × List ℕ) (cs : List ℕ) → Bool → Bool → Found Tree
+      at : (e : ℕ × List ℕ) (cs : List ℕ) → Bool → Bool → Found CondTree
       at e cs x y = shallow e.0 (c ∷ cs) (if x then bang else (if y then bracket else plain))
 
       by : (x : Bool) → (c == 33) ≡ x → (y : Bool) → (c == 40) ≡ y → Chosen P Spoilt lowest Anything EndsValue c
@@ -95,7 +95,7 @@ module _ (P : Found Tree → Type 0) (clashes : (k : ℕ) → P (fault (TypeClas
     higher_choice : (c : ℕ) → Chosen P Spoilt (higher k) Anything EndsValue c ⊎ StuckWith P Spoilt (higher k) c
     higher_choice c = inl (by (c == 33) refl (c == 40) refl)
       where
-        at : (e : ℕ × List ℕ) (cs : List ℕ) → Bool → Bool → Found Tree
+        at : (e : ℕ × List ℕ) (cs : List ℕ) → Bool → Bool → Found CondTree
         at e cs x y = nested e.0 (suc k) (negation e.0 k) (c ∷ cs) cs (if x then bang else (if y then bracket else plain))
 
         by : (x : Bool) → (c == 33) ≡ x → (y : Bool) → (c == 40) ≡ y → Chosen P Spoilt (higher k) Anything EndsValue c
@@ -118,7 +118,7 @@ module _ (P : Found Tree → Type 0) (clashes : (k : ℕ) → P (fault (TypeClas
 
   -- ---- whole texts
 
-  nothing_more_steady : (t : Tree) → Steady P Spoilt (nothing_more t) Anything Ends Ends
+  nothing_more_steady : (t : CondTree) → Steady P Spoilt (nothing_more t) Anything Ends Ends
   nothing_more_steady t = past_steady P Spoilt (λ z e. ap after_blanks e ∙ sym e) (λ e u a same z e2. ap after_blanks e2 ∙ sym e2) (ended_steady P Spoilt t)
 
   pub whole_steady : Steady P Spoilt whole Anything Ends (Begins 39)

@@ -4,7 +4,7 @@ use Rattle.std.proofs.lemmas.List.{append_assoc, length-append}
 use Rattle.cond_lang.specs.declared.error.CondError.TheVariants.{Bad}
 use Rattle.cond_lang.specs.Found.{Found, read, fault, and_then, stuck, byte}
 use Rattle.cond_lang.specs.Signs.{is_blank, after_blanks}
-use Rattle.cond_lang.specs.Trees.{Tree}
+use Rattle.cond_lang.specs.Trees.{CondTree}
 use Rattle.cond_lang.specs.Atoms.{AreBlanks, Blanks}
 use Rattle.cond_lang.specs.Conditions.{closed}
 use Rattle.cond_lang.proofs.Steps.{then_read}
@@ -78,7 +78,7 @@ abbrev pub sign_for : {A : Type 0} → ℕ → A → Reader A
 sign_for b a = both (sign b) (λ _ e u. read a u)
 
 -- behind a tree: the closing bracket
-abbrev pub closing : Tree → Reader Tree
+abbrev pub closing : CondTree → Reader CondTree
 closing t e u = closed e.0 t u
 
 module _ {B : Type 0} (P : Found B → Type 0) (Spoils : ℕ → List ℕ → ℕ → Type 0) where
@@ -189,7 +189,7 @@ module _ {B : Type 0} (P : Found B → Type 0) (Spoils : ℕ → List ℕ → �
   pub sign_for_eating : {A : Type 0} (b : ℕ) (a : A) → Eating P Spoils (sign_for b a) Anything Anything (Begins b)
   sign_for_eating b a = map_eating P Spoils (λ _. a) (sign_eating b) (λ _ _. tt)
 
-  pub closing_eating : (t : Tree) → Eating P Spoils (closing t) Anything Anything (Begins 41)
+  pub closing_eating : (t : CondTree) → Eating P Spoils (closing t) Anything Anything (Begins 41)
   closing_eating t = both_eating P Spoils (past_eating (begins_stays 41 refl) (sign_eating 41)) (λ _ q. pure_steady P Spoils tt) (λ z h. h) (λ z h. h)
 
   -- a sign, and what stands behind it

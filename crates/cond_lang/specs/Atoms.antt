@@ -16,7 +16,7 @@ use Rattle.cond_lang.specs.declared.scan.Word.TheVariants.{Property, Function}
 use Rattle.cond_lang.specs.Found.{read}
 use Rattle.cond_lang.specs.Signs.{is_blank, is_in_name, begins_name, word_of}
 use Rattle.cond_lang.specs.Numbers.{measure}
-use Rattle.cond_lang.specs.Trees.{Tree, any, all, negated, call, compare}
+use Rattle.cond_lang.specs.Trees.{CondTree, any, all, negated, call, compare}
 use Rattle.cond_lang.specs.Values.{begins_number, clash}
 
 -- ---- space
@@ -107,7 +107,7 @@ Compared n left op right text rest =
     (u v x y : List ℕ) × Valued n left text u × Blanks u v × Operates op v x × Blanks x y × Valued n right y rest × (clash left op right ≡ false)
 
 -- one of the two
-abbrev pub Atom : ℕ → ℕ → Tree → List ℕ → List ℕ → Type 0
+abbrev pub Atom : ℕ → ℕ → CondTree → List ℕ → List ℕ → Type 0
 Atom n levels (call s f signs) text rest = Called levels s f signs text rest
 Atom n levels (compare left op right) text rest = Compared n left op right text rest
 Atom n levels (any ts) text rest = ⊥

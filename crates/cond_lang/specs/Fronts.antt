@@ -10,7 +10,7 @@ use Rattle.cond_lang.specs.declared.error.CondError.TheVariants.{Bad, UnknownNam
 use Rattle.cond_lang.specs.Found.{Found, read, fault}
 use Rattle.cond_lang.specs.Signs.{front_text}
 use Rattle.cond_lang.specs.Numbers.{spelled, measure}
-use Rattle.cond_lang.specs.Trees.{Tree}
+use Rattle.cond_lang.specs.Trees.{CondTree}
 use Rattle.cond_lang.specs.Conditions.{reading}
 
 -- ---- fronts of conditions
@@ -23,7 +23,7 @@ IsTakenAsItComes (TooDeep at) = Unit {0}
 IsTakenAsItComes OutOfMemory = ⊥
 
 -- a condition, or refused for its types or levels alone
-abbrev pub Passes : Found Tree → Type 0
+abbrev pub Passes : Found CondTree → Type 0
 Passes (read t rest) = Unit {0}
 Passes (fault e) = IsTakenAsItComes e
 
@@ -33,8 +33,8 @@ GoesOn front = (more : List ℕ) × Passes (reading (front ++ more))
 
 -- The first k bytes go on, and with one byte more none does: each text that begins so is Bad at that byte. Where no byte follows, the
 -- text ends too early.
-abbrev pub IsFirst : List ℕ → ℕ → Type 0
-IsFirst text k =
+abbrev pub IsFirstFault : List ℕ → ℕ → Type 0
+IsFirstFault text k =
     (front rest : List ℕ) × (text ≡ front ++ rest) × (length front ≡ k) × GoesOn front
     × ((c : ℕ) (cs : List ℕ) → rest ≡ c ∷ cs → (more : List ℕ) → reading (front ++ (c ∷ more)) ≡ fault (Bad k))
 
@@ -74,4 +74,4 @@ IsInText text k =
 -- ---- all
 
 abbrev pub StandsFirst : List ℕ → ℕ → Type 0
-StandsFirst text k = IsFirst text k ⊎ (IsInLength text k ⊎ IsInText text k)
+StandsFirst text k = IsFirstFault text k ⊎ (IsInLength text k ⊎ IsInText text k)

@@ -19,12 +19,12 @@ name_of e = (reason_in e).name
 abbrev pub code_of : CondError → List ℕ
 code_of e = (reason_in e).code
 
-abbrev pub place_of : CondError → Option ℕ
-place_of e = (reason_in e).place
+abbrev pub cond_place_of : CondError → Option ℕ
+cond_place_of e = (reason_in e).place
 
-abbrev pub reason_of : CondError → List ℕ
-reason_of e = written (reason_in e)
+abbrev pub cond_reason_of : CondError → List ℕ
+cond_reason_of e = written (reason_in e)
 
 -- the fourth reason of an error that carries a refusal of a condition
-abbrev pub carried_reason_in : CondError → PlainReason
-carried_reason_in e = reason_behind (codes "Cond.") (codes "4.") (reason_in e)
+abbrev pub carried_cond_reason_in : CondError → PlainReason
+carried_cond_reason_in e = reason_behind (codes "Cond.") (codes "4.") (reason_in e)

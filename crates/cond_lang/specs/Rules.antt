@@ -7,20 +7,20 @@ use Rattle.cond_lang.specs.declared.rule.Severity.{Severity}
 use Rattle.cond_lang.specs.declared.rule.Disallow.{Disallow}
 use Rattle.cond_lang.specs.declared.constraint.Constraint.{Constraint}
 use Rattle.cond_lang.specs.declared.constraints.Rule.{Rule}
-use Rattle.cond_lang.specs.Trees.{Tree, tree_of}
+use Rattle.cond_lang.specs.Trees.{CondTree, cond_tree_of}
 
 pub record PlainConstraint : Type 0 where
   pub kind : Kind
   pub least : Option ℤ
   pub most : Option ℤ
   pub bans : Disallow
-  pub claim : Option Tree
+  pub claim : Option CondTree
 
 pub record PlainRule : Type 0 where
   pub name : List ℕ
   pub layer : RuleLayer
   pub severity : Severity
-  pub cond : Option Tree
+  pub cond : Option CondTree
   pub constraints : List PlainConstraint
 
 abbrev pub no_bans : Disallow
@@ -38,7 +38,7 @@ no_bans = record {
 }
 
 abbrev pub plain_constraint : Constraint → PlainConstraint
-plain_constraint c = record { kind = c.kind; least = c.least; most = c.most; bans = c.bans; claim = option_map tree_of c.claim }
+plain_constraint c = record { kind = c.kind; least = c.least; most = c.most; bans = c.bans; claim = option_map cond_tree_of c.claim }
 
 abbrev pub plain_rule : Rule → PlainRule
-plain_rule r = record { name = r.name; layer = r.layer; severity = r.severity; cond = option_map tree_of r.cond; constraints = map plain_constraint r.constraints }
+plain_rule r = record { name = r.name; layer = r.layer; severity = r.severity; cond = option_map cond_tree_of r.cond; constraints = map plain_constraint r.constraints }

@@ -6,7 +6,7 @@ use Rattle.cond_lang.specs.declared.terms.Side.{Side}
 use Rattle.cond_lang.specs.declared.terms.Func.{Func}
 use Rattle.cond_lang.specs.declared.terms.Op.{Op}
 use Rattle.cond_lang.specs.declared.terms.Term.{Term}
-use Rattle.cond_lang.specs.Trees.{Tree, Trees, any, all, negated, call, compare, none, first}
+use Rattle.cond_lang.specs.Trees.{CondTree, Trees, any, all, negated, call, compare, none, first}
 
 -- a part without what it holds
 pub data Token : Type 0 where
@@ -19,7 +19,7 @@ pub data Token : Type 0 where
   one_more : Token
 
 abbrev mutual
-  pub tokens : Tree → List Token → List Token
+  pub tokens : CondTree → List Token → List Token
   tokens (any parts) rest = tokens_of parts (any_of ∷ rest)
   tokens (all parts) rest = tokens_of parts (all_of ∷ rest)
   tokens (negated tree) rest = tokens tree (not_so ∷ rest)
@@ -32,10 +32,10 @@ abbrev mutual
 
 -- the trees, and the lists of trees, that were read so far, the last one first
 pub record Read : Type 0 where
-  pub trees : List Tree
+  pub trees : List CondTree
   pub lists : List Trees
 
-abbrev pub step : Token → List Tree → List Trees → Read
+abbrev pub step : Token → List CondTree → List Trees → Read
 step any_of trees (parts ∷ lists) = record { trees = any parts ∷ trees; lists = lists }
 step any_of trees [] = record { trees = trees; lists = [] }
 step all_of trees (parts ∷ lists) = record { trees = all parts ∷ trees; lists = lists }
@@ -49,32 +49,32 @@ step one_more (tree ∷ trees) (parts ∷ lists) = record { trees = trees; lists
 step one_more [] lists = record { trees = []; lists = lists }
 step one_more (tree ∷ trees) [] = record { trees = tree ∷ trees; lists = [] }
 
-abbrev pub read : List Token → List Tree → List Trees → Read
+abbrev pub read : List Token → List CondTree → List Trees → Read
 read [] trees lists = record { trees = trees; lists = lists }
 read (token ∷ tokens) trees lists = let now = step token trees lists in read tokens now.trees now.lists
 
 -- the tree that was read last
-abbrev pub last : List Tree → Tree
+abbrev pub last : List CondTree → CondTree
 last [] = any none
 last (tree ∷ trees) = tree
 
-abbrev pub tree_in : List Token → Tree
+abbrev pub tree_in : List Token → CondTree
 tree_in tokens = last (read tokens [] []).trees
 
 mutual
-  pub tree_is_read : (tree : Tree) (rest : List Token) (trees : List Tree) (lists : List Trees) → read (tokens tree rest) trees lists ≡ read rest (tree ∷ trees) lists
+  pub tree_is_read : (tree : CondTree) (rest : List Token) (trees : List CondTree) (lists : List Trees) → read (tokens tree rest) trees lists ≡ read rest (tree ∷ trees) lists
   tree_is_read (any parts) rest trees lists = list_is_read parts (any_of ∷ rest) trees lists
   tree_is_read (all parts) rest trees lists = list_is_read parts (all_of ∷ rest) trees lists
   tree_is_read (negated tree) rest trees lists = tree_is_read tree (not_so ∷ rest) trees lists
   tree_is_read (call side func text) rest trees lists = refl
   tree_is_read (compare left op right) rest trees lists = refl
 
-  pub list_is_read : (parts : Trees) (rest : List Token) (trees : List Tree) (lists : List Trees) → read (tokens_of parts rest) trees lists ≡ read rest trees (parts ∷ lists)
+  pub list_is_read : (parts : Trees) (rest : List Token) (trees : List CondTree) (lists : List Trees) → read (tokens_of parts rest) trees lists ≡ read rest trees (parts ∷ lists)
   list_is_read none rest trees lists = refl
   list_is_read (first tree parts) rest trees lists = tree_is_read tree (tokens_of parts (one_more ∷ rest)) trees lists ∙ list_is_read parts (one_more ∷ rest) (tree ∷ trees) lists
 
-pub tree_is_back : (tree : Tree) → tree_in (tokens tree []) ≡ tree
+pub tree_is_back : (tree : CondTree) → tree_in (tokens tree []) ≡ tree
 tree_is_back tree = ap (λ (r : Read). last r.trees) (tree_is_read tree [] [] [])
 
-abbrev pub coded_tree : Coded Token → Coded Tree
+abbrev pub coded_tree : Coded Token → Coded CondTree
 coded_tree c = code_by (List Token) (coded_list c) (λ tree. tokens tree []) tree_in tree_is_back

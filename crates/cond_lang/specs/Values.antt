@@ -17,7 +17,7 @@ use Rattle.cond_lang.specs.declared.values.Head.TheVariants.{Value, Asked}
 use Rattle.cond_lang.specs.Found.{Found, read, fault, and_then, place, stuck, byte}
 use Rattle.cond_lang.specs.Signs.{is_digit, after_blanks, name, word_of, side, quoted}
 use Rattle.cond_lang.specs.Numbers.{measure}
-use Rattle.cond_lang.specs.Trees.{Tree, call, compare}
+use Rattle.cond_lang.specs.Trees.{CondTree, call, compare}
 
 -- The name behind a side and a dot. Where a value is wanted, a function is no name.
 abbrev pub meant : ℕ → Bool → Side → List ℕ → List ℕ → Word → Found Head
@@ -62,7 +62,7 @@ opened n levels (c ∷ cs) =
     if c == 40 then (if levels == 0 then fault (TooDeep (place n (c ∷ cs))) else read tt cs) else stuck n (c ∷ cs)
 
 -- behind a function: its text in brackets, with space between
-unfoldable pub called : ℕ → ℕ → Side → Func → List ℕ → Found Tree
+unfoldable pub called : ℕ → ℕ → Side → Func → List ℕ → Found CondTree
 called n levels s f text =
     and_then (opened n levels (after_blanks text)) (λ _ rest.
     and_then (argument n f (after_blanks rest)) (λ arg behind.
@@ -111,21 +111,21 @@ abbrev pub clash : Term → Op → Term → Bool
 clash left op right = if is_text left then (not (is_text right) || is_order op) else is_text right
 
 -- at is where the operator stands
-abbrev pub compared : ℕ → List ℕ → Term → Op → Head → List ℕ → Found Tree
+abbrev pub compared : ℕ → List ℕ → Term → Op → Head → List ℕ → Found CondTree
 compared n at left op (Value right) rest = if clash left op right then fault (TypeClash (place n at)) else read (compare left op right) rest
 compared n at left op (Asked s f) rest = stuck n rest
 
-abbrev pub comparison_at : ℕ → Term → List ℕ → Found Tree
+abbrev pub comparison_at : ℕ → Term → List ℕ → Found CondTree
 comparison_at n left at = and_then (operator n at) (λ op rest. and_then (head n false (after_blanks rest)) (compared n at left op))
 
 -- behind a value: the operator and the other value
-unfoldable pub comparison : ℕ → Term → List ℕ → Found Tree
+unfoldable pub comparison : ℕ → Term → List ℕ → Found CondTree
 comparison n left text = comparison_at n left (after_blanks text)
 
-abbrev pub atom_of : ℕ → ℕ → Head → List ℕ → Found Tree
+abbrev pub atom_of : ℕ → ℕ → Head → List ℕ → Found CondTree
 atom_of n levels (Value left) rest = comparison n left rest
 atom_of n levels (Asked s f) rest = called n levels s f rest
 
 -- a call or a comparison
-unfoldable pub atom : ℕ → ℕ → List ℕ → Found Tree
+unfoldable pub atom : ℕ → ℕ → List ℕ → Found CondTree
 atom n levels text = and_then (head n true text) (atom_of n levels)

@@ -1,7 +1,7 @@
 //! The tree of a condition.
 
 ghost use Rattle.std.specs.Prelude.{◌≡◌, ◌≤◌, length, map, IfOk};
-ghost use Rattle.cond_lang.specs.Trees.{any, all, conds_of, tree_of, trees_of};
+ghost use Rattle.cond_lang.specs.Trees.{any, all, conds_of, cond_tree_of, trees_of};
 
 use crate::terms::{Func, Op, Side, Term};
 use drc_io::Name;
@@ -44,13 +44,13 @@ impl Conds {
 }
 
 fn any_of(list: Vec<Cond>) -> Cond
-    ensures { tree_of result ≡ any (trees_of (map tree_of list.items)) }
+    ensures { cond_tree_of result ≡ any (trees_of (map cond_tree_of list.items)) }
 {
     Cond::Any(Conds { list })
 }
 
 fn all_of(list: Vec<Cond>) -> Cond
-    ensures { tree_of result ≡ all (trees_of (map tree_of list.items)) }
+    ensures { cond_tree_of result ≡ all (trees_of (map cond_tree_of list.items)) }
 {
     Cond::All(Conds { list })
 }
@@ -58,7 +58,7 @@ fn all_of(list: Vec<Cond>) -> Cond
 impl Cond {
     /// An equal condition.
     pub(crate) fn copy(&self, alloc: Global) -> Result<Cond, AllocError>
-        ensures { IfOk result (λ c. tree_of c ≡ tree_of self.now) }
+        ensures { IfOk result (λ c. cond_tree_of c ≡ cond_tree_of self.now) }
     {
         match self {
             Cond::Any(parts) => {

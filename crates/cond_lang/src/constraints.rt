@@ -3,7 +3,7 @@
 ghost use Rattle.std.specs.Prelude.{◌≡◌, map, IfOk};
 ghost use Rattle.std.specs.Option.{option_map};
 ghost use Rattle.cond_lang.specs.Rules.{plain_constraint, plain_rule};
-ghost use Rattle.cond_lang.specs.Trees.{tree_of};
+ghost use Rattle.cond_lang.specs.Trees.{cond_tree_of};
 
 use crate::cond::Cond;
 use crate::constraint::Constraint;
@@ -64,7 +64,7 @@ impl Constraints {
 }
 
 fn copy_cond(alloc: Global, cond: &Option<Cond>) -> Result<Option<Cond>, AllocError>
-    ensures { IfOk result (λ copy. option_map tree_of copy ≡ option_map tree_of cond.now) }
+    ensures { IfOk result (λ copy. option_map cond_tree_of copy ≡ option_map cond_tree_of cond.now) }
 {
     match cond {
         Some(cond) => Ok(Some(cond.copy(alloc)?)),

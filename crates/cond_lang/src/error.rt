@@ -23,12 +23,12 @@ pub enum CondError {
 impl CondError {
     ghost use Rattle.std.specs.Prelude.{◌≡◌};
     ghost use Rattle.plain_types.specs.Reasons.{plain_reason};
-    ghost use Rattle.cond_lang.specs.Reasons.{reason_in, carried_reason_in, name_of, code_of, place_of};
+    ghost use Rattle.cond_lang.specs.Reasons.{reason_in, carried_cond_reason_in, name_of, code_of, cond_place_of};
 
     // Want of memory has no number, which is written 0, and no place.
     fn reasons(&self) -> Reasons
         ensures own { plain_reason result.own ≡ reason_in self.now }
-        ensures carried { plain_reason result.carried ≡ carried_reason_in self.now }
+        ensures carried { plain_reason result.carried ≡ carried_cond_reason_in self.now }
     {
         reasons!(self, "Cond.", "4.", {
             CondError::Bad { at } => ("Bad", "1", Some(*at)),
@@ -41,7 +41,7 @@ impl CondError {
 
     /// Its reason as the fourth of an error that carries it: `Cond.` stands before its name and `4.` before its number.
     pub fn carried_reason(&self) -> Reason
-        ensures { plain_reason result ≡ carried_reason_in self.now }
+        ensures { plain_reason result ≡ carried_cond_reason_in self.now }
     {
         self.reasons().carried
     }
@@ -62,7 +62,7 @@ impl CondError {
 
     /// Its byte of the text. Want of memory has no place.
     pub fn place(&self) -> Option<u32>
-        ensures { result ≡ place_of self.now }
+        ensures { result ≡ cond_place_of self.now }
     {
         self.reasons().own.place
     }
@@ -92,9 +92,9 @@ impl<T: Drop> From<AllocFailed<T>> for CondError {
 
 impl fmt::Display for CondError {
     ghost use Rattle.std.specs.Prelude.{Some};
-    ghost use Rattle.cond_lang.specs.Reasons.{reason_of};
+    ghost use Rattle.cond_lang.specs.Reasons.{cond_reason_of};
 
-    ghost output = { λ e. Some (reason_of e) };
+    ghost output = { λ e. Some (cond_reason_of e) };
 
     fn fmt<W: fmt::Write>(&self, f: &mut fmt::Formatter<W>) -> fmt::Result {
         let name = self.name();

@@ -2,7 +2,7 @@
 
 ghost use Rattle.std.specs.Prelude.{◌≡◌, ◌≤◌, ◌⊎◌, ◌*◌, ◌+◌, Bool, true, [], length, map, drop, MatchResult, IfOk};
 ghost use Rattle.cond_lang.specs.Found.{Found, read, fault};
-ghost use Rattle.cond_lang.specs.Trees.{Tree, any, all, negated as negated_tree, tree_of, trees_of};
+ghost use Rattle.cond_lang.specs.Trees.{CondTree, any, all, negated as negated_tree, cond_tree_of, trees_of};
 ghost use Rattle.cond_lang.specs.Grammar.{Spells};
 ghost use Rattle.cond_lang.specs.Conditions.{joined, begins_with as begins_with_byte, shallow_at, chain, alternatives, negation as negation_of, disjunction, reading, twice};
 
@@ -16,7 +16,7 @@ use std::alloc::Global;
 fn shallow<'t>(alloc: Global, whole: usize, text: &'t [u8]) -> Result<(Cond, &'t [u8]), CondError>
     requires fits { whole ≤ 33554432 }
     requires inside { length text.now ≤ whole }
-    ensures found { MatchResult result (λ p. shallow_at whole text.now ≡ read (tree_of p.0) p.1.now) (λ e. (e ≡ CondError.OutOfMemory) ⊎ (shallow_at whole text.now ≡ fault e)) }
+    ensures found { MatchResult result (λ p. shallow_at whole text.now ≡ read (cond_tree_of p.0) p.1.now) (λ e. (e ≡ CondError.OutOfMemory) ⊎ (shallow_at whole text.now ≡ fault e)) }
     ensures left { MatchResult result (λ p. length p.1.now ≤ length text.now) (λ _. Unit {0}) }
 {
     match text {
@@ -39,7 +39,7 @@ fn shallow<'t>(alloc: Global, whole: usize, text: &'t [u8]) -> Result<(Cond, &'t
 
 /// The negation of a condition.
 fn negated(alloc: Global, inner: Cond) -> Result<Cond, CondError>
-    ensures { MatchResult result (λ c. tree_of c ≡ negated_tree (tree_of inner)) (λ e. e ≡ CondError.OutOfMemory) }
+    ensures { MatchResult result (λ c. cond_tree_of c ≡ negated_tree (cond_tree_of inner)) (λ e. e ≡ CondError.OutOfMemory) }
 {
     let boxed = Box::new(alloc, inner)?;
     Ok(Cond::Not(boxed))
@@ -56,7 +56,7 @@ fn negation<'t>(
 ) -> Result<(Cond, &'t [u8]), CondError>
     requires fits { whole ≤ 33554432 }
     requires inside { length text.now ≤ whole }
-    ensures found { MatchResult result (λ p. negation_of whole levels text.now ≡ read (tree_of p.0) p.1.now) (λ e. (e ≡ CondError.OutOfMemory) ⊎ (negation_of whole levels text.now ≡ fault e)) }
+    ensures found { MatchResult result (λ p. negation_of whole levels text.now ≡ read (cond_tree_of p.0) p.1.now) (λ e. (e ≡ CondError.OutOfMemory) ⊎ (negation_of whole levels text.now ≡ fault e)) }
     ensures left { MatchResult result (λ p. length p.1.now ≤ length text.now) (λ _. Unit {0}) }
 {
     let at = skip_blanks(text);
@@ -110,7 +110,7 @@ fn behind_sign<'t>(whole: usize, sign: u8, text: &'t [u8]) -> Result<&'t [u8], C
 /// The members of a chain of `&&` as one condition.
 fn chain_of_all(list: Vec<Cond>) -> Cond
     requires { 2 ≤ length list.items }
-    ensures { tree_of result ≡ all (trees_of (map tree_of list.items)) }
+    ensures { cond_tree_of result ≡ all (trees_of (map cond_tree_of list.items)) }
 {
     Cond::All(Conds::of(list))
 }
@@ -118,7 +118,7 @@ fn chain_of_all(list: Vec<Cond>) -> Cond
 /// The members of a chain of `||` as one condition.
 fn chain_of_any(list: Vec<Cond>) -> Cond
     requires { 2 ≤ length list.items }
-    ensures { tree_of result ≡ any (trees_of (map tree_of list.items)) }
+    ensures { cond_tree_of result ≡ any (trees_of (map cond_tree_of list.items)) }
 {
     Cond::Any(Conds::of(list))
 }
@@ -134,7 +134,7 @@ fn all_of<'t>(
 ) -> Result<(Cond, &'t [u8]), CondError>
     requires fits { whole ≤ 33554432 }
     requires inside { length text.now ≤ whole }
-    ensures found { MatchResult result (λ p. chain whole 38 all (negation_of whole levels) text.now ≡ read (tree_of p.0) p.1.now) (λ e. (e ≡ CondError.OutOfMemory) ⊎ (chain whole 38 all (negation_of whole levels) text.now ≡ fault e)) }
+    ensures found { MatchResult result (λ p. chain whole 38 all (negation_of whole levels) text.now ≡ read (cond_tree_of p.0) p.1.now) (λ e. (e ≡ CondError.OutOfMemory) ⊎ (chain whole 38 all (negation_of whole levels) text.now ≡ fault e)) }
     ensures left { MatchResult result (λ p. length p.1.now ≤ length text.now) (λ _. Unit {0}) }
 {
     let (first, behind) = negation(alloc, whole, levels, text)?;
@@ -164,7 +164,7 @@ fn any_of<'t>(
 ) -> Result<(Cond, &'t [u8]), CondError>
     requires fits { whole ≤ 33554432 }
     requires inside { length text.now ≤ whole }
-    ensures found { MatchResult result (λ p. alternatives whole (negation_of whole levels) text.now ≡ read (tree_of p.0) p.1.now) (λ e. (e ≡ CondError.OutOfMemory) ⊎ (alternatives whole (negation_of whole levels) text.now ≡ fault e)) }
+    ensures found { MatchResult result (λ p. alternatives whole (negation_of whole levels) text.now ≡ read (cond_tree_of p.0) p.1.now) (λ e. (e ≡ CondError.OutOfMemory) ⊎ (alternatives whole (negation_of whole levels) text.now ≡ fault e)) }
     ensures left { MatchResult result (λ p. length p.1.now ≤ length text.now) (λ _. Unit {0}) }
 {
     let (first, behind) = all_of(alloc, whole, levels, text)?;
@@ -187,7 +187,7 @@ fn any_of<'t>(
 /// What reading from the front to the end finds.
 fn read_whole(alloc: Global, text: &[u8]) -> Result<Cond, CondError>
     requires { length text.now ≤ 33554432 }
-    ensures { MatchResult result (λ c. reading text.now ≡ read (tree_of c) []) (λ e. (e ≡ CondError.OutOfMemory) ⊎ (reading text.now ≡ fault e)) }
+    ensures { MatchResult result (λ c. reading text.now ≡ read (cond_tree_of c) []) (λ e. (e ≡ CondError.OutOfMemory) ⊎ (reading text.now ≡ fault e)) }
 {
     let (cond, behind) = any_of(alloc, text.len(), 64, text)?;
     let rest = skip_blanks(behind);
@@ -202,11 +202,11 @@ fn read_whole(alloc: Global, text: &[u8]) -> Result<Cond, CondError>
 pub fn parse_cond(alloc: Global, text: &[u8]) -> Result<Cond, CondError>
     requires { length text.now ≤ 33554432 }
     // What is read is what the text spells,
-    ensures spelled { IfOk result (λ c. Spells text.now (tree_of c)) }
+    ensures spelled { IfOk result (λ c. Spells text.now (cond_tree_of c)) }
     // what the text spells is read, and there is no other condition,
-    ensures only { (t : Tree) → Spells text.now t → MatchResult result (λ c. tree_of c ≡ t) (λ e. e ≡ CondError.OutOfMemory) }
+    ensures only { (t : CondTree) → Spells text.now t → MatchResult result (λ c. cond_tree_of c ≡ t) (λ e. e ≡ CondError.OutOfMemory) }
     // and a text that is refused is refused for its first fault, at its place; unless memory runs out.
-    ensures exact { MatchResult result (λ c. reading text.now ≡ read (tree_of c) []) (λ e. (e ≡ CondError.OutOfMemory) ⊎ (reading text.now ≡ fault e)) }
+    ensures exact { MatchResult result (λ c. reading text.now ≡ read (cond_tree_of c) []) (λ e. (e ≡ CondError.OutOfMemory) ⊎ (reading text.now ≡ fault e)) }
 {
     read_whole(alloc, text)
 }

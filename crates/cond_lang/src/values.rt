@@ -3,7 +3,7 @@
 ghost use Rattle.std.specs.Prelude.{◌≡◌, ◌≤◌, ◌⊎◌, length, MatchResult};
 ghost use Rattle.cond_lang.specs.Found.{read, fault};
 ghost use Rattle.cond_lang.specs.Signs.{after_blanks};
-ghost use Rattle.cond_lang.specs.Trees.{tree_of};
+ghost use Rattle.cond_lang.specs.Trees.{cond_tree_of};
 ghost use Rattle.cond_lang.specs.Values.{selected as selected_of, member as member_of, begins_number as begins_number_byte, head as head_of, argument as argument_of, opened as opened_of, called as called_of, with_equals as with_equals_of, operator as operator_of, is_text_prop as is_text_prop_of, is_text as is_text_term, is_order as is_order_op, clash as clash_of, comparison as comparison_of, compared as compared_of, atom as atom_of_text};
 
 use crate::cond::Cond;
@@ -146,7 +146,7 @@ fn called<'t>(
 ) -> Result<(Cond, &'t [u8]), CondError>
     requires fits { whole ≤ 33554432 }
     requires inside { length text.now ≤ whole }
-    ensures found { MatchResult result (λ p. called_of whole levels side func text.now ≡ read (tree_of p.0) p.1.now) (λ e. (e ≡ CondError.OutOfMemory) ⊎ (called_of whole levels side func text.now ≡ fault e)) }
+    ensures found { MatchResult result (λ p. called_of whole levels side func text.now ≡ read (cond_tree_of p.0) p.1.now) (λ e. (e ≡ CondError.OutOfMemory) ⊎ (called_of whole levels side func text.now ≡ fault e)) }
     ensures left { MatchResult result (λ p. length p.1.now ≤ length text.now) (λ _. Unit {0}) }
 {
     let rest = opened(whole, levels, skip_blanks(text))?;
@@ -247,7 +247,7 @@ fn compared<'t>(
     requires fits { whole ≤ 33554432 }
     requires inside { length at.now ≤ whole }
     requires behind { length rest.now ≤ whole }
-    ensures found { MatchResult result (λ p. compared_of whole at.now left op right rest.now ≡ read (tree_of p.0) p.1.now) (λ e. compared_of whole at.now left op right rest.now ≡ fault e) }
+    ensures found { MatchResult result (λ p. compared_of whole at.now left op right rest.now ≡ read (cond_tree_of p.0) p.1.now) (λ e. compared_of whole at.now left op right rest.now ≡ fault e) }
     ensures left { MatchResult result (λ p. length p.1.now ≤ length rest.now) (λ _. Unit {0}) }
 {
     match right {
@@ -273,7 +273,7 @@ fn comparison<'t>(
 ) -> Result<(Cond, &'t [u8]), CondError>
     requires fits { whole ≤ 33554432 }
     requires inside { length text.now ≤ whole }
-    ensures found { MatchResult result (λ p. comparison_of whole left text.now ≡ read (tree_of p.0) p.1.now) (λ e. (e ≡ CondError.OutOfMemory) ⊎ (comparison_of whole left text.now ≡ fault e)) }
+    ensures found { MatchResult result (λ p. comparison_of whole left text.now ≡ read (cond_tree_of p.0) p.1.now) (λ e. (e ≡ CondError.OutOfMemory) ⊎ (comparison_of whole left text.now ≡ fault e)) }
     ensures left { MatchResult result (λ p. length p.1.now ≤ length text.now) (λ _. Unit {0}) }
 {
     let at = skip_blanks(text);
@@ -292,7 +292,7 @@ pub fn atom<'t>(
 ) -> Result<(Cond, &'t [u8]), CondError>
     requires fits { whole ≤ 33554432 }
     requires inside { length text.now ≤ whole }
-    ensures found { MatchResult result (λ p. atom_of_text whole levels text.now ≡ read (tree_of p.0) p.1.now) (λ e. (e ≡ CondError.OutOfMemory) ⊎ (atom_of_text whole levels text.now ≡ fault e)) }
+    ensures found { MatchResult result (λ p. atom_of_text whole levels text.now ≡ read (cond_tree_of p.0) p.1.now) (λ e. (e ≡ CondError.OutOfMemory) ⊎ (atom_of_text whole levels text.now ≡ fault e)) }
     ensures left { MatchResult result (λ p. length p.1.now ≤ length text.now) (λ _. Unit {0}) }
 {
     let (begin, rest) = front(alloc, whole, true, text)?;

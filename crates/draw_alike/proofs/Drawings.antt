@@ -5,8 +5,8 @@ use Rattle.sexpr_read.specs.Tree.{Forest, Tree, branch}
 use Rattle.part_read.specs.declared.figures.Figure.{Figure}
 use Rattle.part_read.specs.declared.figures.Figure.TheVariants.{Line, Rect, Circle, Outline}
 use Rattle.part_read.specs.declared.figures.Drawing.{Drawing}
-use Rattle.part_read.specs.declared.drawings.Kind.{Kind}
-use Rattle.part_read.specs.declared.drawings.Kind.TheVariants.{Line as LineKind, Rect as RectKind, Circle as CircleKind, Outline as OutlineKind}
+use Rattle.part_read.specs.declared.drawings.GraphicKind.{GraphicKind}
+use Rattle.part_read.specs.declared.drawings.GraphicKind.TheVariants.{Line as LineKind, Rect as RectKind, Circle as CircleKind, Outline as OutlineKind}
 use Rattle.part_read.specs.Numbers.{spot_of}
 use Rattle.part_read.specs.Circles.{radius_between}
 use Rattle.part_read.specs.Drawings.{corners_of, width_of, fill_of, line_drawing, rect_drawing, circle_drawing, outline_drawing, drawing_of}
@@ -69,7 +69,7 @@ module _ (d : Option Shift) (i j : Forest) (s r : Span) (h : Alike d i j) where
       agrees_bind Same (DrawingRead d) (fill_of true one) (fill_of true two) _ _ (fill_alike d true i j s r h) (λ f f' ef.
       read_so (Outline a) (Outline a') w w' f f' ea ew ef)))
 
-  pub drawing_alike : (kind : Kind) → Agrees (DrawingRead d) (drawing_of kind one) (drawing_of kind two)
+  pub drawing_alike : (kind : GraphicKind) → Agrees (DrawingRead d) (drawing_of kind one) (drawing_of kind two)
   drawing_alike LineKind = line_alike
   drawing_alike RectKind = rect_alike
   drawing_alike CircleKind = circle_alike

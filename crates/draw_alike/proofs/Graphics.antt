@@ -18,7 +18,7 @@ use Rattle.copper_layers.specs.Layers.{single_layer}
 use Rattle.board_items.specs.Moves.{AreShifted, HoleIsShifted, is_note}
 use Rattle.part_read.specs.declared.numbers.Spot.{Spot}
 use Rattle.part_read.specs.declared.stances.Stance.{Stance}
-use Rattle.part_read.specs.declared.drawings.Kind.{Kind}
+use Rattle.part_read.specs.declared.drawings.GraphicKind.{GraphicKind}
 use Rattle.part_read.specs.declared.figures.Figure.{Figure}
 use Rattle.part_read.specs.declared.figures.Figure.TheVariants.{Line, Rect, Circle, Outline}
 use Rattle.part_read.specs.declared.figures.Drawing.{Drawing}
@@ -204,7 +204,7 @@ module _ (o : Option Shift) (d : Shift) (stance new : Stance) (stances : Stances
   placed figure other moved h x y there =
       stances.stands (first_spot figure) (first_spot other) (first_moved o figure other h) (subst (λ (z : ℤ). is_near z ≡ true) x (front _ _ there)) (subst (λ (z : ℤ). is_near z ≡ true) y (back _ _ there))
 
-  module _ (board other : PlainBoard) (nets : (n : ℕ) → name_of board n ≡ name_of other n) (unit own : ℕ) (kind : Kind) (i j : Forest) (s r : Span) (h : Alike o i j) where
+  module _ (board other : PlainBoard) (nets : (n : ℕ) → name_of board n ≡ name_of other n) (unit own : ℕ) (kind : GraphicKind) (i j : Forest) (s r : Span) (h : Alike o i j) where
     abbrev one : Tree
     one = branch s i
 

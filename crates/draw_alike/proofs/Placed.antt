@@ -18,8 +18,8 @@ use Rattle.part_read.specs.declared.stances.Stance.{Stance}
 use Rattle.part_read.specs.declared.figures.Figure.{Figure}
 use Rattle.part_read.specs.declared.figures.Figure.TheVariants.{Line, Rect, Circle, Outline}
 use Rattle.part_read.specs.declared.figures.Drawing.{Drawing}
-use Rattle.part_read.specs.declared.drawings.Kind.{Kind}
-use Rattle.part_read.specs.declared.drawings.Kind.TheVariants.{Line as LineKind, Rect as RectKind, Circle as CircleKind, Outline as OutlineKind}
+use Rattle.part_read.specs.declared.drawings.GraphicKind.{GraphicKind}
+use Rattle.part_read.specs.declared.drawings.GraphicKind.TheVariants.{Line as LineKind, Rect as RectKind, Circle as CircleKind, Outline as OutlineKind}
 use Rattle.part_read.specs.declared.graphics.Ground.{Ground}
 use Rattle.part_read.specs.declared.graphics.Ground.TheVariants.{Copper, Outlines, Front, Back, Elsewhere}
 use Rattle.list_read.specs.Answers.{◌>>=◌, needed, check}
@@ -83,7 +83,7 @@ IsStarted figure = Unit {0}
 moved_start : {d e : Drawing} → d ≡ e → IsStarted d.figure → IsStarted e.figure
 moved_start {d} {e} h k = subst (λ (x : Drawing). IsStarted x.figure) h k
 
-drawing_started : (kind : Kind) (tree : Tree) (d : Drawing) → drawing_of kind tree ≡ Ok d → IsStarted d.figure
+drawing_started : (kind : GraphicKind) (tree : Tree) (d : Drawing) → drawing_of kind tree ≡ Ok d → IsStarted d.figure
 unfolding line_drawing rect_drawing circle_drawing outline_drawing
 drawing_started LineKind tree d h =
     let a = both_ok (spot_of (codes "start") tree) _ d h in
@@ -135,7 +135,7 @@ edge_drawn stance d ps false k h = absurd cc
 
 -- ---- items
 
-copper_of : (board : PlainBoard) (unit : ℕ) (stance : Stance) (kind : Kind) (layer : ℕ) (tree : Tree) (item : Item) → copper_graphic board unit stance kind layer tree ≡ Ok item → ItemsOf unit (item ∷ [])
+copper_of : (board : PlainBoard) (unit : ℕ) (stance : Stance) (kind : GraphicKind) (layer : ℕ) (tree : Tree) (item : Item) → copper_graphic board unit stance kind layer tree ≡ Ok item → ItemsOf unit (item ∷ [])
 unfolding copper_graphic
 copper_of board unit stance kind layer tree item h =
     let a = both_ok (drawing_of kind tree) _ item h in
@@ -146,7 +146,7 @@ copper_of board unit stance kind layer tree item h =
     let near = drawn_near (single_layer layer) stance a.0 d.0 (drawing_started kind tree a.0 a.1.0) drew in
     one_of unit item (plain_item (name_in tree) unit b.0 (stood stance (first_spot a.0.figure)) d.0 Graphic refl) (item ∷ []) (same_ok d.1.1) refl refl near
 
-edge_of : (unit : ℕ) (stance : Stance) (kind : Kind) (tree : Tree) (item : Item) → edge_graphic unit stance kind tree ≡ Ok item → ItemsOf unit (item ∷ [])
+edge_of : (unit : ℕ) (stance : Stance) (kind : GraphicKind) (tree : Tree) (item : Item) → edge_graphic unit stance kind tree ≡ Ok item → ItemsOf unit (item ∷ [])
 unfolding edge_graphic
 edge_of unit stance kind tree item h =
     let a = both_ok (drawing_of kind tree) _ item h in
@@ -163,7 +163,7 @@ one_item_of unit answer items law h =
     let a = both_ok answer _ items h in
     subst (λ (is : List Item). ItemsOf unit is) (same_ok a.1.1) (law a.0 a.1.0)
 
-pub graphic_of : (board : PlainBoard) (unit : ℕ) (stance : Stance) (kind : Kind) (tree : Tree) (lies : Ground) (items : List Item) → graphic_by board unit stance kind tree lies ≡ Ok items → ItemsOf unit items
+pub graphic_of : (board : PlainBoard) (unit : ℕ) (stance : Stance) (kind : GraphicKind) (tree : Tree) (lies : Ground) (items : List Item) → graphic_by board unit stance kind tree lies ≡ Ok items → ItemsOf unit items
 graphic_of board unit stance kind tree (Copper layer) items h = one_item_of unit (copper_graphic board unit stance kind layer tree) items (λ item e. copper_of board unit stance kind layer tree item e) h
 graphic_of board unit stance kind tree Outlines items h = one_item_of unit (edge_graphic unit stance kind tree) items (λ item e. edge_of unit stance kind tree item e) h
 graphic_of board unit stance kind tree Front items h = none_of unit items (same_ok h)

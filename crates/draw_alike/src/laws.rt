@@ -8,7 +8,7 @@ ghost use Rattle.copper_layers.specs.declared.set.LayerSet.{LayerSet};
 ghost use Rattle.board_items.specs.declared.item.Item.{Item};
 ghost use Rattle.board_items.specs.Boards.{PlainBoard};
 ghost use Rattle.part_read.specs.declared.stances.Stance.{Stance};
-ghost use Rattle.part_read.specs.declared.drawings.Kind.{Kind};
+ghost use Rattle.part_read.specs.declared.drawings.GraphicKind.{GraphicKind};
 ghost use Rattle.part_read.specs.declared.graphics.Ground.{Ground};
 ghost use Rattle.part_read.specs.Drawings.{drawing_of};
 ghost use Rattle.part_read.specs.Graphics.{ground_of, graphic_by, text_by};
@@ -19,7 +19,7 @@ ghost use Rattle.draw_alike.specs.Drawn.{DrawingRead};
 
 /// The drawings of alike lists are of the same width and fill, and their spots are moved.
 pub fn drawings()
-    ensures { (d : Option Shift) (i j : Forest) (s r : Span) → Alike d i j → (kind : Kind) → Agrees (DrawingRead d) (drawing_of kind (branch s i)) (drawing_of kind (branch r j)) }
+    ensures { (d : Option Shift) (i j : Forest) (s r : Span) → Alike d i j → (kind : GraphicKind) → Agrees (DrawingRead d) (drawing_of kind (branch s i)) (drawing_of kind (branch r j)) }
 {}
 
 /// Alike lists lie on the same ground, and the note of a text is the same.
@@ -30,6 +30,6 @@ pub fn texts()
 
 /// The items of graphics and of texts are of the unit asked for, and lie on a board.
 pub fn places()
-    ensures graphics { (board : PlainBoard) (unit : ℕ) (stance : Stance) (kind : Kind) (tree : Tree) (lies : Ground) (items : List Item) → graphic_by board unit stance kind tree lies ≡ Ok items → ItemsOf unit items }
+    ensures graphics { (board : PlainBoard) (unit : ℕ) (stance : Stance) (kind : GraphicKind) (tree : Tree) (lies : Ground) (items : List Item) → graphic_by board unit stance kind tree lies ≡ Ok items → ItemsOf unit items }
     ensures notes { (unit : ℕ) (about : About) (tree : Tree) (lies : Ground) (items : List Item) → text_by unit about tree lies ≡ Ok items → ItemsOf unit items }
 {}

@@ -20,8 +20,8 @@ abbrev pub ReadsBehind : Option (List (List ℕ × List ℕ)) → List ℕ → L
 ReadsBehind told name text n longer = (buf : List ℕ) × (0 < length buf) × (n ≤ length buf) × ReadsFrom told name (length text) n buf × (longer ≡ text ++ take n buf)
 
 -- the text is the whole file, of a shelf that tells
-abbrev pub IsWhole : Option (List (List ℕ × List ℕ)) → List ℕ → List ℕ → Type 0
-IsWhole told name text = IfSome told (λ files. file_of files name ≡ Some text)
+abbrev pub IsWholeFile : Option (List (List ℕ × List ℕ)) → List ℕ → List ℕ → Type 0
+IsWholeFile told name text = IfSome told (λ files. file_of files name ≡ Some text)
 
 -- there is a file, and it has more bytes than the limit
 abbrev pub HasMore : Option (List ℕ) → ℕ → Type 0

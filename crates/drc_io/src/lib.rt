@@ -9,7 +9,7 @@ ghost use Rattle.std.specs.Prelude.{◌≡◌, ◌<◌, ◌≤◌, ◌^◌, ◌�
 ghost use Rattle.std.specs.Io.KnownBytes.{WriteAppends};
 ghost use Rattle.drc_io.specs.Causes.{HasCause, Rose};
 ghost use Rattle.drc_io.specs.Fetching.{Decides};
-ghost use Rattle.drc_io.specs.Files.{ReadsFrom, ReadsBehind, IsWhole, IsLonger, file_of};
+ghost use Rattle.drc_io.specs.Files.{ReadsFrom, ReadsBehind, IsWholeFile, IsLonger, file_of};
 ghost use Rattle.drc_io.specs.Sinks.{Writes};
 ghost use Rattle.drc_io.specs.declared.FetchError.TheVariants.{OutOfMemory, Failed as FaultOfShelf};
 
@@ -160,7 +160,7 @@ pub fn fetch<F: Shelf>(
     name: &str,
     limit: u32,
 ) -> Result<Vec<u8>, FetchError>
-    ensures whole { IfOk result (λ text. IsWhole (F.files shelf.old) name.now text.items) }
+    ensures whole { IfOk result (λ text. IsWholeFile (F.files shelf.old) name.now text.items) }
     ensures short { IfOk result (λ text. length text.items ≤ limit) }
     ensures failed { result ≡ Err FetchError.Failed → Rose (F.faults shelf.old name.now) (F.faults shelf.new name.now) }
     ensures too_long { result ≡ Err FetchError.TooLong → IsLonger (F.files shelf.old) name.now limit }

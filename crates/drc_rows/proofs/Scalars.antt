@@ -7,7 +7,7 @@ use Rattle.int_algebra.proofs.Scalars.{passed}
 use Rattle.plain_types.specs.Lengths.{IsLength}
 use Rattle.board_items.specs.declared.item.Item.{Item}
 use Rattle.board_items.specs.Boards.{PlainBoard, is_near, is_on_board, is_admitted, name_of, has_layers_of}
-use Rattle.kind_subjects.specs.Lengths.{IsWithin}
+use Rattle.kind_subjects.specs.Lengths.{IsNearZero}
 
 -- a length, as it is passed to a call
 pub length_far : {v : ℤ} → IsLength v → unsigned_abs (passed v) ≤ 1000000000000
@@ -21,14 +21,14 @@ pub length_as : {v : ℤ} → IsLength v → passed v ≡ v
 length_as {v} l = let from = l.from in let to = l.to in omega (arith, ints)
 
 -- a length within 500 mm of 0, as it is passed to a call
-pub within_far : {v : ℤ} → IsWithin v → unsigned_abs (passed v) ≤ 1000000000000
+pub within_far : {v : ℤ} → IsNearZero v → unsigned_abs (passed v) ≤ 1000000000000
 within_far {v} l = let from = l.from in let to = l.to in far v from to
   where
     far : (z : ℤ) → neg_ℤ (pos 500000000) ≤ℤ z → z ≤ℤ pos 500000000 → unsigned_abs (passed z) ≤ 1000000000000
     far (pos n) h k = omega (arith, ints)
     far (negsuc n) h k = omega (arith, ints)
 
-pub within_as : {v : ℤ} → IsWithin v → passed v ≡ v
+pub within_as : {v : ℤ} → IsNearZero v → passed v ≡ v
 within_as {v} l = let from = l.from in let to = l.to in omega (arith, ints)
 
 near : (z : ℤ) → is_near z ≡ true → unsigned_abs z ≤ 1000000000000

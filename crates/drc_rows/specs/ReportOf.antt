@@ -4,17 +4,17 @@ use Rattle.std.specs.List.{flat_map}
 use Rattle.board_items.specs.Boards.{PlainBoard}
 use Rattle.rule_text.specs.RulesOf.{PlainRules}
 use Rattle.pair_check.specs.PlainRow.{PlainRow}
-use Rattle.net_groups.specs.NetParts.{NetPart, is_open}
+use Rattle.net_groups.specs.NetParts.{PlainNetPart, is_open}
 use Rattle.drc_rows.specs.Notes.{note_count}
 use Rattle.drc_rows.specs.Report.{number_line, rows_text, notes_text}
 use Rattle.drc_rows.specs.NetBlock.{net_block}
 
 -- the lines of a net, which has none where it is not open
-abbrev pub part_text : PlainBoard → NetPart → List ℕ
+abbrev pub part_text : PlainBoard → PlainNetPart → List ℕ
 part_text board part = if is_open part then net_block board part.net part.groups part.anchors part.links else []
 
 -- the open nets, and how many they are
-abbrev pub nets_text : PlainBoard → List NetPart → List ℕ
+abbrev pub nets_text : PlainBoard → List PlainNetPart → List ℕ
 nets_text board parts = flat_map (part_text board) parts ++ number_line (codes "open nets ") (length (filter is_open parts)) []
 
 -- how many tiles were gone through, and how many hold an item
@@ -24,7 +24,7 @@ tiles_line done held = codes "rechecked " ++ decimal done ++ codes " of " ++ dec
 -- what a report tells of a board: its rows, what is found of each of its nets, and how many tiles hold an item
 pub record Found : Type 0 where
   pub rows : List PlainRow
-  pub parts : List NetPart
+  pub parts : List PlainNetPart
   pub held : ℕ
 
 -- the line that opens the report of this number, 0 for the board as its file has it

@@ -2,7 +2,7 @@
 use Rattle.std.proofs.Common.{◌≡◌, ℕ, Bool, List, [], Option, refl, sym, subst}
 use Rattle.edit_script.specs.Commands.{PlainCommand}
 use Rattle.drc_state.specs.States.{State}
-use Rattle.run_words.specs.Calls.{Reading, Call, check}
+use Rattle.run_words.specs.Calls.{Reading, PlainCall, check}
 use Rattle.run_texts.specs.declared.texts.Stop.{Stop}
 use Rattle.run_texts.specs.declared.texts.Stop.TheVariants.{Unread}
 use Rattle.run_texts.specs.declared.texts.Which.TheVariants.{Script}
@@ -16,7 +16,7 @@ use Rattle.drc_run.specs.Endings.{Ends, EndsFor, IsTextOfOne}
 use Rattle.drc_run.proofs.Written.{ends_as}
 use Rattle.drc_run.proofs.Opening.{opened_by, commands_are, line_is_output}
 
-module _ (call : Call) (told : Option (List (List ℕ × List ℕ))) where
+module _ (call : PlainCall) (told : Option (List (List ℕ × List ℕ))) where
   -- an output begins with its text
   pub begun_whole : (out : Output) → IsOutputFor call told out → IsBegunFor call told out.text
   begun_whole out is = whole out is refl

@@ -5,29 +5,29 @@ use Rattle.drc_io.specs.Files.{file_of}
 use Rattle.board_errors.specs.declared.errors.BoardError.{BoardError}
 use Rattle.board_items.specs.Boards.{PlainBoard}
 use Rattle.board_errors.specs.Reasons.{board_reason_of, board_place_of}
-use Rattle.pcb_read.specs.BoardText.{Says}
+use Rattle.pcb_read.specs.BoardText.{BoardSays}
 use Rattle.net_class.specs.Classes.{PlainClasses}
-use Rattle.net_class.specs.ProjectText.{Says as ProjectSays}
-use Rattle.net_class.specs.Reasons.{reason_of as project_reason_of, place_of as project_place_of}
+use Rattle.net_class.specs.ProjectText.{ProjectSays}
+use Rattle.net_class.specs.Reasons.{project_reason_of, project_place_of}
 use Rattle.rule_text.specs.declared.error.RuleError.{RuleError}
-use Rattle.rule_text.specs.Reasons.{reason_of as rules_reason_of, place_of as rules_place_of, inner_place_of as rules_inner_place_of}
+use Rattle.rule_text.specs.Reasons.{rules_reason_of, rules_place_of, rules_inner_place_of}
 use Rattle.rule_text.specs.RulesOf.{PlainRules}
-use Rattle.rule_text.specs.RuleText.{Says as RulesSays}
+use Rattle.rule_text.specs.RuleText.{RulesSays}
 use Rattle.edit_script.specs.declared.error.ScriptError.{ScriptError}
 use Rattle.edit_script.specs.Commands.{PlainCommand, PlainStep, place_of}
-use Rattle.edit_script.specs.Reasons.{reason_of as script_reason_of, place_of as script_place_of}
-use Rattle.edit_script.specs.ScriptText.{Says as ScriptSays, SaysSteps}
+use Rattle.edit_script.specs.Reasons.{script_reason_of, script_place_of}
+use Rattle.edit_script.specs.ScriptText.{ScriptSays, SaysSteps}
 use Rattle.drc_state.specs.States.{State}
-use Rattle.run_words.specs.Calls.{Source, file, made, Call, nothing, check, undo, try, steal, write}
+use Rattle.run_words.specs.Calls.{PlainSource, file, made, PlainCall, nothing, check, undo, try, steal, write}
 use Rattle.run_texts.specs.declared.texts.Which.{Which}
 use Rattle.run_texts.specs.declared.texts.Which.TheVariants.{Board, Project, Rules, Script, Steps, Trials, Text}
-use Rattle.run_texts.specs.Texts.{Named, texts_of, Value, a_board, a_project, a_rules, a_script, some_steps, Said, accepted, refused, at_place, IsWritten, most_trials, RefusesScript, RefusesTrials, ReaderSays, TextSays, longer, read, AreBytesOf, SourceSays, AreAccepted, IsReached, a_text}
+use Rattle.run_texts.specs.Texts.{Named, texts_of, Value, a_board, a_project, a_rules, a_script, some_steps, Said, accepted, refused, at_place, IsRefusalText, most_trials, RefusesScript, RefusesTrials, ReaderSays, TextSays, longer, read, AreBytesOf, SourceSays, AreAccepted, IsReached, a_text}
 use Rattle.drc_run.specs.Output.{Output, commands_among, steps_among, IsOpenedBy, is_short, IsTold, IsToldSoFar, AreStepsTold, AreStepsToldSoFar, AreTrialsTold, AreFirstTrials, IsTextOf, IsBegunBy, IsOutputFor, unclear, stopped, given, IsBegunFor, whole, begun_by, usage, refusal, AreRowsTold, IsBoardWritten}
 use Rattle.drc_run.proofs.OneProject.{one_project}
 
 -- ---- what a text says
 
-same_line : (reason : List ℕ) (place inner : Option ℕ) (a b : List ℕ) → IsWritten reason place inner a → IsWritten reason place inner b → a ≡ b
+same_line : (reason : List ℕ) (place inner : Option ℕ) (a b : List ℕ) → IsRefusalText reason place inner a → IsRefusalText reason place inner b → a ≡ b
 same_line reason place inner a b p q =
     let both : Some p.at ≡ Some q.at = sym p.has_place ∙ q.has_place in
     let at : p.at ≡ q.at = cc in
@@ -36,7 +36,7 @@ same_line reason place inner a b p q =
 same_file : (files : List (List ℕ × List ℕ)) (name a b : List ℕ) → file_of files name ≡ Some a → file_of files name ≡ Some b → a ≡ b
 same_file files name a b p q = let both : Some a ≡ Some b = sym p ∙ q in cc
 
-same_bytes : (files : List (List ℕ × List ℕ)) (source : Source) (a b : List ℕ) → AreBytesOf (Some files) source a → AreBytesOf (Some files) source b → a ≡ b
+same_bytes : (files : List (List ℕ × List ℕ)) (source : PlainSource) (a b : List ℕ) → AreBytesOf (Some files) source a → AreBytesOf (Some files) source b → a ≡ b
 same_bytes files (file name) a b p q = same_file files name a b p q
 same_bytes files (made count) a b p q = p ∙ sym q
 
@@ -50,27 +50,27 @@ same_whys : (a b : List ℕ) → refused a ≡ refused b → a ≡ b
 same_whys a b e = cc
 
 -- what a reader finds, where its bytes say one thing
-module _ {A E : Type 0} (Says : Result A E → Type 0) (one : (a b : Result A E) → Says a → Says b → a ≡ b)
+module _ {A E : Type 0} (BoardSays : Result A E → Type 0) (one : (a b : Result A E) → BoardSays a → BoardSays b → a ≡ b)
     (value : A → Value) (reason : E → List ℕ) (place inner : E → Option ℕ) where
   abbrev Refuses : List ℕ → Type 0
-  Refuses why = (e : E) × Says (Err e) × IsWritten (reason e) (place e) (inner e) why
+  Refuses why = (e : E) × BoardSays (Err e) × IsRefusalText (reason e) (place e) (inner e) why
 
-  value_once : (x y : A) → Says (Ok x) → Says (Ok y) → accepted (value x) ≡ accepted (value y)
+  value_once : (x y : A) → BoardSays (Ok x) → BoardSays (Ok y) → accepted (value x) ≡ accepted (value y)
   value_once x y p q =
       let both : Ok x ≡ Ok y = one (Ok x) (Ok y) p q in
       let same : x ≡ y = cc in
       ap (λ (z : A). accepted (value z)) same
 
-  value_or_not : (x : A) (why : List ℕ) → Says (Ok x) → Refuses why → ⊥
+  value_or_not : (x : A) (why : List ℕ) → BoardSays (Ok x) → Refuses why → ⊥
   value_or_not x why p q = let both : Ok x ≡ Err q.0 = one (Ok x) (Err q.0) p q.1 in cc
 
   why_once : (a b : List ℕ) → Refuses a → Refuses b → refused a ≡ refused b
   why_once a b p q =
       let both : Err p.0 ≡ Err q.0 = one (Err p.0) (Err q.0) p.1 q.1 in
       let same : p.0 ≡ q.0 = cc in
-      ap refused (same_line (reason q.0) (place q.0) (inner q.0) a b (subst (λ (e : E). IsWritten (reason e) (place e) (inner e) a) same p.2) q.2)
+      ap refused (same_line (reason q.0) (place q.0) (inner q.0) a b (subst (λ (e : E). IsRefusalText (reason e) (place e) (inner e) a) same p.2) q.2)
 
-module _ (one_reading : (text : List ℕ) (a b : Result PlainBoard BoardError) → Says text a → Says text b → a ≡ b)
+module _ (one_reading : (text : List ℕ) (a b : Result PlainBoard BoardError) → BoardSays text a → BoardSays text b → a ≡ b)
     (one_rules : (text : List ℕ) (a b : Result PlainRules RuleError) → RulesSays text a → RulesSays text b → a ≡ b)
     (one_script : (text : List ℕ) (a b : Result (List PlainCommand) ScriptError) → ScriptSays text a → ScriptSays text b → a ≡ b)
     (one_steps : (text : List ℕ) (a b : Result (List PlainStep) ScriptError) → SaysSteps text a → SaysSteps text b → a ≡ b)
@@ -83,25 +83,25 @@ module _ (one_reading : (text : List ℕ) (a b : Result PlainBoard BoardError) �
     (one_stolen : (s : State) (a b : Output) → AreRowsTold s a → AreRowsTold s b → a ≡ b)
     (one_written : (text : List ℕ) (commands : List PlainCommand) (a b : Output) → IsBoardWritten text commands a → IsBoardWritten text commands b → a ≡ b) where
   board_once : (bytes : List ℕ) (s t : Said) → ReaderSays Board bytes s → ReaderSays Board bytes t → s ≡ t
-  board_once bytes (accepted (a_board x)) (accepted (a_board y)) p q = value_once (Says bytes) (one_reading bytes) a_board board_reason_of board_place_of (λ e. None) x y p q
+  board_once bytes (accepted (a_board x)) (accepted (a_board y)) p q = value_once (BoardSays bytes) (one_reading bytes) a_board board_reason_of board_place_of (λ e. None) x y p q
   board_once bytes (accepted (a_board x)) (accepted (a_project y)) p q = absurd q
   board_once bytes (accepted (a_board x)) (accepted (a_rules y)) p q = absurd q
   board_once bytes (accepted (a_board x)) (accepted (a_script y)) p q = absurd q
   board_once bytes (accepted (a_board x)) (accepted (some_steps y)) p q = absurd q
   board_once bytes (accepted (a_board x)) (accepted (a_text y)) p q = absurd q
-  board_once bytes (accepted (a_board x)) (refused b) p q = absurd (value_or_not (Says bytes) (one_reading bytes) a_board board_reason_of board_place_of (λ e. None) x b p q)
+  board_once bytes (accepted (a_board x)) (refused b) p q = absurd (value_or_not (BoardSays bytes) (one_reading bytes) a_board board_reason_of board_place_of (λ e. None) x b p q)
   board_once bytes (accepted (a_project x)) t p q = absurd p
   board_once bytes (accepted (a_rules x)) t p q = absurd p
   board_once bytes (accepted (a_script x)) t p q = absurd p
   board_once bytes (accepted (some_steps x)) t p q = absurd p
   board_once bytes (accepted (a_text x)) t p q = absurd p
-  board_once bytes (refused a) (accepted (a_board y)) p q = absurd (value_or_not (Says bytes) (one_reading bytes) a_board board_reason_of board_place_of (λ e. None) y a q p)
+  board_once bytes (refused a) (accepted (a_board y)) p q = absurd (value_or_not (BoardSays bytes) (one_reading bytes) a_board board_reason_of board_place_of (λ e. None) y a q p)
   board_once bytes (refused a) (accepted (a_project y)) p q = absurd q
   board_once bytes (refused a) (accepted (a_rules y)) p q = absurd q
   board_once bytes (refused a) (accepted (a_script y)) p q = absurd q
   board_once bytes (refused a) (accepted (some_steps y)) p q = absurd q
   board_once bytes (refused a) (accepted (a_text y)) p q = absurd q
-  board_once bytes (refused a) (refused b) p q = why_once (Says bytes) (one_reading bytes) a_board board_reason_of board_place_of (λ e. None) a b p q
+  board_once bytes (refused a) (refused b) p q = why_once (BoardSays bytes) (one_reading bytes) a_board board_reason_of board_place_of (λ e. None) a b p q
 
   project_once : (bytes : List ℕ) (s t : Said) → ReaderSays Project bytes s → ReaderSays Project bytes t → s ≡ t
   project_once bytes (accepted (a_board x)) t p q = absurd p
@@ -249,14 +249,14 @@ module _ (one_reading : (text : List ℕ) (a b : Result PlainBoard BoardError) �
   bytes_once bytes (accepted (a_text x)) (accepted (a_script y)) p q = absurd q
   bytes_once bytes (accepted (a_text x)) (accepted (some_steps y)) p q = absurd q
   bytes_once bytes (accepted (a_text x)) (accepted (a_text y)) p q = ap (λ (text : List ℕ). accepted (a_text text)) (p.0 ∙ sym q.0)
-  bytes_once bytes (accepted (a_text x)) (refused b) p q = absurd (value_or_not (Says bytes) (one_reading bytes) a_board board_reason_of board_place_of (λ e. None) p.1.0 b p.1.1 q)
+  bytes_once bytes (accepted (a_text x)) (refused b) p q = absurd (value_or_not (BoardSays bytes) (one_reading bytes) a_board board_reason_of board_place_of (λ e. None) p.1.0 b p.1.1 q)
   bytes_once bytes (refused a) (accepted (a_board y)) p q = absurd q
   bytes_once bytes (refused a) (accepted (a_project y)) p q = absurd q
   bytes_once bytes (refused a) (accepted (a_rules y)) p q = absurd q
   bytes_once bytes (refused a) (accepted (a_script y)) p q = absurd q
   bytes_once bytes (refused a) (accepted (some_steps y)) p q = absurd q
-  bytes_once bytes (refused a) (accepted (a_text y)) p q = absurd (value_or_not (Says bytes) (one_reading bytes) a_board board_reason_of board_place_of (λ e. None) q.1.0 a q.1.1 p)
-  bytes_once bytes (refused a) (refused b) p q = why_once (Says bytes) (one_reading bytes) a_board board_reason_of board_place_of (λ e. None) a b p q
+  bytes_once bytes (refused a) (accepted (a_text y)) p q = absurd (value_or_not (BoardSays bytes) (one_reading bytes) a_board board_reason_of board_place_of (λ e. None) q.1.0 a q.1.1 p)
+  bytes_once bytes (refused a) (refused b) p q = why_once (BoardSays bytes) (one_reading bytes) a_board board_reason_of board_place_of (λ e. None) a b p q
 
   reader_once : (which : Which) (bytes : List ℕ) (s t : Said) → ReaderSays which bytes s → ReaderSays which bytes t → s ≡ t
   reader_once Board bytes s t p q = board_once bytes s t p q
@@ -333,13 +333,13 @@ module _ (one_reading : (text : List ℕ) (a b : Result PlainBoard BoardError) �
 
     -- ---- the output
 
-    not_stopped : (call : Call) (text : Named) (why : List ℕ) (values : List Value) → IsReached (Some files) (texts_of call) text → SourceSays (Some files) text (refused why)
+    not_stopped : (call : PlainCall) (text : Named) (why : List ℕ) (values : List Value) → IsReached (Some files) (texts_of call) text → SourceSays (Some files) text (refused why)
         → AreAccepted (Some files) (texts_of call) values → ⊥
     not_stopped call text why values r f p =
         let one = accepted_each r.before text r.after values (subst (λ (l : List Named). AreAccepted (Some files) l values) r.among p) in
         refused_once text why one.0 f one.1
 
-    not_unclear : (call : Call) (line : List ℕ) (text : Named) → call ≡ nothing line → IsReached (Some files) (texts_of call) text → ⊥
+    not_unclear : (call : PlainCall) (line : List ℕ) (text : Named) → call ≡ nothing line → IsReached (Some files) (texts_of call) text → ⊥
     not_unclear call line text e r = none_reached text r.before r.after (sym (ap texts_of e) ∙ r.among)
 
     boards : (a b : PlainBoard) → Some a ≡ Some b → a ≡ b
@@ -354,7 +354,7 @@ module _ (one_reading : (text : List ℕ) (a b : Result PlainBoard BoardError) �
         ap (λ (b : PlainBoard). record o { board = b }) (boards o.board p.board (sym h.board ∙ k.board))
         ∙ (ap (λ (c : PlainClasses). record o { board = p.board; classes = c }) (h.classes ∙ sym k.classes) ∙ ap (λ (r : PlainRules). record p { rules = r }) (h.rules ∙ sym k.rules))
 
-    one_text : (call : Call) (values : List Value) (a b : Output) → IsTextOf call values a → IsTextOf call values b → a ≡ b
+    one_text : (call : PlainCall) (values : List Value) (a b : Output) → IsTextOf call values a → IsTextOf call values b → a ≡ b
     one_text (nothing line) values a b p q = absurd p
     one_text (check r) values a b p q =
         one_told (is_short r.board) q.0 (commands_among values) a b (subst (λ (s : State). IsTold (is_short r.board) s (commands_among values) a) (one_opened values p.0 q.0 p.1 q.1) p.2) q.2
@@ -367,7 +367,7 @@ module _ (one_reading : (text : List ℕ) (a b : Result PlainBoard BoardError) �
         one_written q.0 (commands_among values) a b (subst (λ (text : List ℕ). IsBoardWritten text (commands_among values) a) (texts p.0 q.0 (sym p.1 ∙ q.1)) p.2) q.2
 
     -- what is written after some of the commands is a front part of what all give
-    front_text : (call : Call) (values : List Value) (text : List ℕ) (out : Output) → IsBegunBy call values text → IsTextOf call values out → (rest : List ℕ) × (out.text ≡ text ++ rest)
+    front_text : (call : PlainCall) (values : List Value) (text : List ℕ) (out : Output) → IsBegunBy call values text → IsTextOf call values out → (rest : List ℕ) × (out.text ≡ text ++ rest)
     front_text (nothing line) values text out p q = absurd p
     front_text (check r) values text out p q =
         front_of_told (is_short r.board) q.0 (commands_among values) text out (subst (λ (s : State). IsToldSoFar (is_short r.board) s (commands_among values) text) (one_opened values p.0 q.0 p.1 q.1) p.2) q.2
@@ -381,32 +381,32 @@ module _ (one_reading : (text : List ℕ) (a b : Result PlainBoard BoardError) �
     same_lines : (a b : List ℕ) → nothing a ≡ nothing b → a ≡ b
     same_lines a b e = cc
 
-    pub one_output_of : (call : Call) (a b : Output) → IsOutputFor call (Some files) a → IsOutputFor call (Some files) b → a ≡ b
+    pub one_output_of : (call : PlainCall) (a b : Output) → IsOutputFor call (Some files) a → IsOutputFor call (Some files) b → a ≡ b
     one_output_of call a b (unclear l c e) (unclear m d f) = e ∙ (ap usage (same_lines l m (sym c ∙ d)) ∙ sym f)
     one_output_of call a b (unclear l c e) (stopped u how s g d) = absurd (not_unclear call l u c s)
-    one_output_of call a b (unclear l c e) (given ws q u) = absurd (subst (λ (x : Call). IsTextOf x ws b) c u)
+    one_output_of call a b (unclear l c e) (given ws q u) = absurd (subst (λ (x : PlainCall). IsTextOf x ws b) c u)
     one_output_of call a b (stopped t why r f e) (unclear m d h) = absurd (not_unclear call m t d r)
     one_output_of call a b (stopped t why r f e) (stopped u how s g d) =
         let same : t ≡ u = first_once r.before s.before t u r.after s.after r.values s.values why how (sym r.among ∙ s.among) r.before_accepted s.before_accepted f g in
         let line : why ≡ how = same_whys why how (says_once u (refused why) (refused how) (subst (λ (z : Named). SourceSays (Some files) z (refused why)) same f) g) in
         e ∙ (ap (λ (z : Named). refusal z.which why) same ∙ (ap (refusal u.which) line ∙ sym d))
     one_output_of call a b (stopped t why r f e) (given ws q u) = absurd (not_stopped call t why ws r f q)
-    one_output_of call a b (given vs p t) (unclear m d h) = absurd (subst (λ (x : Call). IsTextOf x vs a) d t)
+    one_output_of call a b (given vs p t) (unclear m d h) = absurd (subst (λ (x : PlainCall). IsTextOf x vs a) d t)
     one_output_of call a b (given vs p t) (stopped u how s g d) = absurd (not_stopped call u how vs s g p)
     one_output_of call a b (given vs p t) (given ws q u) = one_text call ws a b (subst (λ (xs : List Value). IsTextOf call xs a) (one_values (texts_of call) vs ws p q) t) u
 
-    begun_front : (call : Call) (values : List Value) (text : List ℕ) (out : Output) → AreAccepted (Some files) (texts_of call) values → IsBegunBy call values text → IsOutputFor call (Some files) out
+    begun_front : (call : PlainCall) (values : List Value) (text : List ℕ) (out : Output) → AreAccepted (Some files) (texts_of call) values → IsBegunBy call values text → IsOutputFor call (Some files) out
         → (rest : List ℕ) × (out.text ≡ text ++ rest)
-    begun_front call values text out p b (unclear m d h) = absurd (subst (λ (x : Call). IsBegunBy x values text) d b)
+    begun_front call values text out p b (unclear m d h) = absurd (subst (λ (x : PlainCall). IsBegunBy x values text) d b)
     begun_front call values text out p b (stopped u how s g d) = absurd (not_stopped call u how values s g p)
     begun_front call values text out p b (given ws q u) = front_text call ws text out (subst (λ (xs : List Value). IsBegunBy call xs text) (one_values (texts_of call) values ws p q) b) u
 
-    pub front_of : (call : Call) (text : List ℕ) (out : Output) → IsBegunFor call (Some files) text → IsOutputFor call (Some files) out → (rest : List ℕ) × (out.text ≡ text ++ rest)
+    pub front_of : (call : PlainCall) (text : List ℕ) (out : Output) → IsBegunFor call (Some files) text → IsOutputFor call (Some files) out → (rest : List ℕ) × (out.text ≡ text ++ rest)
     front_of call text out (whole other is e) k = ([], ap (λ (o : Output). o.text) (one_output_of call out other k is) ∙ (sym e ∙ sym (append-nil text)))
     front_of call text out (begun_by values p b) k = begun_front call values text out p b k
 
-  pub one_output : (call : Call) (files : List (List ℕ × List ℕ)) (a b : Output) → IsOutputFor call (Some files) a → IsOutputFor call (Some files) b → a ≡ b
+  pub one_output : (call : PlainCall) (files : List (List ℕ × List ℕ)) (a b : Output) → IsOutputFor call (Some files) a → IsOutputFor call (Some files) b → a ≡ b
   one_output call files a b p q = one_output_of files call a b p q
 
-  pub begun_is_front : (call : Call) (files : List (List ℕ × List ℕ)) (text : List ℕ) (out : Output) → IsBegunFor call (Some files) text → IsOutputFor call (Some files) out → (rest : List ℕ) × (out.text ≡ text ++ rest)
+  pub begun_is_front : (call : PlainCall) (files : List (List ℕ × List ℕ)) (text : List ℕ) (out : Output) → IsBegunFor call (Some files) text → IsOutputFor call (Some files) out → (rest : List ℕ) × (out.text ≡ text ++ rest)
   begun_is_front call files text out b k = front_of files call text out b k

@@ -3,7 +3,7 @@ use Rattle.std.proofs.Common.{◌≡◌, ◌∙◌, ap, sym, subst, ℕ, Bool, f
 use Rattle.board_items.specs.Boards.{PlainBoard}
 use Rattle.pair_check.specs.PlainRow.{PlainRow}
 use Rattle.pair_check.specs.Rows.{Checked, AreRows}
-use Rattle.net_groups.specs.NetParts.{NetPart, AreParts}
+use Rattle.net_groups.specs.NetParts.{PlainNetPart, AreParts}
 use Rattle.drc_rows.specs.ReportOf.{Found}
 use Rattle.edit_script.specs.Commands.{PlainCommand, PlainStep}
 use Rattle.drc_state.specs.declared.error.EditError.{EditError}
@@ -17,7 +17,7 @@ use Rattle.drc_run.specs.Turns.{IsTurn, refused, made, IsStepTurn, unstepped, st
 use Rattle.drc_run.proofs.TurnLists.{IsOne}
 
 module _ (one_list : (c : Checked) (a b : List PlainRow) → AreRows c a → AreRows c b → a ≡ b)
-    (one_parts : (board : PlainBoard) (a b : List NetPart) → AreParts board a → AreParts board b → a ≡ b)
+    (one_parts : (board : PlainBoard) (a b : List PlainNetPart) → AreParts board a → AreParts board b → a ≡ b)
     (one_held : (c : Checked) (a b : List ℕ) → AreHeld c a → AreHeld c b → a ≡ b) where
   one_count : (c : Checked) (m n : ℕ) → IsHeldCount c m → IsHeldCount c n → m ≡ n
   one_count c m n h k = h.count_is ∙ (ap length (one_held c h.tiles k.tiles h.are_held k.are_held) ∙ sym k.count_is)
@@ -25,7 +25,7 @@ module _ (one_list : (c : Checked) (a b : List PlainRow) → AreRows c a → Are
   one_finding : (s : State) (a b : Found) → AreFindings s a → AreFindings s b → a ≡ b
   one_finding s a b h k =
       ap (λ (x : List PlainRow). record a { rows = x }) (one_list (checked_in s) a.rows b.rows h.rows k.rows)
-      ∙ (ap (λ (x : List NetPart). record a { rows = b.rows; parts = x }) (one_parts s.board a.parts b.parts h.parts k.parts)
+      ∙ (ap (λ (x : List PlainNetPart). record a { rows = b.rows; parts = x }) (one_parts s.board a.parts b.parts h.parts k.parts)
       ∙ ap (λ (x : ℕ). record b { held = x }) (one_count (checked_in s) a.held b.held h.held k.held))
 
   one_report : (short : Bool) (n : ℕ) (s : State) (done : ℕ) (xs ys : List ℕ) → IsReport short n s done xs → IsReport short n s done ys → xs ≡ ys

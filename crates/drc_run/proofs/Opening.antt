@@ -4,7 +4,7 @@ use Rattle.net_class.specs.Classes.{PlainClasses, plain_classes}
 use Rattle.rule_text.specs.RulesOf.{PlainRules, no_rules}
 use Rattle.edit_script.specs.Commands.{PlainCommand}
 use Rattle.drc_state.specs.States.{State}
-use Rattle.run_words.specs.Calls.{Reading, Call}
+use Rattle.run_words.specs.Calls.{Reading, PlainCall}
 use Rattle.run_texts.specs.declared.texts.Which.TheVariants.{Project, Rules, Script}
 use Rattle.run_texts.specs.declared.texts.Stop.{Stop}
 use Rattle.run_texts.specs.declared.texts.Stop.TheVariants.{Refused, Unread, OutOfMemory}
@@ -67,7 +67,7 @@ module _ (told : Option (List (List ℕ × List ℕ))) where
   -- ---- the output
 
   module _ (before now : List ℕ → ℕ) where
-    pub line_is_output : (call : Call) (stop : Stop) (out : Output) → StopsTexts told call before now stop → IsLineOf stop out → IsOutputFor call told out
+    pub line_is_output : (call : PlainCall) (stop : Stop) (out : Output) → StopsTexts told call before now stop → IsLineOf stop out → IsOutputFor call told out
     line_is_output call (Refused r) out s line = stopped (record { which = r.which; source = s.0 }) (why_of r) s.1 s.2 line
     line_is_output call (Unread which) out s line = absurd line
     line_is_output call OutOfMemory out s line = absurd line

@@ -5,7 +5,7 @@ use Rattle.std.specs.Io.KnownBytes.{Appends}
 use Rattle.drc_io.specs.Causes.{Rose}
 use Rattle.drc_io.specs.Sinks.{AppendsFront}
 use denote.Enum.Declared.{tag_of}
-use Rattle.run_words.specs.Calls.{Call}
+use Rattle.run_words.specs.Calls.{PlainCall}
 use Rattle.run_texts.specs.declared.texts.Which.{Which}
 use Rattle.run_texts.specs.Texts.{ReadFails}
 use Rattle.drc_run.specs.contracts.status.Status.{the_type}
@@ -92,17 +92,17 @@ longer old new text whole rest e a = record {
   appended = a.appended;
 }
 
-module _ (begun : (call : Call) (files : List (List ℕ × List ℕ)) (text : List ℕ) (out : Output) → IsBegunFor call (Some files) text → IsOutputFor call (Some files) out → (rest : List ℕ) × (out.text ≡ text ++ rest)) where
-  front_of : (call : Call) (files : List (List ℕ × List ℕ)) (old new : Option (List ℕ)) (out : Output) → IsOutputFor call (Some files) out → Front (IsBegunFor call (Some files)) old new → FrontOf out.text old new
+module _ (begun : (call : PlainCall) (files : List (List ℕ × List ℕ)) (text : List ℕ) (out : Output) → IsBegunFor call (Some files) text → IsOutputFor call (Some files) out → (rest : List ℕ) × (out.text ≡ text ++ rest)) where
+  front_of : (call : PlainCall) (files : List (List ℕ × List ℕ)) (old new : Option (List ℕ)) (out : Output) → IsOutputFor call (Some files) out → Front (IsBegunFor call (Some files)) old new → FrontOf out.text old new
   front_of call files old new out is (inl k) = inl k
   front_of call files old new out is (inr f) = let more = begun call files f.0 out f.1 is in inr (longer old new f.0 out.text more.0 more.1 f.2)
 
-  part_of : (call : Call) (files : List (List ℕ × List ℕ)) (old new : Option (List ℕ)) (Fault : Which → Type 0) (out : Output) → IsOutputFor call (Some files) out
+  part_of : (call : PlainCall) (files : List (List ℕ × List ℕ)) (old new : Option (List ℕ)) (Fault : Which → Type 0) (out : Output) → IsOutputFor call (Some files) out
       → Front (IsBegunFor call (Some files)) old new ⊎ UnreadFront Fault old new → FrontOf out.text old new ⊎ UnreadFront Fault old new
   part_of call files old new Fault out is (inl f) = inl (front_of call files old new out is f)
   part_of call files old new Fault out is (inr u) = inr u
 
-  fronts_at : (call : Call) (told : Option (List (List ℕ × List ℕ))) (Fault : Which → Type 0) (old new : Option (List ℕ)) (s : Status) → Ends (IsOutputFor call told) (IsBegunFor call told) Fault old new s
+  fronts_at : (call : PlainCall) (told : Option (List (List ℕ × List ℕ))) (Fault : Which → Type 0) (old new : Option (List ℕ)) (s : Status) → Ends (IsOutputFor call told) (IsBegunFor call told) Fault old new s
       → IfSome told (λ files. (out : Output) → IsOutputFor call (Some files) out → (tag_of the_type s ≡ 6 → FrontOf out.text old new) × (tag_of the_type s ≡ 5 → FrontOf out.text old new ⊎ UnreadFront Fault old new))
   fronts_at call None Fault old new s w = tt
   fronts_at call (Some files) Fault old new s w = λ out is. (
@@ -110,15 +110,15 @@ module _ (begun : (call : Call) (files : List (List ℕ × List ℕ)) (text : Li
     λ h. part_of call files old new Fault out is (part_at (IsOutputFor call (Some files)) (IsBegunFor call (Some files)) Fault old new s w h),
   )
 
-module _ (once : (call : Call) (files : List (List ℕ × List ℕ)) (a b : Output) → IsOutputFor call (Some files) a → IsOutputFor call (Some files) b → a ≡ b)
-    (begun : (call : Call) (files : List (List ℕ × List ℕ)) (text : List ℕ) (out : Output) → IsBegunFor call (Some files) text → IsOutputFor call (Some files) out → (rest : List ℕ) × (out.text ≡ text ++ rest)) where
-  exact_at : (call : Call) (told : Option (List (List ℕ × List ℕ))) (IsBegun : List ℕ → Type 0) (Fault : Which → Type 0) (old new : Option (List ℕ)) (s : Status) → Ends (IsOutputFor call told) IsBegun Fault old new s
+module _ (once : (call : PlainCall) (files : List (List ℕ × List ℕ)) (a b : Output) → IsOutputFor call (Some files) a → IsOutputFor call (Some files) b → a ≡ b)
+    (begun : (call : PlainCall) (files : List (List ℕ × List ℕ)) (text : List ℕ) (out : Output) → IsBegunFor call (Some files) text → IsOutputFor call (Some files) out → (rest : List ℕ) × (out.text ≡ text ++ rest)) where
+  exact_at : (call : PlainCall) (told : Option (List (List ℕ × List ℕ))) (IsBegun : List ℕ → Type 0) (Fault : Which → Type 0) (old new : Option (List ℕ)) (s : Status) → Ends (IsOutputFor call told) IsBegun Fault old new s
       → IfSome told (λ files. (out : Output) → IsOutputFor call (Some files) out → tag_of the_type s < 4 → (tag_of the_type s ≡ out.status) × Appends old new out.text)
   exact_at call None IsBegun Fault old new s w = tt
   exact_at call (Some files) IsBegun Fault old new s w = λ out is h.
       its_status (IsOutputFor call (Some files)) IsBegun Fault old new (tag_of the_type s) (once call files) (whole_below (IsOutputFor call (Some files)) IsBegun Fault old new s w h) out is
 
-  pub promised : (call : Call) (told : Option (List (List ℕ × List ℕ))) (before now : List ℕ → ℕ) (old new : Option (List ℕ)) (m n : ℕ) (s : Status)
+  pub promised : (call : PlainCall) (told : Option (List (List ℕ × List ℕ))) (before now : List ℕ → ℕ) (old new : Option (List ℕ)) (m n : ℕ) (s : Status)
       → EndsFor call told before now old new s → (s ≡ WriteFault → Rose m n) → Promises call told before now old new m n (tag_of the_type s)
   promised call told before now old new m n s w f =
       let IsIt = IsOutputFor call told in
@@ -137,7 +137,7 @@ module _ (once : (call : Call) (files : List (List ℕ × List ℕ)) (a b : Outp
       }
 
   -- the same for the words
-  pub promised_for : (call other : Call) (told : Option (List (List ℕ × List ℕ))) (before now : List ℕ → ℕ) (old new : Option (List ℕ)) (m n : ℕ) (s : Status) → call ≡ other
+  pub promised_for : (call other : PlainCall) (told : Option (List (List ℕ × List ℕ))) (before now : List ℕ → ℕ) (old new : Option (List ℕ)) (m n : ℕ) (s : Status) → call ≡ other
       → EndsFor call told before now old new s → (s ≡ WriteFault → Rose m n) → Promises other told before now old new m n (tag_of the_type s)
   promised_for call other told before now old new m n s same w f =
-      subst (λ (r : Call). Promises r told before now old new m n (tag_of the_type s)) same (promised call told before now old new m n s w f)
+      subst (λ (r : PlainCall). Promises r told before now old new m n (tag_of the_type s)) same (promised call told before now old new m n s w f)

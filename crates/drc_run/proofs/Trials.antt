@@ -18,7 +18,7 @@ use Rattle.what_if.specs.declared.error.TrialError.{TrialError}
 use Rattle.what_if.specs.declared.error.TrialError.TheVariants.{Refused}
 use Rattle.what_if.specs.declared.outcome.Trial.{Trial}
 use Rattle.what_if.specs.Trials.{IsDifference, IsSurvey}
-use Rattle.what_if.specs.Tried.{IsTrial as IsTried, IsRefusedAt}
+use Rattle.what_if.specs.Tried.{IsTrialOf, IsRefusedAt}
 use Rattle.drc_run.specs.declared.status.Status.{Status}
 use Rattle.drc_run.specs.declared.status.Status.TheVariants.{WriteFault}
 use Rattle.drc_run.specs.Reports.{refused_trial, why_edit}
@@ -72,7 +72,7 @@ module _ (n : ℕ) (s after : State) (gone come rows : List PlainRow) where
 
 -- what a command leads to is its trial
 module _ (s : State) (command : PlainCommand) where
-  pub carried : (number : ℕ) (comes next : Bool) (trial : Trial) (text : List ℕ) → IsTried s (command ∷ []) trial → IsTrialText number s trial.session.state trial.come.items text
+  pub carried : (number : ℕ) (comes next : Bool) (trial : Trial) (text : List ℕ) → IsTrialOf s (command ∷ []) trial → IsTrialText number s trial.session.state trial.come.items text
       → next ≡ or_some comes trial.come.items → IsTrial s number comes command next text
   carried number comes next trial text by told e =
       tried trial.session.state (subst (λ (x : State). Answers s command (Ok x)) (sym by.led.2) by.led.1) trial.come.items told e

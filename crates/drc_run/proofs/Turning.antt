@@ -22,7 +22,7 @@ use Rattle.drc_run.specs.Reports.{AreFindings, IsOpening, report_text, refused_l
 use Rattle.drc_run.specs.Turns.{AreTurns, IsTurn, refused}
 use Rattle.drc_run.specs.Output.{Output, status_of, IsStatusOf, IsToldBy, IsToldSoFarBy}
 use Rattle.drc_run.specs.Endings.{Whole, Front, Ends, number_of}
-use Rattle.drc_run.specs.Running.{found_of, IsTaken, IsBroken, AreTaken, AreBroken, IsAnswered, IsEditAnswered, wanting, line, SoFar}
+use Rattle.drc_run.specs.Running.{found_of, IsTurnTaken, IsBroken, AreTaken, AreBroken, IsAnswered, IsEditAnswered, wanting, line, SoFar}
 use Rattle.drc_run.proofs.TurnLists.{one_more}
 use Rattle.drc_run.proofs.Written.{reporting}
 
@@ -31,9 +31,9 @@ use Rattle.drc_run.proofs.Written.{reporting}
 -- its text was written, or a front part of that
 module _ {S C : Type 0} (Turn : ℕ → S → C → S → List ℕ → Type 0) (number : ℕ) (s : S) (command : C) (next : S) (old new : Option (List ℕ)) (m n : ℕ) (text : List ℕ) (turn : Turn number s command next text) where
   pub taken_by : (r : Result (Unit {0}) Failed) (b : Result (Unit {0}) Break) → MatchResult r (λ u. b ≡ Ok u) (λ _. b ≡ Err Unwritten) → Writes {T = Unit {0}} {E = Failed} old new m n text r
-      → IfOk b (λ _. IsTaken Turn number s command next old new)
-  taken_by (Ok u) b e w = subst (λ (x : Result (Unit {0}) Break). IfOk x (λ _. IsTaken Turn number s command next old new)) (sym e) (record { text = text; turn = turn; written = w.bytes })
-  taken_by (Err f) b e w = subst (λ (x : Result (Unit {0}) Break). IfOk x (λ _. IsTaken Turn number s command next old new)) (sym e) tt
+      → IfOk b (λ _. IsTurnTaken Turn number s command next old new)
+  taken_by (Ok u) b e w = subst (λ (x : Result (Unit {0}) Break). IfOk x (λ _. IsTurnTaken Turn number s command next old new)) (sym e) (record { text = text; turn = turn; written = w.bytes })
+  taken_by (Err f) b e w = subst (λ (x : Result (Unit {0}) Break). IfOk x (λ _. IsTurnTaken Turn number s command next old new)) (sym e) tt
 
   pub broken_by : (r : Result (Unit {0}) Failed) (b : Result (Unit {0}) Break) → MatchResult r (λ u. b ≡ Ok u) (λ _. b ≡ Err Unwritten) → Writes {T = Unit {0}} {E = Failed} old new m n text r
       → IfErr b (λ _. Keeps old new ⊎ IsBroken Turn number s command old new)
@@ -56,8 +56,8 @@ module _ (short : Bool) (number : ℕ) (was is : PlainSession) (command : PlainC
   its_turn : (why ≡ NoMemory → ⊥) → IsTurn short number was.state command is.state (refused_line number (why_edit why))
   its_turn other = let h = refused_is was is command why runs other by in refused why h.0 (ap (λ (x : PlainSession). x.state) h.1) refl
 
-  pub refused_taken : IsEditAnswered number why old new m n b → IfOk b (λ _. IsTaken (IsTurn short) number was.state command is.state old new)
-  refused_taken (wanting w e k f) = subst (λ (x : Result (Unit {0}) Break). IfOk x (λ _. IsTaken (IsTurn short) number was.state command is.state old new)) (sym e) tt
+  pub refused_taken : IsEditAnswered number why old new m n b → IfOk b (λ _. IsTurnTaken (IsTurn short) number was.state command is.state old new)
+  refused_taken (wanting w e k f) = subst (λ (x : Result (Unit {0}) Break). IfOk x (λ _. IsTurnTaken (IsTurn short) number was.state command is.state old new)) (sym e) tt
   refused_taken (line other r w e) = taken_by (IsTurn short) number was.state command is.state old new m n (refused_line number (why_edit why)) (its_turn other) r b e w
 
   pub refused_runs : IsEditAnswered number why old new m n b → IfOk b (λ _. is.stopped ≡ false)
@@ -115,7 +115,7 @@ module _ {S C : Type 0} (Turn : ℕ → S → C → S → List ℕ → Type 0) (
     next_number : (turn : ℕ) → turn ≡ number + 1 → turn ≡ 1 + length done
     next_number turn e = let a = so.counted in let b = so.reached in omega (arith, a, b)
 
-    pub more_taken : (next : S) (turn : ℕ) (later : ℕ) (command : C) → turn ≡ number + 1 → IsTaken Turn turn now command next mid new → faults ≤ later → length (done ++ command ∷ []) ≡ k + 1
+    pub more_taken : (next : S) (turn : ℕ) (later : ℕ) (command : C) → turn ≡ number + 1 → IsTurnTaken Turn turn now command next mid new → faults ≤ later → length (done ++ command ∷ []) ≡ k + 1
         → SoFar Turn s (done ++ command ∷ []) (k + 1) turn next old new before later
     more_taken next turn later command e taken up long = record {
       counted = (let a = so.counted in omega (arith, a));

@@ -3,7 +3,7 @@ use Rattle.std.specs.Prelude.{◌≡◌, ◌⊎◌, ℕ, Bool, true, false, ◌<
 use Rattle.std.specs.Io.KnownBytes.{Appends, Keeps}
 use Rattle.drc_io.specs.Causes.{Rose}
 use Rattle.drc_io.specs.Sinks.{AppendsFront}
-use Rattle.run_words.specs.Calls.{Call}
+use Rattle.run_words.specs.Calls.{PlainCall}
 use Rattle.run_texts.specs.declared.texts.Which.{Which}
 use Rattle.run_texts.specs.Texts.{ReadFails}
 use Rattle.drc_run.specs.declared.status.Status.{Status}
@@ -42,7 +42,7 @@ Ends IsIt IsBegun Fault old new WriteFault = Front IsBegun old new ⊎ UnreadFro
 Ends IsIt IsBegun Fault old new OutOfMemory = Front IsBegun old new
 
 -- what a call has written by its end, by the files that its shelf tells, and the shelf's counts of faults before and after
-abbrev pub EndsFor : Call → Option (List (List ℕ × List ℕ)) → (List ℕ → ℕ) → (List ℕ → ℕ) → Option (List ℕ) → Option (List ℕ) → Status → Type 0
+abbrev pub EndsFor : PlainCall → Option (List (List ℕ × List ℕ)) → (List ℕ → ℕ) → (List ℕ → ℕ) → Option (List ℕ) → Option (List ℕ) → Status → Type 0
 EndsFor call told before now old new status = Ends (IsOutputFor call told) (IsBegunFor call told) (ReadFails call told before now) old new status
 
 -- the text of an output
@@ -66,7 +66,7 @@ trials_status true = Rows
 
 -- What a run promises, by what its words call for, the files that its shelf tells, the shelf's counts of faults before and after, what
 -- the sink held before and after, the sink's counts, and the status.
-pub record Promises (call : Call) (told : Option (List (List ℕ × List ℕ))) (reads_before reads_now : List ℕ → ℕ) (old new : Option (List ℕ)) (writes_before writes_now status : ℕ) : Type 0 where
+pub record Promises (call : PlainCall) (told : Option (List (List ℕ × List ℕ))) (reads_before reads_now : List ℕ → ℕ) (old new : Option (List ℕ)) (writes_before writes_now status : ℕ) : Type 0 where
   pub bound : status ≤ 6
   -- below 4 the whole output was written, and this is its status
   pub whole : status < 4 → Whole (IsOutputFor call told) old new status

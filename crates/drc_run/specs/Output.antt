@@ -8,13 +8,13 @@ use Rattle.pair_check.specs.Rows.{AreRows}
 use Rattle.drc_rows.specs.Report.{rows_text}
 use Rattle.drc_rows.specs.ReportOf.{first_line}
 use Rattle.edit_script.specs.Commands.{PlainCommand, PlainStep}
-use Rattle.pcb_read.specs.BoardText.{Says as BoardSays}
+use Rattle.pcb_read.specs.BoardText.{BoardSays}
 use Rattle.board_alike.specs.Same.{IsSame}
 use Rattle.board_write.specs.Answers.{Outcome}
 use Rattle.drc_state.specs.States.{State, checked_in}
 use Rattle.undo_log.specs.Past.{Past, begun}
 use Rattle.what_if.specs.Trials.{IsSurvey}
-use Rattle.run_words.specs.Calls.{Source, file, made, Call, nothing, check, undo, try, steal, write}
+use Rattle.run_words.specs.Calls.{PlainSource, file, made, PlainCall, nothing, check, undo, try, steal, write}
 use Rattle.run_texts.specs.declared.texts.Which.{Which}
 use Rattle.run_texts.specs.Texts.{Named, texts_of, word_of, Value, a_board, a_project, a_rules, a_script, some_steps, refused, SourceSays, AreAccepted, IsReached, a_text}
 use Rattle.drc_run.specs.Reports.{IsOpening}
@@ -88,7 +88,7 @@ pub record IsOpenedBy (values : List Value) (s : State) : Type 0 where
 -- ---- what is written, by what is called for
 
 -- a generated board is reported in short
-abbrev pub is_short : Source → Bool
+abbrev pub is_short : PlainSource → Bool
 is_short (file name) = false
 is_short (made count) = true
 
@@ -189,7 +189,7 @@ pub record IsBoardWritten (text : List ℕ) (commands : List PlainCommand) (out 
   pub status_is : out.status ≡ status_after refusals
 
 -- all that a call writes whose texts have these values
-abbrev pub IsTextOf : Call → List Value → Output → Type 0
+abbrev pub IsTextOf : PlainCall → List Value → Output → Type 0
 IsTextOf (nothing usage) values out = ⊥
 IsTextOf (check r) values out = (opening : State) × IsOpenedBy values opening × IsTold (is_short r.board) opening (commands_among values) out
 IsTextOf (undo board script) values out = (opening : State) × IsOpenedBy values opening × AreStepsTold opening (steps_among values) out
@@ -198,7 +198,7 @@ IsTextOf (steal board workers) values out = (opening : State) × IsOpenedBy valu
 IsTextOf (write board script) values out = (text : List ℕ) × (text_among values ≡ Some text) × IsBoardWritten text (commands_among values) out
 
 -- what it has written after some of the commands. The text of a board is written only once all are carried out
-abbrev pub IsBegunBy : Call → List Value → List ℕ → Type 0
+abbrev pub IsBegunBy : PlainCall → List Value → List ℕ → Type 0
 IsBegunBy (nothing usage) values text = ⊥
 IsBegunBy (check r) values text = (opening : State) × IsOpenedBy values opening × IsToldSoFar (is_short r.board) opening (commands_among values) text
 IsBegunBy (undo board script) values text = (opening : State) × IsOpenedBy values opening × AreStepsToldSoFar opening (steps_among values) text
@@ -207,12 +207,12 @@ IsBegunBy (steal board workers) values text = ⊥
 IsBegunBy (write board script) values text = ⊥
 
 -- the output: the usage line, or the line of the first text that is refused, or what all of them give
-pub data IsOutputFor (call : Call) (told : Option (List (List ℕ × List ℕ))) (out : Output) : Type 0 where
+pub data IsOutputFor (call : PlainCall) (told : Option (List (List ℕ × List ℕ))) (out : Output) : Type 0 where
   unclear : (line : List ℕ) → call ≡ nothing line → out ≡ usage line → IsOutputFor call told out
   stopped : (text : Named) (why : List ℕ) → IsReached told (texts_of call) text → SourceSays told text (refused why) → out ≡ refusal text.which why → IsOutputFor call told out
   given : (values : List Value) → AreAccepted told (texts_of call) values → IsTextOf call values out → IsOutputFor call told out
 
 -- what the output begins with: all of it, or in place of what the texts give as much as some of the commands do
-pub data IsBegunFor (call : Call) (told : Option (List (List ℕ × List ℕ))) (text : List ℕ) : Type 0 where
+pub data IsBegunFor (call : PlainCall) (told : Option (List (List ℕ × List ℕ))) (text : List ℕ) : Type 0 where
   whole : (out : Output) → IsOutputFor call told out → text ≡ out.text → IsBegunFor call told text
   begun_by : (values : List Value) → AreAccepted told (texts_of call) values → IsBegunBy call values text → IsBegunFor call told text

@@ -41,7 +41,7 @@ pub record IsReported (short : Bool) (number : ℕ) (session : PlainSession) (do
   pub writes : Writes {T = Unit {0}} {E = Failed} old new before now (report_text short number session.state (found_of session held) done) result
 
 -- a turn was taken
-pub record IsTaken {S C : Type 0} (Turn : ℕ → S → C → S → List ℕ → Type 0) (number : ℕ) (s : S) (command : C) (next : S) (old new : Option (List ℕ)) : Type 0 where
+pub record IsTurnTaken {S C : Type 0} (Turn : ℕ → S → C → S → List ℕ → Type 0) (number : ℕ) (s : S) (command : C) (next : S) (old new : Option (List ℕ)) : Type 0 where
   pub text : List ℕ
   pub turn : Turn number s command next text
   pub written : Appends old new text
@@ -95,7 +95,7 @@ HasPast history = (past : Past) × IsPastOf history past
 
 -- the step was taken
 abbrev pub IsStepTaken : ℕ → PlainHistory → PlainStep → PlainHistory → Option (List ℕ) → Option (List ℕ) → Type 0
-IsStepTaken number was step is old new = (past : Past) → IsPastOf was past → (next : Past) × IsPastOf is next × IsTaken IsStepTurn number past step next old new
+IsStepTaken number was step is old new = (past : Past) → IsPastOf was past → (next : Past) × IsPastOf is next × IsTurnTaken IsStepTurn number past step next old new
 
 -- a front part of what it writes was written, or nothing
 abbrev pub IsStepBroken : ℕ → PlainHistory → PlainStep → Option (List ℕ) → Option (List ℕ) → Type 0

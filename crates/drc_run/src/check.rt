@@ -3,11 +3,11 @@
 ghost use Rattle.std.specs.Prelude.{◌≡◌, ◌≤◌, length, map, All, false};
 ghost use Rattle.drc_io.specs.Causes.{Rose};
 ghost use Rattle.edit_script.specs.Commands.{plain_command};
-ghost use Rattle.edit_script.specs.Fits.{Fits as CommandFits};
+ghost use Rattle.edit_script.specs.Fits.{Fits};
 ghost use Rattle.drc_state.specs.States.{checked_in};
 ghost use Rattle.drc_state.specs.Recheck.{IsHeldCount};
 ghost use Rattle.run_words.specs.Calls.{check};
-ghost use Rattle.run_words.specs.Views.{source_in, reading_in, Fits};
+ghost use Rattle.run_words.specs.Views.{source_in, reading_in, RequestFits};
 ghost use Rattle.run_texts.specs.Views.{opened_in};
 ghost use Rattle.drc_run.specs.declared.status.Status.{Status};
 ghost use Rattle.drc_run.specs.Output.{IsTold, IsToldSoFar, is_short};
@@ -22,7 +22,7 @@ use drc_session::Session;
 use edit_script::Command;
 use run_reports::Tiles;
 use run_texts::{Texts, commands_of, script_text, texts_of};
-use run_words::{Request, Source};
+use run_words::{BoardSource, Request};
 use std::alloc::AllocGlobal;
 use std::thread::Threads;
 use tile_pool::Gate;
@@ -41,7 +41,7 @@ fn go_through<R: Threads + Sync + AllocGlobal, W: Sink, G: Gate>(
     requires running { session.old.stopped ≡ false }
     requires held { IsHeldCount (checked_in session.old.state) tiles.held }
     requires whole { tiles.done ≡ tiles.held }
-    requires fit { All CommandFits (map plain_command commands.now) }
+    requires fit { All Fits (map plain_command commands.now) }
     ensures ends { Ends (IsTold way.short session.old.state (map plain_command commands.now)) (IsToldSoFar way.short session.old.state (map plain_command commands.now)) (λ _. ⊥) (W.written out.old) (W.written out.new) result }
     ensures fault { result ≡ Status.WriteFault → Rose (W.faults out.old) (W.faults out.new) }
 {
@@ -67,7 +67,7 @@ fn report<R: Threads + Sync + AllocGlobal, W: Sink, G: Gate>(
 ) -> Status
     requires workers { (1 ≤ way.workers) × (way.workers ≤ 64) }
     requires few { length texts.rules.rules ≤ 33_554_432 }
-    requires fit { All CommandFits (map plain_command commands.now) }
+    requires fit { All Fits (map plain_command commands.now) }
     ensures ends { Ends (IsTold way.short (opened_in texts) (map plain_command commands.now)) (IsToldSoFar way.short (opened_in texts) (map plain_command commands.now)) (λ _. ⊥) (W.written out.old) (W.written out.new) result }
     ensures fault { result ≡ Status.WriteFault → Rose (W.faults out.old) (W.faults out.new) }
 {
@@ -94,7 +94,7 @@ fn way_of(request: Request<'_>) -> Way
 {
     Way {
         workers: request.workers,
-        short: matches!(request.board, Source::Made(_)),
+        short: matches!(request.board, BoardSource::Made(_)),
     }
 }
 
@@ -106,7 +106,7 @@ pub(crate) fn check<R: Threads + Sync + AllocGlobal, F: Shelf, W: Sink, G: Gate>
     shelf: &mut F,
     out: &mut W,
 ) -> Status
-    requires { Fits request }
+    requires { RequestFits request }
     ensures ends { EndsFor (check (reading_in request.entry)) (F.files shelf.old) (F.faults shelf.old) (F.faults shelf.new) (W.written out.old) (W.written out.new) result }
     ensures fault { result ≡ Status.WriteFault → Rose (W.faults out.old) (W.faults out.new) }
     ensures same { F.files shelf.new ≡ F.files shelf.old }

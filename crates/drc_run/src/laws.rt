@@ -1,7 +1,7 @@
 //! Laws of the output. The functions do nothing: each clause holds for all words and files.
 
 ghost use Rattle.std.specs.Prelude.{◌≡◌, ◌++◌, ℕ, List, Some};
-ghost use Rattle.run_words.specs.Calls.{Call};
+ghost use Rattle.run_words.specs.Calls.{PlainCall};
 ghost use Rattle.drc_run.specs.Output.{Output, IsOutputFor, IsBegunFor};
 
 use board_write::laws::one_outcome;
@@ -16,7 +16,7 @@ use what_if::laws::{one_survey, one_trial};
 
 /// The words and the files have one output at most.
 pub fn one_output()
-    ensures { (call : Call) (files : List (List ℕ × List ℕ)) (a b : Output) → IsOutputFor call (Some files) a → IsOutputFor call (Some files) b → a ≡ b }
+    ensures { (call : PlainCall) (files : List (List ℕ × List ℕ)) (a b : Output) → IsOutputFor call (Some files) a → IsOutputFor call (Some files) b → a ≡ b }
 {
     one_reading();
     one_rules_reading();
@@ -34,7 +34,7 @@ pub fn one_output()
 
 /// What the output begins with after some of the commands is a front part of it, where there is an output.
 pub fn begun_is_front()
-    ensures { (call : Call) (files : List (List ℕ × List ℕ)) (text : List ℕ) (out : Output) → IsBegunFor call (Some files) text → IsOutputFor call (Some files) out → (rest : List ℕ) × (out.text ≡ text ++ rest) }
+    ensures { (call : PlainCall) (files : List (List ℕ × List ℕ)) (text : List ℕ) (out : Output) → IsBegunFor call (Some files) text → IsOutputFor call (Some files) out → (rest : List ℕ) × (out.text ≡ text ++ rest) }
 {
     one_reading();
     one_rules_reading();

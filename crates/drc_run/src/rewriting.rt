@@ -3,7 +3,7 @@
 ghost use Rattle.std.specs.Prelude.{◌≡◌, ◌≤◌, length, map, All, IfOk, MatchResult};
 ghost use Rattle.drc_io.specs.Causes.{Rose};
 ghost use Rattle.edit_script.specs.Commands.{plain_command};
-ghost use Rattle.edit_script.specs.Fits.{Fits as CommandFits};
+ghost use Rattle.edit_script.specs.Fits.{Fits};
 ghost use Rattle.board_write.specs.Sources.{IsSource};
 ghost use Rattle.run_words.specs.Calls.{write};
 ghost use Rattle.run_texts.specs.declared.texts.Which.{Which};
@@ -16,7 +16,7 @@ ghost use Rattle.drc_run.specs.Endings.{Ends, EndsFor, IsTextOfOne, number_of};
 use crate::finish::write_stop;
 use crate::status::Status;
 use board_again::laws::read_back;
-use board_write::{Source, WriteError, read_source, write_source};
+use board_write::{SourceText, WriteError, read_source, write_source};
 use drc_io::{Shelf, Sink};
 use edit_script::Command;
 use run_texts::{Stop, Which, fetch_text, refused, script_in, script_text};
@@ -35,7 +35,7 @@ fn status_after(refused: u32) -> Status
 }
 
 /// The board of a text that is wanted itself.
-fn source_in<'t>(alloc: Global, text: &'t [u8]) -> Result<Source<'t>, Stop>
+fn source_in<'t>(alloc: Global, text: &'t [u8]) -> Result<SourceText<'t>, Stop>
     requires { length text.now ≤ 33_554_432 }
     ensures says { MatchResult result (λ _. ReaderSays Which.Text text.entry.now (accepted (a_text text.entry.now))) (StopsReading Which.Text text.entry.now) }
     ensures read { IfOk result (IsSource text.entry.now) }
@@ -53,13 +53,13 @@ fn source_in<'t>(alloc: Global, text: &'t [u8]) -> Result<Source<'t>, Stop>
 fn rewritten<W: Sink>(
     alloc: Global,
     text: &[u8],
-    source: Source<'_>,
+    source: SourceText<'_>,
     commands: &[Command<'_>],
     out: &mut W,
 ) -> Status
     requires read { IsSource text.now source }
     requires few { length commands.now ≤ 33_554_432 }
-    requires fit { All CommandFits (map plain_command commands.now) }
+    requires fit { All Fits (map plain_command commands.now) }
     ensures ends { Ends (IsBoardWritten text.now (map plain_command commands.now)) (IsTextOfOne (IsBoardWritten text.now (map plain_command commands.now))) (λ _. ⊥) (W.written out.old) (W.written out.new) result }
     ensures fault { result ≡ Status.WriteFault → Rose (W.faults out.old) (W.faults out.new) }
 {

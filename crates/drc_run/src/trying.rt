@@ -18,7 +18,7 @@ ghost use Rattle.drc_run.specs.declared.status.Status.{Status};
 ghost use Rattle.drc_run.specs.declared.turns.Break.{Break};
 ghost use Rattle.drc_run.specs.Turns.{IsTrial, or_some, marked_lines};
 ghost use Rattle.drc_run.specs.Output.{AreTrialsTold};
-ghost use Rattle.drc_run.specs.Running.{IsTaken, IsBroken, AreTaken, AreBroken, IsTrialWritten, IsLeastWritten, AreTrialsToldSoFar};
+ghost use Rattle.drc_run.specs.Running.{IsTurnTaken, IsBroken, AreTaken, AreBroken, IsTrialWritten, IsLeastWritten, AreTrialsToldSoFar};
 ghost use Rattle.drc_run.specs.Endings.{Ends, EndsFor, trials_status};
 
 use crate::finish::{after, write_stop};
@@ -142,7 +142,7 @@ fn turn<R: Threads + Sync + AllocGlobal, W: Sink, G: Gate>(
     requires workers { (1 ≤ ground.old.workers) × (ground.old.workers ≤ 8) }
     requires fits { Fits (plain_command command.now) }
     ensures same { (ground.new.desk ≡ ground.old.desk) × (ground.new.workers ≡ ground.old.workers) }
-    ensures taken { IfOk result (λ _. IsTaken (IsTrial ground.old.desk.state) number comes.old (plain_command command.now) comes.new (W.written out.old) (W.written out.new)) }
+    ensures taken { IfOk result (λ _. IsTurnTaken (IsTrial ground.old.desk.state) number comes.old (plain_command command.now) comes.new (W.written out.old) (W.written out.new)) }
     ensures broken { IfErr result (λ _. Keeps (W.written out.old) (W.written out.new) ⊎ IsBroken (IsTrial ground.old.desk.state) number comes.old (plain_command command.now) (W.written out.old) (W.written out.new)) }
     ensures fault { result ≡ Err Break.Unwritten → Rose (W.faults out.old) (W.faults out.new) }
     ensures later { W.faults out.old ≤ W.faults out.new }

@@ -7,7 +7,7 @@ ghost use Rattle.edit_script.specs.Commands.{plain_command};
 ghost use Rattle.edit_script.specs.Fits.{Fits};
 ghost use Rattle.drc_run.specs.declared.turns.Break.{Break};
 ghost use Rattle.drc_run.specs.Turns.{IsTurn};
-ghost use Rattle.drc_run.specs.Running.{IsEditAnswered, IsTaken, IsBroken, AreTaken, AreBroken};
+ghost use Rattle.drc_run.specs.Running.{IsEditAnswered, IsTurnTaken, IsBroken, AreTaken, AreBroken};
 
 use crate::lines::write_refused;
 use crate::reporting::write_report;
@@ -81,7 +81,7 @@ fn turn<R: Threads + Sync + AllocGlobal, W: Sink, G: Gate>(
     requires workers { (1 ≤ way.workers) × (way.workers ≤ 64) }
     requires running { session.old.stopped ≡ false }
     requires fits { Fits (plain_command command.now) }
-    ensures taken { IfOk result (λ _. IsTaken (IsTurn way.short) number session.old.state (plain_command command.now) session.new.state (W.written out.old) (W.written out.new)) }
+    ensures taken { IfOk result (λ _. IsTurnTaken (IsTurn way.short) number session.old.state (plain_command command.now) session.new.state (W.written out.old) (W.written out.new)) }
     ensures running { IfOk result (λ _. session.new.stopped ≡ false) }
     ensures broken { IfErr result (λ _. Keeps (W.written out.old) (W.written out.new) ⊎ IsBroken (IsTurn way.short) number session.old.state (plain_command command.now) (W.written out.old) (W.written out.new)) }
     ensures fault { result ≡ Err Break.Unwritten → Rose (W.faults out.old) (W.faults out.new) }

@@ -13,7 +13,7 @@ use Rattle.rule_pick.specs.Reach.{IsReach}
 use Rattle.box_index.specs.Tiles.{PlainIndex}
 use Rattle.board_index.specs.Holding.{IsIndexOfItems}
 use Rattle.row_check.specs.Tiles.{IsIndexOf}
-use Rattle.net_groups.specs.NetParts.{NetPart, AreParts}
+use Rattle.net_groups.specs.NetParts.{PlainNetPart, AreParts}
 use Rattle.kept_facts.specs.Kept.{AreMarksBefore, AreChanged}
 use Rattle.board_edits.specs.Touched.{AreEdited, AreKnown}
 use Rattle.drc_state.specs.States.{checked_in}
@@ -40,10 +40,10 @@ module _ (old : Parts) (kept : IsKept old) (board : PlainBoard) (ids lent : List
       let lent_marks = subst (λ (m : List (Option Item)). AreMarksBefore old.board lent m) (sym e) (subst (λ (k : List ℕ). AreMarksBefore old.board k marks) (sym same) before) in
       subst (λ (k : List ℕ). HasFacts board old.classes facts × AreChanged old.board board old.classes k old.facts facts changed) same (law old.board edit_of_lent lent_marks kept.facts)
 
-  pub nets_anew : (before after : List NetPart) → before ≡ old.nets.items → (touched : List ℕ) → HasNetsOf old.board ids touched
+  pub nets_anew : (before after : List PlainNetPart) → before ≡ old.nets.items → (touched : List ℕ) → HasNetsOf old.board ids touched
       → ((was : PlainBoard) → IsEdit was board lent → HasNetsOf was lent touched → AreParts was before → AreParts board after) → AreParts board after
   nets_anew before after e touched has law =
-      law old.board edit_of_lent (subst (λ (k : List ℕ). HasNetsOf old.board k touched) (sym same) has) (subst (λ (n : List NetPart). AreParts old.board n) (sym e) kept.nets)
+      law old.board edit_of_lent (subst (λ (k : List ℕ). HasNetsOf old.board k touched) (sym same) has) (subst (λ (n : List PlainNetPart). AreParts old.board n) (sym e) kept.nets)
 
   pub items_anew : (index : PlainIndex) → ((was : PlainBoard) → IsEdit was board lent → IsIndexOfItems was old.index → IsIndexOfItems board index) → IsIndexOfItems board index
   items_anew index law = law old.board edit_of_lent kept.index.items

@@ -13,11 +13,11 @@ use Rattle.box_index.specs.Tiles.{PlainIndex}
 use Rattle.pair_check.specs.PlainRow.{PlainRow}
 use Rattle.pair_check.specs.Rows.{AreRows}
 use Rattle.row_check.specs.Tiles.{IsIndexOf}
-use Rattle.net_groups.specs.NetParts.{NetPart, AreParts}
+use Rattle.net_groups.specs.NetParts.{PlainNetPart, AreParts}
 use Rattle.drc_session.specs.declared.parts.Parts.{Parts}
 use Rattle.drc_session.specs.Holding.{IsKept}
 
-record IsWholeOf (board : PlainBoard) (classes : PlainClasses) (rules : PlainRules) (facts : List (Option Facts)) (reach : ℤ) (index : PlainIndex) (rows : List PlainRow) (nets : List NetPart) : Type 0 where
+record IsWholeOf (board : PlainBoard) (classes : PlainClasses) (rules : PlainRules) (facts : List (Option Facts)) (reach : ℤ) (index : PlainIndex) (rows : List PlainRow) (nets : List PlainNetPart) : Type 0 where
   facts_are : HasFacts board classes facts
   index_is : IsIndexOf (record { board = board; classes = classes; rules = rules.rules }) index
   reach_is : reach ≡ index.reach
@@ -47,4 +47,4 @@ module _ (old new : Parts) (board : new.board ≡ old.board) (classes : new.clas
       let f = subst (λ (x : ℤ). IsWholeOf new.board new.classes (plain_rules new.rules) new.facts x old.index old.rows.items old.nets.items) (sym reach) e in
       let g = subst (λ (x : PlainIndex). IsWholeOf new.board new.classes (plain_rules new.rules) new.facts new.reach x old.rows.items old.nets.items) (sym index) f in
       let h = subst (λ (x : List PlainRow). IsWholeOf new.board new.classes (plain_rules new.rules) new.facts new.reach new.index x old.nets.items) (sym rows) g in
-      kept_of new (subst (λ (x : List NetPart). IsWholeOf new.board new.classes (plain_rules new.rules) new.facts new.reach new.index new.rows.items x) (sym nets) h)
+      kept_of new (subst (λ (x : List PlainNetPart). IsWholeOf new.board new.classes (plain_rules new.rules) new.facts new.reach new.index new.rows.items x) (sym nets) h)

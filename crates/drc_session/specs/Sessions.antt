@@ -5,7 +5,7 @@ use Rattle.claim_board.specs.Views.{dealt_tiles, dealt_seats}
 use Rattle.edit_script.specs.Commands.{PlainCommand}
 use Rattle.pair_check.specs.PlainRow.{PlainRow}
 use Rattle.pair_check.specs.Rows.{AreRows}
-use Rattle.net_groups.specs.NetParts.{NetPart, AreParts}
+use Rattle.net_groups.specs.NetParts.{PlainNetPart, AreParts}
 use Rattle.drc_state.specs.declared.error.EditError.{EditError}
 use Rattle.drc_state.specs.declared.error.EditError.TheVariants.{Stopped, OutOfMemory}
 use Rattle.drc_state.specs.States.{State, checked_in}
@@ -17,7 +17,7 @@ use Rattle.drc_session.specs.declared.applied.Applied.{Applied}
 pub record PlainSession : Type 0 where
   pub state : State
   pub rows : List PlainRow
-  pub nets : List NetPart
+  pub nets : List PlainNetPart
   pub stopped : Bool
 
 -- the rows and the nets are those of the state

@@ -5,7 +5,7 @@ ghost use Rattle.std.specs.List.Sorted.{IsStrictlyIncreasing};
 ghost use Rattle.geo_seg.specs.declared.boxes.Bounds.{Bounds};
 ghost use Rattle.geo_seg.specs.Boxes.{FitsWithin};
 ghost use Rattle.box_index.specs.Tiles.{dirty_of, held_of};
-ghost use Rattle.pair_check.specs.Views.{checked_by, IsWhole};
+ghost use Rattle.pair_check.specs.Views.{checked_by, IsWholeView};
 ghost use Rattle.pair_check.specs.Rows.{Checked, AreRows};
 ghost use Rattle.row_check.specs.Tiles.{IsIndexOf};
 ghost use Rattle.row_check.specs.Whole.{AreEnough};
@@ -32,7 +32,7 @@ pub(crate) fn check_all<R: Threads + Sync, G: Gate>(
     gate: &G,
 ) -> Result<(Vec<Row>, Applied), AllocError>
     requires workers { (0 < workers) × (workers ≤ 64) }
-    requires view { IsWhole view }
+    requires view { IsWholeView view }
     requires index { IsIndexOf (checked_by view) index.now }
     ensures rows { IfOk result (λ r. AreRows (checked_by view.entry) r.0.items) }
     ensures dealt { IfOk result (λ r. IsDealt workers r.1) }
@@ -68,7 +68,7 @@ pub(crate) fn check_near<R: Threads + Sync, G: Gate>(
     gate: &G,
 ) -> Result<Applied, AllocError>
     requires workers { (0 < workers) × (workers ≤ 64) }
-    requires view { IsWhole near.view }
+    requires view { IsWholeView near.view }
     requires index { IsIndexOf (checked_by near.view) near.index.now }
     requires changed { IsStrictlyIncreasing near.changed.now }
     requires boxes { All (FitsWithin (pos 2000000000)) near.boxes.now }

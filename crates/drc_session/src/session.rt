@@ -2,7 +2,7 @@
 
 ghost use Rattle.std.specs.Prelude.{◌≡◌, false};
 ghost use Rattle.rule_text.specs.Views.{plain_rules};
-ghost use Rattle.pair_check.specs.Views.{checked_by, IsWhole};
+ghost use Rattle.pair_check.specs.Views.{checked_by, IsWholeView};
 ghost use Rattle.pair_check.specs.Rows.{AreRows};
 ghost use Rattle.net_groups.specs.NetParts.{AreParts};
 ghost use Rattle.drc_state.specs.States.{checked_in};
@@ -81,7 +81,7 @@ impl Session {
     /// What is checked: the board, the facts of its items, the rules and the classes.
     pub fn view(&self) -> CheckView<'_>
         requires { self.now.stopped ≡ false }
-        ensures whole { IsWhole result }
+        ensures whole { IsWholeView result }
         ensures checked { checked_by result ≡ checked_in self.now.state }
     {
         CheckView {

@@ -4,7 +4,7 @@ use Rattle.board_items.specs.Back.{kept_entry}
 use Rattle.rule_text.specs.RulesOf.{PlainRules}
 use Rattle.rule_text.specs.Views.{plain_rules}
 use Rattle.board_edits.specs.Deeds.{PlainDeed, nothing, put_back, take_out, shift, After}
-use Rattle.board_edits.specs.Fitting.{plain_deed, DeedFits, returned as board_returned}
+use Rattle.board_edits.specs.Fitting.{plain_deed, DeedFits, returned_board}
 use Rattle.drc_state.specs.declared.change.Change.{Change}
 use Rattle.drc_state.specs.declared.change.Change.TheVariants.{Nothing, PutBack, TakeOut, Shift, Replace}
 use Rattle.drc_state.specs.declared.change.Edit.{Edit}
@@ -48,7 +48,7 @@ ChangeFits s (replace rules) = length rules.rules < 4294967295
 
 -- a state that comes back goes on with the numbers of the present, so that none is given twice
 abbrev pub returned : State → State → State
-returned s now = with_board s (board_returned s.board now.board)
+returned s now = with_board s (returned_board s.board now.board)
 
 -- made of the new state, it gives the old one, but for the numbers that come next
 pub record LeadsBack (back : PlainChange) (new old : State) : Type 0 where

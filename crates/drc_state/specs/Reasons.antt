@@ -3,7 +3,7 @@ use Rattle.std.specs.Prelude.{ℕ, List, Option, None, codes}
 use Rattle.plain_types.specs.Reasons.{PlainReason, reason_alone, reason_behind, written}
 pub use Rattle.board_errors.specs.Reasons.{reason_in_one}
 use Rattle.board_errors.specs.Reasons.{board_reason_in}
-use Rattle.rule_text.specs.Reasons.{reason_in as rules_reason_in, inner_place_of as rules_inner_place_of}
+use Rattle.rule_text.specs.Reasons.{rules_reason_in, rules_inner_place_of}
 use Rattle.drc_state.specs.declared.error.EditError.{EditError}
 use Rattle.drc_state.specs.declared.error.EditError.TheVariants.{NoSuchItem, SharedName, PartOfFootprint, Item, Rules, Stopped, OutOfMemory}
 

@@ -15,7 +15,7 @@ use Rattle.list_read.specs.Texts.{Behind}
 use Rattle.edit_script.specs.Forms.{bad}
 use Rattle.edit_script.specs.CommandsOf.{is_turn, bad_behind, alone, command_of, step_of, commands_of, steps_of}
 use Rattle.edit_script.specs.Grammar.{IsCommand, IsStep, edits}
-use Rattle.edit_script.specs.ScriptText.{Says, SaysSteps}
+use Rattle.edit_script.specs.ScriptText.{ScriptSays, SaysSteps}
 use Rattle.edit_script.proofs.Accepting.{form_of, head_of, commands_accepted, steps_accepted}
 
 -- the step of any other form is its command
@@ -100,7 +100,7 @@ alike_after text none None answer = (
   λ h. (h.0, h.1, apart answer (each_of (command_of text) (parts h.0)) (h.2 ∙ steps_are text (parts h.0) (none h.0 h.1))),
 )
 
-pub alike : (text : List ℕ) → ((tree : Tree) → SpellsAll text tree → NoTurns (parts tree)) → (answer : Result (List PlainCommand) ScriptError) → Says text answer ↔ SaysSteps text (as_steps answer)
+pub alike : (text : List ℕ) → ((tree : Tree) → SpellsAll text tree → NoTurns (parts tree)) → (answer : Result (List PlainCommand) ScriptError) → ScriptSays text answer ↔ SaysSteps text (as_steps answer)
 alike text none answer = alike_after text none (refusal_of_all text) answer
 
 -- ---- commands that are accepted are so as steps
@@ -127,7 +127,7 @@ accepted_after text None cs = (
   λ h. (h.0, h.1, sym ((commands_accepted text h.0 cs).1 (from_edits text (parts h.0) cs ((steps_accepted text h.0 (map (λ command. edit command) cs)).0 (sym h.2))))),
 )
 
-pub accepted : (text : List ℕ) (cs : List PlainCommand) → Says text (Ok cs) ↔ SaysSteps text (Ok (map (λ command. edit command) cs))
+pub accepted : (text : List ℕ) (cs : List PlainCommand) → ScriptSays text (Ok cs) ↔ SaysSteps text (Ok (map (λ command. edit command) cs))
 accepted text cs = accepted_after text (refusal_of_all text) cs
 
 -- ---- the first form that is no command because only a history has it

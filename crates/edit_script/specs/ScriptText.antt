@@ -7,8 +7,8 @@ use Rattle.edit_script.specs.Commands.{PlainCommand, PlainStep}
 use Rattle.edit_script.specs.CommandsOf.{commands_of, steps_of}
 
 -- the text of a script says this: commands, or a refusal
-abbrev pub Says : List ℕ → Result (List PlainCommand) ScriptError → Type 0
-Says text answer = OfForms Text (λ tree told. told ≡ commands_of text tree) text answer
+abbrev pub ScriptSays : List ℕ → Result (List PlainCommand) ScriptError → Type 0
+ScriptSays text answer = OfForms Text (λ tree told. told ≡ commands_of text tree) text answer
 
 -- the same of a script with steps
 abbrev pub SaysSteps : List ℕ → Result (List PlainStep) ScriptError → Type 0

@@ -21,7 +21,7 @@ pub enum ScriptError {
 impl ScriptError {
     ghost use Rattle.std.specs.Prelude.{◌≡◌};
     ghost use Rattle.plain_types.specs.Reasons.{plain_reason};
-    ghost use Rattle.edit_script.specs.Reasons.{reason_in, name_of, code_of, place_of};
+    ghost use Rattle.edit_script.specs.Reasons.{reason_in, name_of, code_of, script_place_of};
 
     fn reason(&self) -> Reason
         ensures { plain_reason result ≡ reason_in self.now }
@@ -49,7 +49,7 @@ impl ScriptError {
 
     /// Its byte of the text, at most 33,554,432. Want of memory has no place.
     pub fn place(&self) -> Option<u32>
-        ensures { result ≡ place_of self.now }
+        ensures { result ≡ script_place_of self.now }
     {
         self.reason().place
     }
@@ -79,9 +79,9 @@ impl<T: Drop> From<AllocFailed<T>> for ScriptError {
 
 impl fmt::Display for ScriptError {
     ghost use Rattle.std.specs.Prelude.{Some};
-    ghost use Rattle.edit_script.specs.Reasons.{reason_of};
+    ghost use Rattle.edit_script.specs.Reasons.{script_reason_of};
 
-    ghost output = { λ e. Some (reason_of e) };
+    ghost output = { λ e. Some (script_reason_of e) };
 
     fn fmt<W: fmt::Write>(&self, f: &mut fmt::Formatter<W>) -> fmt::Result {
         let name = self.name();

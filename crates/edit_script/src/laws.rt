@@ -9,13 +9,13 @@ ghost use Rattle.sexpr_read.specs.Spelling.{SpellsAll};
 ghost use Rattle.edit_script.specs.Commands.{PlainCommand, PlainStep, edit, as_steps};
 ghost use Rattle.edit_script.specs.CommandsOf.{is_turn, bad_behind, step_of, commands_of, steps_of};
 ghost use Rattle.edit_script.specs.Grammar.{IsCommand, IsStep};
-ghost use Rattle.edit_script.specs.ScriptText.{Says, SaysSteps};
+ghost use Rattle.edit_script.specs.ScriptText.{ScriptSays, SaysSteps};
 
 use sexpr_read::laws::one_tree;
 
 /// No text says two things.
 pub fn one_reading()
-    ensures commands { (text : List ℕ) (a b : Result (List PlainCommand) ScriptError) → Says text a → Says text b → a ≡ b }
+    ensures commands { (text : List ℕ) (a b : Result (List PlainCommand) ScriptError) → ScriptSays text a → ScriptSays text b → a ≡ b }
     ensures steps { (text : List ℕ) (a b : Result (List PlainStep) ScriptError) → SaysSteps text a → SaysSteps text b → a ≡ b }
 {
     one_tree();
@@ -31,7 +31,7 @@ pub fn accepted_forms()
 /// same to both readers, a refusal too; what is accepted as commands is accepted as the steps that carry them out, and the other way; and
 /// where a form begins with one of the words, the first such form is bad among commands, unless a form before it is refused.
 pub fn steps_and_commands()
-    ensures alike { (text : List ℕ) → ((tree : Tree) → SpellsAll text tree → All (λ form. is_turn form ≡ false) (parts tree)) → (answer : Result (List PlainCommand) ScriptError) → Says text answer ↔ SaysSteps text (as_steps answer) }
-    ensures accepted { (text : List ℕ) (commands : List PlainCommand) → Says text (Ok commands) ↔ SaysSteps text (Ok (map (λ command. edit command) commands)) }
+    ensures alike { (text : List ℕ) → ((tree : Tree) → SpellsAll text tree → All (λ form. is_turn form ≡ false) (parts tree)) → (answer : Result (List PlainCommand) ScriptError) → ScriptSays text answer ↔ SaysSteps text (as_steps answer) }
+    ensures accepted { (text : List ℕ) (commands : List PlainCommand) → ScriptSays text (Ok commands) ↔ SaysSteps text (Ok (map (λ command. edit command) commands)) }
     ensures turned { (script : List ℕ) (root : Tree) (front rest : List Tree) (turn : Tree) → parts root ≡ front ++ turn ∷ rest → All (λ form. is_turn form ≡ false) front → is_turn turn ≡ true → commands_of script root ≡ bad_behind turn (each_of (step_of script) front) }
 {}

@@ -8,7 +8,7 @@ ghost use Rattle.std.specs.Prelude.{◌≡◌, ◌≤◌, ◌⊎◌, ℕ, List, 
 ghost use Rattle.edit_script.specs.declared.error.ScriptError.{ScriptError};
 ghost use Rattle.edit_script.specs.Commands.{PlainCommand, PlainStep, plain_command, plain_step};
 ghost use Rattle.edit_script.specs.Fits.{Fits, StepFits, added_by, added_by_step};
-ghost use Rattle.edit_script.specs.ScriptText.{Says, SaysSteps};
+ghost use Rattle.edit_script.specs.ScriptText.{ScriptSays, SaysSteps};
 
 mod command;
 mod error;
@@ -30,8 +30,8 @@ use std::alloc::Global;
 #[tactic(auto, unfolding(crate::specs::CommandsOf::commands_of))]
 pub fn read_script<'t>(alloc: Global, text: &'t [u8]) -> Result<Vec<Command<'t>>, ScriptError>
     requires { length text.now ≤ 33_554_432 }
-    ensures says { MatchResult result (λ commands. Says text.entry.now (Ok (map plain_command commands.items))) (λ e. (e ≡ ScriptError.OutOfMemory) ⊎ Says text.entry.now (Err e)) }
-    ensures only { (answer : Result (List PlainCommand) ScriptError) → Says text.entry.now answer → MatchResult result (λ commands. answer ≡ Ok (map plain_command commands.items)) (λ e. (e ≡ ScriptError.OutOfMemory) ⊎ (answer ≡ Err e)) }
+    ensures says { MatchResult result (λ commands. ScriptSays text.entry.now (Ok (map plain_command commands.items))) (λ e. (e ≡ ScriptError.OutOfMemory) ⊎ ScriptSays text.entry.now (Err e)) }
+    ensures only { (answer : Result (List PlainCommand) ScriptError) → ScriptSays text.entry.now answer → MatchResult result (λ commands. answer ≡ Ok (map plain_command commands.items)) (λ e. (e ≡ ScriptError.OutOfMemory) ⊎ (answer ≡ Err e)) }
     ensures fit { IfOk result (λ commands. All Fits (map plain_command commands.items)) }
     ensures together { IfOk result (λ commands. sum_by added_by (map plain_command commands.items) ≤ length text.entry.now) }
 {

@@ -5,7 +5,7 @@ use Rattle.std.proofs.lemmas.Bool.{and_parts, eqb-true, ltb-true, lt-ltb, ne_eqb
 use Rattle.std.proofs.lemmas.List.{append_assoc, append-nil, length-append}
 use Rattle.std.specs.Char.{is_ascii_digit}
 use Rattle.std.specs.Str.{all_ascii_digits}
-use Rattle.exact_dec.specs.Decimal.{Parts, IsDigits, IsSign, unsigned, plus, minus, IsMantissa, no_point, point_last, point_inside, point_first, IsPower, no_power, power, Spells}
+use Rattle.exact_dec.specs.Decimal.{Spelling, IsDigits, IsSign, unsigned, plus, minus, IsMantissa, no_point, point_last, point_inside, point_first, IsPower, no_power, power, Spells}
 use Rattle.exact_dec.specs.Computed.{has_minus, after_sign, front_digits, after_digits, point_digits, after_point, is_digits, power_of, with_power, parts_of}
 use Rattle.exact_dec.specs.Spelled.{HasDigits}
 use Rattle.exact_dec.proofs.Digits.{digit_at}
@@ -22,10 +22,10 @@ point_are_digits [] = refl
 point_are_digits (c ∷ cs) = elim (c == 46) as (λ b. all_ascii_digits (cond b (front_digits cs) []) ≡ true) [ true ↦ front_are_digits cs | false ↦ refl ]
 
 -- what `with_power` put together
-abbrev pub parts_from : Bool → List ℕ → List ℕ → Bool × List ℕ → Parts
+abbrev pub parts_from : Bool → List ℕ → List ℕ → Bool × List ℕ → Spelling
 parts_from negative whole fraction q = record { negative = negative; whole = whole; fraction = fraction; lowers = q.0; exponent = q.1 }
 
-with_power_some : (negative : Bool) (w f : List ℕ) (o : Option (Bool × List ℕ)) (p : Parts) → with_power negative w f o ≡ Some p → (q : Bool × List ℕ) × (o ≡ Some q) × (nat_lt 0 (length (w ++ f)) ≡ true) × (parts_from negative w f q ≡ p)
+with_power_some : (negative : Bool) (w f : List ℕ) (o : Option (Bool × List ℕ)) (p : Spelling) → with_power negative w f o ≡ Some p → (q : Bool × List ℕ) × (o ≡ Some q) × (nat_lt 0 (length (w ++ f)) ≡ true) × (parts_from negative w f q ≡ p)
 with_power_some negative w f None p h = cc
 with_power_some negative w f (Some q) p h =
     elim (nat_lt 0 (length (w ++ f))) as (λ b. nat_lt 0 (length (w ++ f)) ≡ b → cond b (Some (parts_from negative w f q)) None ≡ Some p → (r : Bool × List ℕ) × (Some q ≡ Some r) × (nat_lt 0 (length (w ++ f)) ≡ true) × (parts_from negative w f r ≡ p))
@@ -38,7 +38,7 @@ power_digits (c ∷ cs) q h =
     elim (((c == 101) || (c == 69)) && is_digits (after_sign cs)) as (λ b. (((c == 101) || (c == 69)) && is_digits (after_sign cs)) ≡ b → cond b (Some (has_minus cs, after_sign cs)) None ≡ Some q → all_ascii_digits q.1 ≡ true)
     [ true ↦ λ e k. subst (λ (x : Bool × List ℕ). all_ascii_digits x.1 ≡ true) (some_same (has_minus cs, after_sign cs) q k) (and_parts _ _ (and_parts _ _ e).1).0 | false ↦ λ e k. cc ] refl h
 
-pub parts_digits : (text : List ℕ) (p : Parts) → parts_of text ≡ Some p → HasDigits p
+pub parts_digits : (text : List ℕ) (p : Spelling) → parts_of text ≡ Some p → HasDigits p
 unfolding parts_of
 parts_digits text p h =
     let body = after_sign text in
@@ -112,7 +112,7 @@ power_is (c ∷ cs) q h =
       | false ↦ λ e k. cc
     ] refl h
 
-pub spells : (text : List ℕ) (p : Parts) → parts_of text ≡ Some p → Spells text p
+pub spells : (text : List ℕ) (p : Spelling) → parts_of text ≡ Some p → Spells text p
 unfolding parts_of
 spells text p h =
     let body = after_sign text in
@@ -215,7 +215,7 @@ mantissa_some m w f (point_last e d z) = lt-ltb 0 (length (w ++ f)) (omega (arit
 mantissa_some m w f (point_inside e d z) = lt-ltb 0 (length (w ++ f)) (omega (arith, length-append w f, d.1))
 mantissa_some m w f (point_first e d z) = lt-ltb 0 (length (w ++ f)) (omega (arith, length-append w f, z.1))
 
-pub spelled_once : (text : List ℕ) (p : Parts) → Spells text p → parts_of text ≡ Some p
+pub spelled_once : (text : List ℕ) (p : Spelling) → Spells text p → parts_of text ≡ Some p
 unfolding parts_of
 spelled_once text p h =
     let body = h.mantissa ++ h.power in
@@ -231,5 +231,5 @@ spelled_once text p h =
     ∙ ap (λ b. cond b (Some p) None) (mantissa_some h.mantissa p.whole p.fraction h.is_mantissa))))
 
 -- a text spells one decimal at most
-pub one_spelling : (text : List ℕ) (p q : Parts) → Spells text p → Spells text q → p ≡ q
+pub one_spelling : (text : List ℕ) (p q : Spelling) → Spells text p → Spells text q → p ≡ q
 one_spelling text p q a b = some_same p q (sym (spelled_once text p a) ∙ spelled_once text q b)

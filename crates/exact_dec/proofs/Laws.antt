@@ -4,7 +4,7 @@ use Rattle.std.specs.Cmp.Derive.{both_true}
 use Rattle.std.proofs.lemmas.Bool.{and_parts, leb-true, le-leb}
 use Rattle.exact_dec.specs.declared.DecError.{DecError}
 use Rattle.exact_dec.specs.declared.DecError.TheVariants.{BadNumber, TooWide}
-use Rattle.exact_dec.specs.Decimal.{Parts, Fraction, value, times, cut, number, IsNear}
+use Rattle.exact_dec.specs.Decimal.{Spelling, Fraction, value, times, cut, number, IsNear}
 use Rattle.exact_dec.specs.Computed.{near, is_digits, parts_of, answer_of, mm_cut_answer, mm_near_answer, ratio_near_answer, count_answer}
 use Rattle.exact_dec.specs.Reading.{Reads, within, too_wide, bad_number, Gives, IsCut, IsPlain, plain, is_long, is_far, is_no_half, no_more, MmCut, MmNear, RatioNear, CountGives, Count}
 use Rattle.exact_dec.proofs.Answering.{bottom_some}
@@ -31,12 +31,12 @@ reads_law G one a h r = (λ e. subst (Reads G) e h, λ k. reads_once G one h k)
 
 -- ---- numbers with a scale
 
-module _ (text : List ℕ) (unit : ℤ) (o : Option Parts) (Form : Parts → ℤ → Type 0) (Rounded : Fraction → ℤ → Type 0) (rounded : Fraction → ℤ) (beyond : Fraction → Bool)
-    (to : (p : Parts) → o ≡ Some p → Form p unit)
-    (from : (p : Parts) (k : ℤ) → Form p k → (o ≡ Some p) × (k ≡ unit))
-    (rounds : (p : Parts) → Rounded (times unit (value p)) (rounded (times unit (value p))))
+module _ (text : List ℕ) (unit : ℤ) (o : Option Spelling) (Form : Spelling → ℤ → Type 0) (Rounded : Fraction → ℤ → Type 0) (rounded : Fraction → ℤ) (beyond : Fraction → Bool)
+    (to : (p : Spelling) → o ≡ Some p → Form p unit)
+    (from : (p : Spelling) (k : ℤ) → Form p k → (o ≡ Some p) × (k ≡ unit))
+    (rounds : (p : Spelling) → Rounded (times unit (value p)) (rounded (times unit (value p))))
     (once : (f : Fraction) (n m : ℤ) → Rounded f n → Rounded f m → n ≡ m) where
-  abbrev limits_of : Parts → ℤ → Bool
+  abbrev limits_of : Spelling → ℤ → Bool
   limits_of p n = is_long text p || (is_far n || beyond (value p))
 
   gives_one : GivesOne (Gives text Form Rounded beyond)
@@ -49,7 +49,7 @@ module _ (text : List ℕ) (unit : ℤ) (o : Option Parts) (Form : Parts → ℤ
       let number : n ≡ m = once (times h.unit (value h.parts)) n m first h.rounded in
       (number, g.limits ∙ (ap (λ p. limits_of p n) same ∙ (ap (λ z. limits_of h.parts z) number ∙ sym h.limits)))
 
-  answered : (x : Option Parts) → o ≡ x → Reads (Gives text Form Rounded beyond) (answer_of text unit rounded beyond x)
+  answered : (x : Option Spelling) → o ≡ x → Reads (Gives text Form Rounded beyond) (answer_of text unit rounded beyond x)
   answered None e = bad_number (λ n over g. let k : None ≡ Some g.parts = sym e ∙ (from g.parts g.unit g.form).0 in cc)
   answered (Some p) e =
       let n = rounded (times unit (value p)) in
@@ -61,16 +61,16 @@ module _ (text : List ℕ) (unit : ℤ) (o : Option Parts) (Form : Parts → ℤ
   pub answer_law : (r : Result ℤ DecError) → (answer_of text unit rounded beyond o ≡ r) ↔ Reads (Gives text Form Rounded beyond) r
   answer_law r = reads_law (Gives text Form Rounded beyond) gives_one (answer_of text unit rounded beyond o) (answered o refl) r
 
-plain_to : (text : List ℕ) (unit : ℤ) (p : Parts) → parts_of text ≡ Some p → IsPlain text unit p unit
+plain_to : (text : List ℕ) (unit : ℤ) (p : Spelling) → parts_of text ≡ Some p → IsPlain text unit p unit
 plain_to text unit p e = plain p (spells text p e)
 
-plain_from : (text : List ℕ) (unit : ℤ) (p : Parts) (k : ℤ) → IsPlain text unit p k → (parts_of text ≡ Some p) × (k ≡ unit)
+plain_from : (text : List ℕ) (unit : ℤ) (p : Spelling) (k : ℤ) → IsPlain text unit p k → (parts_of text ≡ Some p) × (k ≡ unit)
 plain_from text unit _ _ (plain p h) = (spelled_once text p h, refl)
 
 cut_once : (f : Fraction) (n m : ℤ) → IsCut f n → IsCut f m → n ≡ m
 cut_once f n m a b = a ∙ sym b
 
-pub near_rounds : (unit : ℤ) (p : Parts) → IsNear (times unit (value p)) (near (times unit (value p)))
+pub near_rounds : (unit : ℤ) (p : Spelling) → IsNear (times unit (value p)) (near (times unit (value p)))
 near_rounds unit p = near_is (times unit (value p)) (bottom_some p)
 
 -- the same of an answer that is known to be the function's

@@ -10,7 +10,7 @@ use Rattle.std.proofs.lemmas.Str.Parse.{IsNumeralModel, numerals_by_weight, tell
 use Rattle.std.specs.Char.{is_ascii_digit}
 use Rattle.std.specs.Str.{all_ascii_digits}
 use Rattle.exact_dec.specs.declared.DecError.{DecError}
-use Rattle.exact_dec.specs.Decimal.{Parts, Spells, IsSign, unsigned, minus, point_inside, no_power, number, signed, cut}
+use Rattle.exact_dec.specs.Decimal.{Spelling, Spells, IsSign, unsigned, minus, point_inside, no_power, number, signed, cut}
 use Rattle.exact_dec.specs.Computed.{answer_of, mm_cut_answer}
 use Rattle.exact_dec.specs.Reading.{is_long, no_more}
 use Rattle.exact_dec.specs.Spelled.{IsQuotient, top, bottom}
@@ -45,7 +45,7 @@ signed_is : (z : ℤ) → signed (is_below z) (unsigned_abs z) ≡ z
 signed_is (pos n) = refl
 signed_is (negsuc n) = refl
 
-abbrev pub parts_written : ℤ → Parts
+abbrev pub parts_written : ℤ → Spelling
 parts_written z = record { negative = is_below z; whole = decimal (unsigned_abs z / 1000000); fraction = six_digits (unsigned_abs z % 1000000); lowers = false; exponent = [] }
 
 spells_written : (z : ℤ) → unsigned_abs z ≤ 1000000000000 → Spells (mm_text z) (parts_written z)

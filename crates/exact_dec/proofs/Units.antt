@@ -8,7 +8,7 @@ use Rattle.std.proofs.lemmas.Bool.{and_parts, lt-ltb, ne_eqb, eq-eqb}
 use Rattle.std.specs.Cmp.Derive.{both_true}
 use Rattle.std.proofs.lemmas.Bool.Decides.{nat_tests}
 use Rattle.exact_dec.specs.declared.DecError.{DecError}
-use Rattle.exact_dec.specs.Decimal.{Parts, Spells, IsDigits, IsMantissa, no_point, point_last, point_inside, point_first, IsPower, no_power, power, number, signed, raised, IsNear}
+use Rattle.exact_dec.specs.Decimal.{Spelling, Spells, IsDigits, IsMantissa, no_point, point_last, point_inside, point_first, IsPower, no_power, power, number, signed, raised, IsNear}
 use Rattle.exact_dec.specs.Computed.{ends_in, unit_of, before_unit, zero_or_unit, parts_of, answer_of, near, with_unit_answer}
 use Rattle.exact_dec.specs.Reading.{IsUnit, millimetre, mil, inch, HasUnit, with_unit, zero_alone, WithUnit, no_more}
 use Rattle.exact_dec.proofs.Digits.{digit_at, pow10_pos, and_left}
@@ -47,7 +47,7 @@ power_last m e l x some h (no_power is a b) = subst (λ y. last_byte (m ++ y) �
 power_last m e l x some h (power letter s a sign d is) = subst (λ y. last_byte (m ++ y) ≤ 57) (sym is) (append_last m ((letter ∷ s) ++ x) (omega arith) (append_last (letter ∷ s) x d.1 (digits_last x d)))
 
 -- no decimal ends in a letter of a unit
-spelled_last : (text : List ℕ) (p : Parts) → Spells text p → last_byte text ≤ 57
+spelled_last : (text : List ℕ) (p : Spelling) → Spells text p → last_byte text ≤ 57
 spelled_last text p h =
     let m = mantissa_last h.mantissa p.whole p.fraction h.is_mantissa in
     let body : last_byte (h.mantissa ++ h.power) ≤ 57 = power_last h.mantissa h.power p.lowers p.exponent m.0 m.1 h.is_power in
@@ -119,10 +119,10 @@ split_of text =
 
 -- ---- a zero alone
 
-abbrev pub is_bare : ℕ → Parts → Bool
+abbrev pub is_bare : ℕ → Spelling → Bool
 is_bare n p = (n == 0) && nat_lt 0 (number (p.whole ++ p.fraction))
 
-unit_some : (n : ℕ) (o : Option Parts) (p : Parts) → zero_or_unit n o ≡ Some p → (o ≡ Some p) × (is_bare n p ≡ false)
+unit_some : (n : ℕ) (o : Option Spelling) (p : Spelling) → zero_or_unit n o ≡ Some p → (o ≡ Some p) × (is_bare n p ≡ false)
 unit_some n None p h = cc
 unit_some n (Some q) p h =
     elim (is_bare n q) as (λ b. is_bare n q ≡ b → cond b None (Some q) ≡ Some p → (Some q ≡ Some p) × (is_bare n p ≡ false))
@@ -144,7 +144,7 @@ number_zero negative n k h =
     let none : n * 10 ^ k ≡ 0 = sym (abs_signed negative (n * 10 ^ k)) ∙ ap unsigned_abs h in
     omega (arith, le-mul_of_pos_right n (pow10_pos k))
 
-with_unit_to : (text : List ℕ) (p : Parts) → zero_or_unit (unit_of text) (parts_of (before_unit text)) ≡ Some p → HasUnit text p (pos (unit_of text))
+with_unit_to : (text : List ℕ) (p : Spelling) → zero_or_unit (unit_of text) (parts_of (before_unit text)) ≡ Some p → HasUnit text p (pos (unit_of text))
 with_unit_to text p h =
     let found = unit_some (unit_of text) (parts_of (before_unit text)) p h in
     let spelled = spells (before_unit text) p found.0 in
@@ -153,10 +153,10 @@ with_unit_to text p h =
       | inr s ↦ subst (λ k. HasUnit text p (pos k)) (sym s.0) (zero_alone p (subst (λ x. Spells x p) s.1 spelled) (signed_zero p.negative (number (p.whole ++ p.fraction)) (10 ^ raised p.lowers p.exponent) (bare_zero (unit_of text) (number (p.whole ++ p.fraction)) s.0 found.1)))
     ]
 
-unit_given : (n : ℕ) (o : Option Parts) (p : Parts) → o ≡ Some p → (0 < n) ⊎ (number (p.whole ++ p.fraction) ≡ 0) → zero_or_unit n o ≡ Some p
+unit_given : (n : ℕ) (o : Option Spelling) (p : Spelling) → o ≡ Some p → (0 < n) ⊎ (number (p.whole ++ p.fraction) ≡ 0) → zero_or_unit n o ≡ Some p
 unit_given n o p is some = ap (zero_or_unit n) is ∙ ap (λ b. cond b None (Some p)) (not_bare n (number (p.whole ++ p.fraction)) some)
 
-with_unit_from : (text : List ℕ) (p : Parts) (k : ℤ) → HasUnit text p k → (zero_or_unit (unit_of text) (parts_of (before_unit text)) ≡ Some p) × (k ≡ pos (unit_of text))
+with_unit_from : (text : List ℕ) (p : Spelling) (k : ℤ) → HasUnit text p k → (zero_or_unit (unit_of text) (parts_of (before_unit text)) ≡ Some p) × (k ≡ pos (unit_of text))
 with_unit_from text _ _ (with_unit p d u k is spelled unit) =
     let s = split_unit d u k unit in
     let units : unit_of text ≡ s.0 = ap unit_of is ∙ s.3.0 in
@@ -173,11 +173,11 @@ with_unit_law text a e = along a (answer_of text (pos (unit_of text)) near no_mo
 
 -- ---- the answers as the call reaches them
 
-pub no_parts : (text : List ℕ) (unit : ℕ) (o : Option Parts) → o ≡ None → zero_or_unit unit o ≡ None
+pub no_parts : (text : List ℕ) (unit : ℕ) (o : Option Spelling) → o ≡ None → zero_or_unit unit o ≡ None
 no_parts text unit o h = ap (zero_or_unit unit) h
 
-pub bare_parts : (unit : ℕ) (o : Option Parts) (p : Parts) → o ≡ Some p → unit ≡ 0 → 0 < number (p.whole ++ p.fraction) → zero_or_unit unit o ≡ None
+pub bare_parts : (unit : ℕ) (o : Option Spelling) (p : Spelling) → o ≡ Some p → unit ≡ 0 → 0 < number (p.whole ++ p.fraction) → zero_or_unit unit o ≡ None
 bare_parts unit o p is none some = ap (zero_or_unit unit) is ∙ ap (λ b. cond b None (Some p)) (both_true (eq-eqb unit 0 none) (lt-ltb 0 (number (p.whole ++ p.fraction)) some))
 
-pub unit_parts : (n : ℕ) (o : Option Parts) (p : Parts) → o ≡ Some p → (0 < n) ⊎ (number (p.whole ++ p.fraction) ≡ 0) → zero_or_unit n o ≡ Some p
+pub unit_parts : (n : ℕ) (o : Option Spelling) (p : Spelling) → o ≡ Some p → (0 < n) ⊎ (number (p.whole ++ p.fraction) ≡ 0) → zero_or_unit n o ≡ Some p
 unit_parts n o p is some = unit_given n o p is some

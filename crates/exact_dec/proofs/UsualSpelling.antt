@@ -5,7 +5,7 @@ use Rattle.std.proofs.lemmas.Bool.{lt-ltb}
 use Rattle.std.proofs.lemmas.Bool.Decides.{nat_tests}
 use Rattle.std.proofs.lemmas.List.{length-append}
 use Rattle.std.specs.Char.{is_ascii_digit}
-use Rattle.exact_dec.specs.Decimal.{Parts, number}
+use Rattle.exact_dec.specs.Decimal.{Spelling, number}
 use Rattle.exact_dec.specs.Computed.{has_minus, after_sign, front_digits, after_digits, point_digits, after_point, power_of, with_power, parts_of}
 use Rattle.exact_dec.specs.Spelled.{IsShort, top, bottom}
 use Rattle.exact_dec.proofs.Digits.{number-append}
@@ -33,7 +33,7 @@ small_step n c count digit small =
     let tens : 10 ^ (count + 1) ≡ 10 ^ count * 10 = rw add-one (pow-suc 10 count) in
     omega (arith, tens, digit, small)
 
-abbrev pub usual : Bool → List ℕ → List ℕ → Parts
+abbrev pub usual : Bool → List ℕ → List ℕ → Spelling
 usual negative whole fraction = record { negative = negative; whole = whole; fraction = fraction; lowers = false; exponent = [] }
 
 -- digits on one side of the point at least, and nothing behind them

@@ -5,7 +5,7 @@ use Rattle.std.specs.Char.{is_ascii_digit}
 use Rattle.std.specs.Str.{all_ascii_digits}
 use Rattle.exact_dec.specs.declared.DecError.{DecError}
 use Rattle.exact_dec.specs.declared.DecError.TheVariants.{BadNumber, TooWide}
-use Rattle.exact_dec.specs.Decimal.{Parts, Fraction, number, value, times, cut}
+use Rattle.exact_dec.specs.Decimal.{Spelling, Fraction, number, value, times, cut}
 use Rattle.exact_dec.specs.Reading.{is_long, is_far, is_no_half, no_more}
 
 -- ---- the parts of a text
@@ -44,12 +44,12 @@ abbrev pub power_of : List ℕ → Option (Bool × List ℕ)
 power_of [] = Some (false, [])
 power_of (c ∷ cs) = if (((c == 101) || (c == 69)) && is_digits (after_sign cs)) then Some (has_minus cs, after_sign cs) else None
 
-abbrev pub with_power : Bool → List ℕ → List ℕ → Option (Bool × List ℕ) → Option Parts
+abbrev pub with_power : Bool → List ℕ → List ℕ → Option (Bool × List ℕ) → Option Spelling
 with_power negative whole fraction None = None
 with_power negative whole fraction (Some power) =
     if nat_lt 0 (length (whole ++ fraction)) then Some (record { negative = negative; whole = whole; fraction = fraction; lowers = power.0; exponent = power.1 }) else None
 
-unfoldable pub parts_of : List ℕ → Option Parts
+unfoldable pub parts_of : List ℕ → Option Spelling
 parts_of text =
     let body = after_sign text in
     let rest = after_digits body in
@@ -68,7 +68,7 @@ near f = floor ((pos 2 *ℤ f.numerator) +ℤ pos f.denominator) (2 * f.denomina
 
 -- ---- the answers
 
-abbrev pub answer_of : List ℕ → ℤ → (Fraction → ℤ) → (Fraction → Bool) → Option Parts → Result ℤ DecError
+abbrev pub answer_of : List ℕ → ℤ → (Fraction → ℤ) → (Fraction → Bool) → Option Spelling → Result ℤ DecError
 answer_of text unit rounded beyond None = Err BadNumber
 answer_of text unit rounded beyond (Some p) =
     let n = rounded (times unit (value p)) in
@@ -94,7 +94,7 @@ abbrev pub before_unit : List ℕ → List ℕ
 before_unit text = if ends_in text (codes "mm") then take (length text - 2) text else (if ends_in text (codes "mil") then take (length text - 3) text else (if ends_in text (codes "in") then take (length text - 2) text else text))
 
 -- the parts, where a text without a unit has value 0
-abbrev pub zero_or_unit : ℕ → Option Parts → Option Parts
+abbrev pub zero_or_unit : ℕ → Option Spelling → Option Spelling
 zero_or_unit unit None = None
 zero_or_unit unit (Some p) = if (unit == 0) && nat_lt 0 (number (p.whole ++ p.fraction)) then None else Some p
 

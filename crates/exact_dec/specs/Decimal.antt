@@ -5,7 +5,7 @@ use Rattle.std.specs.Prelude.{◌≡◌, ℕ, ◌+◌, ◌-◌, ◌*◌, ◌^◌
 use Rattle.std.specs.Str.{all_ascii_digits}
 
 -- What a decimal spells, taken apart. A part that is not there has no digits.
-pub record Parts : Type 0 where
+pub record Spelling : Type 0 where
   -- the sign is a minus
   pub negative : Bool
   -- the digits before the point
@@ -41,7 +41,7 @@ pub data IsPower (text : List ℕ) (lowers : Bool) (exponent : List ℕ) : Type 
   power : (letter : ℕ) (sign : List ℕ) → (letter ≡ 101) ⊎ (letter ≡ 69) → IsSign sign lowers → IsDigits exponent → text ≡ letter ∷ (sign ++ exponent) → IsPower text lowers exponent
 
 -- the text is a decimal with these parts
-pub record Spells (text : List ℕ) (p : Parts) : Type 0 where
+pub record Spells (text : List ℕ) (p : Spelling) : Type 0 where
   pub sign : List ℕ
   pub mantissa : List ℕ
   pub power : List ℕ
@@ -76,7 +76,7 @@ lowered false exponent = 0
 lowered true exponent = number exponent
 
 -- The exact value: all digits as one number, over a power of ten for each digit after the point, times the power of ten.
-abbrev pub value : Parts → Fraction
+abbrev pub value : Spelling → Fraction
 value p = record {
   numerator = signed p.negative (number (p.whole ++ p.fraction) * 10 ^ raised p.lowers p.exponent);
   denominator = 10 ^ (length p.fraction + lowered p.lowers p.exponent);

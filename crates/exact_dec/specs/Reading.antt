@@ -2,7 +2,7 @@
 use Rattle.std.specs.Prelude.{◌≡◌, ℕ, ◌≤◌, Bool, true, false, ◌||◌, List, ◌++◌, length, codes, ℤ, pos, ◌*ℤ◌, int_lt, unsigned_abs, nat_lt, Result, Ok, Err}
 use Rattle.exact_dec.specs.declared.DecError.{DecError}
 use Rattle.exact_dec.specs.declared.DecError.TheVariants.{BadNumber, TooWide}
-use Rattle.exact_dec.specs.Decimal.{Parts, Spells, IsDigits, Fraction, number, value, times, cut, IsNear}
+use Rattle.exact_dec.specs.Decimal.{Spelling, Spells, IsDigits, Fraction, number, value, times, cut, IsNear}
 
 -- The three answers. `Gives n over` says that the text is in the grammar of the call and stands for n, and whether it
 -- is over a limit. So: the number where it is over none, TooWide where it is over one, BadNumber outside the grammar.
@@ -14,7 +14,7 @@ pub data Reads {A : Type 0} (Gives : A → Bool → Type 0) : Result A DecError 
 -- ---- the limits
 
 -- more than 64 bytes, or more than three digits of the exponent
-abbrev pub is_long : List ℕ → Parts → Bool
+abbrev pub is_long : List ℕ → Spelling → Bool
 is_long text p = nat_lt 64 (length text) || nat_lt 3 (length p.exponent)
 
 -- more than 10^12 nanometres either way
@@ -32,8 +32,8 @@ no_more f = false
 
 -- The text stands for n: it has these parts in this form, where one of them counts `unit` nanometres, and n is the
 -- rounded number of nanometres. It is over a limit where it is long, the rounded number is far, or the fraction is beyond.
-pub record Gives (text : List ℕ) (Form : Parts → ℤ → Type 0) (Rounded : Fraction → ℤ → Type 0) (beyond : Fraction → Bool) (n : ℤ) (over : Bool) : Type 0 where
-  pub parts : Parts
+pub record Gives (text : List ℕ) (Form : Spelling → ℤ → Type 0) (Rounded : Fraction → ℤ → Type 0) (beyond : Fraction → Bool) (n : ℤ) (over : Bool) : Type 0 where
+  pub parts : Spelling
   pub unit : ℤ
   pub form : Form parts unit
   pub rounded : Rounded (times unit (value parts)) n
@@ -43,8 +43,8 @@ abbrev pub IsCut : Fraction → ℤ → Type 0
 IsCut f n = n ≡ cut f
 
 -- a decimal, of which one counts as much as the unit says
-pub data IsPlain (text : List ℕ) (unit : ℤ) : Parts → ℤ → Type 0 where
-  plain : (p : Parts) → Spells text p → IsPlain text unit p unit
+pub data IsPlain (text : List ℕ) (unit : ℤ) : Spelling → ℤ → Type 0 where
+  plain : (p : Spelling) → Spells text p → IsPlain text unit p unit
 
 -- a millimetre, a thousandth of an inch and an inch
 pub data IsUnit : List ℕ → ℤ → Type 0 where
@@ -53,9 +53,9 @@ pub data IsUnit : List ℕ → ℤ → Type 0 where
   inch : IsUnit (codes "in") (pos 25400000)
 
 -- a decimal followed at once by its unit; or a decimal of value 0 alone, of which it doesn't matter what one counts
-pub data HasUnit (text : List ℕ) : Parts → ℤ → Type 0 where
-  with_unit : (p : Parts) (decimal unit : List ℕ) (nanometres : ℤ) → text ≡ decimal ++ unit → Spells decimal p → IsUnit unit nanometres → HasUnit text p nanometres
-  zero_alone : (p : Parts) → Spells text p → (value p).numerator ≡ pos 0 → HasUnit text p (pos 0)
+pub data HasUnit (text : List ℕ) : Spelling → ℤ → Type 0 where
+  with_unit : (p : Spelling) (decimal unit : List ℕ) (nanometres : ℤ) → text ≡ decimal ++ unit → Spells decimal p → IsUnit unit nanometres → HasUnit text p nanometres
+  zero_alone : (p : Spelling) → Spells text p → (value p).numerator ≡ pos 0 → HasUnit text p (pos 0)
 
 -- millimetres, cut toward zero to whole nanometres
 abbrev pub MmCut : List ℕ → Result ℤ DecError → Type 0

@@ -1,25 +1,25 @@
 -- What the code's slices show, and what its division steps keep.
 use Rattle.std.specs.Prelude.{◌≡◌, ℕ, ◌+◌, ◌*◌, ◌/◌, ◌^◌, ◌<◌, Bool, true, false, ◌&&◌, List, ◌++◌, length, Some, ◌==◌, if◌then◌else◌}
 use Rattle.std.specs.Str.{all_ascii_digits}
-use Rattle.exact_dec.specs.declared.parts.Parts.{Parts as Slices}
+use Rattle.exact_dec.specs.declared.parts.DecimalParts.{DecimalParts}
 use Rattle.exact_dec.specs.Computed.{parts_of}
 use Rattle.exact_dec.specs.Reading.{is_long}
-use Rattle.exact_dec.specs.Decimal.{Parts, number, raised, lowered}
+use Rattle.exact_dec.specs.Decimal.{Spelling, number, raised, lowered}
 
-abbrev pub spelled : Slices → Parts
+abbrev pub spelled : DecimalParts → Spelling
 spelled p = record { negative = p.negative; whole = p.whole.now; fraction = p.fraction.now; lowers = p.lowers; exponent = p.exponent.now }
 
 -- each part is digits
-pub record HasDigits (p : Parts) : Type 0 where
+pub record HasDigits (p : Spelling) : Type 0 where
   pub whole : all_ascii_digits p.whole ≡ true
   pub fraction : all_ascii_digits p.fraction ≡ true
   pub exponent : all_ascii_digits p.exponent ≡ true
 
 -- the value without its sign, as a fraction
-abbrev pub top : Parts → ℕ
+abbrev pub top : Spelling → ℕ
 top p = number (p.whole ++ p.fraction) * 10 ^ raised p.lowers p.exponent
 
-abbrev pub bottom : Parts → ℕ
+abbrev pub bottom : Spelling → ℕ
 bottom p = 10 ^ (length p.fraction + lowered p.lowers p.exponent)
 
 -- n divided by d: the whole part, and whether nothing is left
@@ -35,7 +35,7 @@ half negative halves exact = if (negative && exact) then (halves / 2) else ((hal
 
 -- a text of at most 64 bytes spells a decimal that comes to so many whole nanometres, as millimetres and without its sign
 pub record IsShort (text : List ℕ) (negative : Bool) (nanometres : ℕ) : Type 0 where
-  pub parts : Parts
+  pub parts : Spelling
   pub spelt : parts_of text ≡ Some parts
   pub sign : parts.negative ≡ negative
   pub limits : is_long text parts ≡ false

@@ -10,7 +10,7 @@ ghost use Rattle.std.specs.Prelude.{◌≡◌, List, true, not, IsTrue, ◌<◌,
 ghost use Rattle.std.specs.Str.{all_ascii_digits};
 ghost use Rattle.exact_dec.specs.declared.DecError.{DecError};
 ghost use Rattle.exact_dec.specs.Computed.{near, answer_of, mm_cut_answer, mm_near_answer, ratio_near_answer, with_unit_answer, count_answer};
-ghost use Rattle.exact_dec.specs.Decimal.{Parts as Spelling, Spells, number, signed, value, cut as cut_value};
+ghost use Rattle.exact_dec.specs.Decimal.{Spelling, Spells, number, signed, value, cut as cut_value};
 ghost use Rattle.exact_dec.specs.Reading.{is_long as is_long_text, is_no_half, no_more, MmCut, MmNear, RatioNear, WithUnit, Count};
 ghost use Rattle.exact_dec.specs.Spelled.{spelled, HasDigits, top, bottom, half};
 ghost use Rattle.exact_dec.specs.Written.{mm_text};
@@ -22,7 +22,7 @@ mod unit;
 mod written;
 
 use itoa::Buffer;
-use parts::{Parts, is_all_digits, is_zero, take_apart};
+use parts::{DecimalParts, is_all_digits, is_zero, take_apart};
 use scale::{Quotient, scaled};
 use short::short;
 use std::error::Error;
@@ -164,7 +164,7 @@ pub fn read_back()
 {}
 
 /// Whether the text is longer than 64 bytes, or its exponent than three digits.
-fn is_long(text: &[u8], parts: &Parts<'_>) -> bool
+fn is_long(text: &[u8], parts: &DecimalParts<'_>) -> bool
     ensures { result ≡ is_long_text text.now (spelled parts.now) }
 {
     text.len() > 64 || parts.exponent.len() > 3
@@ -194,7 +194,7 @@ fn half_up(negative: bool, halves: Quotient) -> u64
 }
 
 /// So many units, cut toward zero.
-fn cut(text: &[u8], parts: &Parts<'_>, unit: u64) -> Result<Nm, DecError>
+fn cut(text: &[u8], parts: &DecimalParts<'_>, unit: u64) -> Result<Nm, DecError>
     requires unit { unit ≤ 500000000 }
     requires digits { HasDigits (spelled parts.now) }
     requires reach { 100000000 * bottom (spelled parts.now) < top (spelled parts.now) → 25400 ≤ unit }
@@ -210,7 +210,7 @@ fn cut(text: &[u8], parts: &Parts<'_>, unit: u64) -> Result<Nm, DecError>
 }
 
 /// So many units, to the nearest nanometre, ties upward.
-fn nearest(text: &[u8], parts: &Parts<'_>, unit: u64) -> Result<Nm, DecError>
+fn nearest(text: &[u8], parts: &DecimalParts<'_>, unit: u64) -> Result<Nm, DecError>
     requires unit { unit ≤ 500000000 }
     requires digits { HasDigits (spelled parts.now) }
     requires reach { 100000000 * bottom (spelled parts.now) < top (spelled parts.now) → 25400 ≤ unit }
@@ -239,7 +239,7 @@ fn whole_number(digits: &[u8]) -> u64
 }
 
 /// A ratio of so many nanometres, to the nearest, unless it is below 0 or above one half.
-fn ratio(text: &[u8], parts: &Parts<'_>, of: u64) -> Result<Nm, DecError>
+fn ratio(text: &[u8], parts: &DecimalParts<'_>, of: u64) -> Result<Nm, DecError>
     requires unit { of ≤ 500000000 }
     requires digits { HasDigits (spelled parts.now) }
     ensures { result ≡ answer_of text.now (pos of) near is_no_half (Some (spelled parts.now)) }
@@ -251,7 +251,7 @@ fn ratio(text: &[u8], parts: &Parts<'_>, of: u64) -> Result<Nm, DecError>
 }
 
 /// Whether a decimal is from 0 to one half.
-fn is_half_at_most(parts: &Parts<'_>) -> bool
+fn is_half_at_most(parts: &DecimalParts<'_>) -> bool
     requires digits { HasDigits (spelled parts.now) }
     requires short { length parts.now.exponent.now ≤ 3 }
     ensures value { is_no_half (value (spelled parts.now)) ≡ not result }

@@ -8,7 +8,7 @@ ghost use Rattle.exact_dec.specs.Spelled.{spelled, HasDigits};
 
 /// What a decimal spells. A part that is not there has no digits.
 #[derive(Clone, Copy)]
-pub struct Parts<'t> {
+pub struct DecimalParts<'t> {
     /// The sign is a minus.
     pub negative: bool,
     /// The digits before the point.
@@ -92,7 +92,7 @@ fn power(text: &[u8]) -> Option<(bool, &[u8])>
 }
 
 /// The parts of a text, or None where it is no decimal.
-pub fn take_apart(text: &[u8]) -> Option<Parts<'_>>
+pub fn take_apart(text: &[u8]) -> Option<DecimalParts<'_>>
     ensures parts { MatchOption result (parts_of text.now ≡ None) (λ found. parts_of text.now ≡ Some (spelled found)) }
     ensures digits { IfSome result (λ found. HasDigits (spelled found)) }
 {
@@ -102,7 +102,7 @@ pub fn take_apart(text: &[u8]) -> Option<Parts<'_>>
     if whole.is_empty() && fraction.is_empty() {
         return None;
     }
-    Some(Parts {
+    Some(DecimalParts {
         negative: begins_with_minus(text),
         whole,
         fraction,
@@ -112,7 +112,7 @@ pub fn take_apart(text: &[u8]) -> Option<Parts<'_>>
 }
 
 /// Whether all digits are 0.
-pub fn is_zero(parts: &Parts<'_>) -> bool
+pub fn is_zero(parts: &DecimalParts<'_>) -> bool
     requires { HasDigits (spelled parts.now) }
     ensures { MatchBool result
         (number (parts.now.whole.now ++ parts.now.fraction.now) ≡ 0)

@@ -5,7 +5,7 @@ ghost use Rattle.std.specs.Str.{all_ascii_digits};
 ghost use Rattle.exact_dec.specs.Decimal.{number};
 ghost use Rattle.exact_dec.specs.Spelled.{spelled, HasDigits, top, bottom, IsQuotient};
 
-use crate::parts::Parts;
+use crate::parts::DecimalParts;
 
 /// The most that the digits before the point may come to. More is beyond the limit of every call.
 const MOST_WHOLE: u64 = 100_000_000;
@@ -123,7 +123,7 @@ fn joined(front: &[u8], back: &[u8], zeros: usize) -> Option<u64>
 }
 
 /// The decimal times the unit, where its exponent moves the point to the right.
-fn scaled_up(parts: &Parts<'_>, by: usize, unit: u64) -> Option<Quotient>
+fn scaled_up(parts: &DecimalParts<'_>, by: usize, unit: u64) -> Option<Quotient>
     requires unit { unit ≤ 1000000000 }
     requires digits { HasDigits (spelled parts.now) }
     ensures { MatchOption result
@@ -144,7 +144,7 @@ fn scaled_up(parts: &Parts<'_>, by: usize, unit: u64) -> Option<Quotient>
 }
 
 /// The decimal times the unit, where its exponent moves the point to the left.
-fn scaled_down(parts: &Parts<'_>, by: usize, unit: u64) -> Option<Quotient>
+fn scaled_down(parts: &DecimalParts<'_>, by: usize, unit: u64) -> Option<Quotient>
     requires unit { unit ≤ 1000000000 }
     requires digits { HasDigits (spelled parts.now) }
     ensures { MatchOption result
@@ -168,7 +168,7 @@ fn scaled_down(parts: &Parts<'_>, by: usize, unit: u64) -> Option<Quotient>
 
 /// The decimal, without its sign, times the unit: its whole part and whether nothing is left over. None
 /// where the decimal is above the most.
-pub fn scaled(parts: &Parts<'_>, unit: u64) -> Option<Quotient>
+pub fn scaled(parts: &DecimalParts<'_>, unit: u64) -> Option<Quotient>
     requires unit { unit ≤ 1000000000 }
     requires digits { HasDigits (spelled parts.now) }
     requires short { length parts.now.exponent.now ≤ 3 }

@@ -22,14 +22,14 @@ use Rattle.list_read.specs.Heads.{place}
 use Rattle.part_read.specs.Elements.{name_in}
 use Rattle.part_read.specs.OnBoard.{fits_board}
 use Rattle.pad_read.specs.declared.head.Head.{Head}
-use Rattle.footprint_read.specs.declared.sides.Side.{Side}
+use Rattle.footprint_read.specs.declared.sides.CourtSide.{CourtSide}
 use Rattle.footprint_read.specs.declared.contents.Contents.{Contents}
 use Rattle.footprint_read.specs.declared.contents.Given.{Given}
 use Rattle.footprint_read.specs.declared.courts.Court.{Court}
 use Rattle.footprint_read.specs.declared.courts.Court.TheVariants.{Unchecked, Parts, Off}
 use Rattle.footprint_read.specs.Courtyards.{IsCourt, parts_in, lies_on_board}
 use Rattle.footprint_read.specs.FootHead.{head_of}
-use Rattle.footprint_read.specs.FootprintOf.{with_children, empty, body_of, court_notes, all_given, items_of, with_room, in_room, is_placed, finished, contents_of, SaysInside, SaysWith, Says}
+use Rattle.footprint_read.specs.FootprintOf.{with_children, empty, body_of, court_notes, all_given, items_of, with_room, in_room, is_placed, finished, contents_of, SaysInside, SaysWithHead, FootprintSays}
 use Rattle.read_alike.specs.Alike.{Shift}
 use Rattle.read_alike.specs.Agreeing.{Agrees}
 use Rattle.read_alike.specs.Carried.{IsCarried, Becomes, of_unit}
@@ -225,29 +225,29 @@ module _ (d : Shift) (board other : PlainBoard) (copper : other.copper ≡ board
   -- ---- the whole
 
   says_again : (head : Head) (new : Contents) (front back : Court) (items : List Item) → head_of other.copper two ≡ Ok head → contents_of other own head two ≡ Ok new → IsCourt head.stance new.front front → IsCourt head.stance new.back back
-      → is_placed head front back ≡ true → items_of (all_given own head two new.given front back) ≡ items → length items ≤ room_of other → own < 4294967295 → Says other own two (Ok items)
+      → is_placed head front back ≡ true → items_of (all_given own head two new.given front back) ≡ items → length items ≤ room_of other → own < 4294967295 → FootprintSays other own two (Ok items)
   says_again head new front back items eh ec of_front of_back placed are few low =
-      subst (λ (a : Result Head BoardError). SaysWith other own two a (Ok items)) (sym eh)
+      subst (λ (a : Result Head BoardError). SaysWithHead other own two a (Ok items)) (sym eh)
       (subst (λ (a : Result Contents BoardError). SaysInside other own head two a (Ok items)) (sym ec)
       (record { front = front; back = back; of_front = of_front; of_back = of_back; same = finished_again other own head two new.given front back items placed are few low }))
 
   with_courts : (head : Head) (contents : Contents) (front back : Court) (now : List Item) → head_of board.copper one ≡ Ok head → contents_of board unit head one ≡ Ok contents → (a : AllNow head contents front back now)
-      → (b : BodyCarried head front back a.moved) → CourtAgain d head.stance contents.front front b.fronts → CourtAgain d head.stance contents.back back b.backs → length now ≤ room_of other → own < 4294967295 → Says other own two (Ok (of_unit own now))
+      → (b : BodyCarried head front back a.moved) → CourtAgain d head.stance contents.front front b.fronts → CourtAgain d head.stance contents.back back b.backs → length now ≤ room_of other → own < 4294967295 → FootprintSays other own two (Ok (of_unit own now))
   with_courts head contents front back now eh ec a b f k few low =
       let c = contents_again head contents a.given ec a.of_given in
       let new_front = court_with d front b.fronts in
       let new_back = court_with d back b.backs in
       let body = body_again head front back new_front new_back a.moved b f.parts k.parts in
       let items = items_again head contents front back new_front new_back now a c body (notes_again (codes "F.CrtYd") front b.fronts a.front_notes a.of_front) (notes_again (codes "B.CrtYd") back b.backs a.back_notes a.of_back) in
-      let of_front : IsCourt (moved_stance d head.stance) c.new.front new_front = subst (λ (x : Side). IsCourt (moved_stance d head.stance) x new_front) (sym c.front) f.is in
-      let of_back : IsCourt (moved_stance d head.stance) c.new.back new_back = subst (λ (x : Side). IsCourt (moved_stance d head.stance) x new_back) (sym c.back) k.is in
+      let of_front : IsCourt (moved_stance d head.stance) c.new.front new_front = subst (λ (x : CourtSide). IsCourt (moved_stance d head.stance) x new_front) (sym c.front) f.is in
+      let of_back : IsCourt (moved_stance d head.stance) c.new.back new_back = subst (λ (x : CourtSide). IsCourt (moved_stance d head.stance) x new_back) (sym c.back) k.is in
       let placed : is_placed (moved_head d head) new_front new_back ≡ true =
       two_pass (fits_board (moved_spot d head.stance.at)) (lies_on_board new_front && lies_on_board new_back) (two_pass (is_near (head.stance.at.x +ℤ d.dx)) (is_near (head.stance.at.y +ℤ d.dy)) b.near_x b.near_y)
       (two_pass (lies_on_board new_front) (lies_on_board new_back) f.lies k.lies) in
       let long : length (of_unit own now) ≡ length now = length-map now (λ (x : Item). record x { unit = own }) in
       says_again (moved_head d head) c.new new_front new_back (of_unit own now) (head_there head eh b.near_x b.near_y) c.there of_front of_back placed items (omega (arith, long, few)) low
 
-  pub foot_carried : (items now : List Item) → AllZip (Becomes d) items now → Says board unit one (Ok items) → length now ≤ room_of other → own < 4294967295 → Says other own two (Ok (of_unit own now))
+  pub foot_carried : (items now : List Item) → AllZip (Becomes d) items now → FootprintSays board unit one (Ok items) → length now ≤ room_of other → own < 4294967295 → FootprintSays other own two (Ok (of_unit own now))
   foot_carried items now become says few low =
       let k = foot_says board unit one items says in
       let all = sym (all_items unit k.head one k.contents.given k.front k.back) ∙ k.are in

@@ -9,8 +9,8 @@ use Rattle.board_errors.specs.declared.errors.BoardError.{BoardError}
 use Rattle.board_items.specs.declared.item.About.TheVariants.{Text, FootZone}
 use Rattle.board_items.specs.declared.item.Item.{Item}
 use Rattle.board_items.specs.Boards.{PlainBoard, name_of}
-use Rattle.part_read.specs.declared.drawings.Kind.{Kind}
-use Rattle.part_read.specs.declared.drawings.Kind.TheVariants.{Line, Rect, Circle, Outline}
+use Rattle.part_read.specs.declared.drawings.GraphicKind.{GraphicKind}
+use Rattle.part_read.specs.declared.drawings.GraphicKind.TheVariants.{Line, Rect, Circle, Outline}
 use Rattle.part_read.specs.declared.graphics.Ground.{Ground}
 use Rattle.part_read.specs.declared.graphics.Ground.TheVariants.{Copper, Outlines, Front, Back, Elsewhere}
 use Rattle.list_read.specs.Answers.{◌>>=◌}
@@ -19,7 +19,7 @@ use Rattle.part_read.specs.Elements.{name_in}
 use Rattle.part_read.specs.Graphics.{ground_of, one_item, graphic_by, curve_by, text_by, note_of}
 use Rattle.pad_read.specs.declared.head.Head.{Head}
 use Rattle.pad_read.specs.PadOf.{pad_of}
-use Rattle.footprint_read.specs.declared.sides.Side.{Side}
+use Rattle.footprint_read.specs.declared.sides.CourtSide.{CourtSide}
 use Rattle.footprint_read.specs.declared.contents.Contents.{Contents}
 use Rattle.footprint_read.specs.Courtyards.{with_curve, with_graphic}
 use Rattle.footprint_read.specs.FootprintOf.{given_at, with_items, adding, at_front, at_back, with_drawn, with_arc, drawn_kind, is_curve, is_writing, with_other, with_child_by, with_child, with_children, items_of}
@@ -136,7 +136,7 @@ module _ (d : Shift) (own : ℕ) where
 
   -- ---- courtyards
 
-  fronts : (c : Contents) (answer : Result Side BoardError) (other : Side → Result Side BoardError) → Agrees (SideMoved d) answer (other (moved_side d c.front)) → Steps c (at_front c answer) (λ x. at_front x (other x.front))
+  fronts : (c : Contents) (answer : Result CourtSide BoardError) (other : CourtSide → Result CourtSide BoardError) → Agrees (SideMoved d) answer (other (moved_side d c.front)) → Steps c (at_front c answer) (λ x. at_front x (other x.front))
   fronts c (Err e) other h = tt
   fronts c (Ok side) other h = λ all become. record {
     now = all;
@@ -145,16 +145,16 @@ module _ (d : Shift) (own : ℕ) where
         let k = answer_is (other (moved_side d c.front)) refl h in
         record {
           contents = record x { front = moved_side d side };
-          is = ap (λ (s : Side). at_front x (other s)) m.front ∙ ap (at_front x) k;
+          is = ap (λ (s : CourtSide). at_front x (other s)) m.front ∙ ap (at_front x) k;
           matches = record { items = m.items; front = refl; back = m.back };
         };
   }
     where
-      answer_is : (b : Result Side BoardError) → other (moved_side d c.front) ≡ b → Agrees (SideMoved d) (Ok side) b → other (moved_side d c.front) ≡ Ok (moved_side d side)
-      answer_is (Ok y) e k = e ∙ ap (λ (s : Side). let r : Result Side BoardError = Ok s in r) k
+      answer_is : (b : Result CourtSide BoardError) → other (moved_side d c.front) ≡ b → Agrees (SideMoved d) (Ok side) b → other (moved_side d c.front) ≡ Ok (moved_side d side)
+      answer_is (Ok y) e k = e ∙ ap (λ (s : CourtSide). let r : Result CourtSide BoardError = Ok s in r) k
       answer_is (Err f) e k = absurd k
 
-  backs : (c : Contents) (answer : Result Side BoardError) (other : Side → Result Side BoardError) → Agrees (SideMoved d) answer (other (moved_side d c.back)) → Steps c (at_back c answer) (λ x. at_back x (other x.back))
+  backs : (c : Contents) (answer : Result CourtSide BoardError) (other : CourtSide → Result CourtSide BoardError) → Agrees (SideMoved d) answer (other (moved_side d c.back)) → Steps c (at_back c answer) (λ x. at_back x (other x.back))
   backs c (Err e) other h = tt
   backs c (Ok side) other h = λ all become. record {
     now = all;
@@ -163,13 +163,13 @@ module _ (d : Shift) (own : ℕ) where
         let k = answer_is (other (moved_side d c.back)) refl h in
         record {
           contents = record x { back = moved_side d side };
-          is = ap (λ (s : Side). at_back x (other s)) m.back ∙ ap (at_back x) k;
+          is = ap (λ (s : CourtSide). at_back x (other s)) m.back ∙ ap (at_back x) k;
           matches = record { items = m.items; front = m.front; back = refl };
         };
   }
     where
-      answer_is : (b : Result Side BoardError) → other (moved_side d c.back) ≡ b → Agrees (SideMoved d) (Ok side) b → other (moved_side d c.back) ≡ Ok (moved_side d side)
-      answer_is (Ok y) e k = e ∙ ap (λ (s : Side). let r : Result Side BoardError = Ok s in r) k
+      answer_is : (b : Result CourtSide BoardError) → other (moved_side d c.back) ≡ b → Agrees (SideMoved d) (Ok side) b → other (moved_side d c.back) ≡ Ok (moved_side d side)
+      answer_is (Ok y) e k = e ∙ ap (λ (s : CourtSide). let r : Result CourtSide BoardError = Ok s in r) k
       answer_is (Err f) e k = absurd k
 
   curve_front : (c : Contents) → Steps c (Ok (record c { front = with_curve c.front })) (λ x. Ok (record x { front = with_curve x.front }))
@@ -202,12 +202,12 @@ module _ (d : Shift) (own : ℕ) where
       same_ground : Agrees Same (ground_of board.copper one) (ground_of other.copper two)
       same_ground = subst (λ c. Agrees Same (ground_of board.copper one) (ground_of c two)) (sym copper) (ground_alike None board.copper i j s r h)
 
-      drawn_step : (c : Contents) (kind : Kind) (lies : Ground) → Steps c (with_drawn board unit head c kind one lies) (λ x. with_drawn other own new_head x kind two lies)
+      drawn_step : (c : Contents) (kind : GraphicKind) (lies : Ground) → Steps c (with_drawn board unit head c kind one lies) (λ x. with_drawn other own new_head x kind two lies)
       drawn_step c kind Front = fronts c (with_graphic head.stance kind c.front one) (λ side. with_graphic new_head.stance kind side two) (graphic_moved d head.stance kind c.front one two h)
       drawn_step c kind Back = backs c (with_graphic head.stance kind c.back one) (λ side. with_graphic new_head.stance kind side two) (graphic_moved d head.stance kind c.back one two h)
       drawn_step c kind (Copper layer) = adds c one two (graphic_by board unit head.stance kind one (Copper layer)) (graphic_by other own new_head.stance kind two (Copper layer)) (graphics (Copper layer) kind)
         where
-          graphics : (lies : Ground) (kind : Kind) → Leads (ReadsItems d own) (graphic_by board unit head.stance kind one lies) (graphic_by other own new_head.stance kind two lies)
+          graphics : (lies : Ground) (kind : GraphicKind) → Leads (ReadsItems d own) (graphic_by board unit head.stance kind one lies) (graphic_by other own new_head.stance kind two lies)
           graphics lies kind = graphic_carried None d head.stance new_head.stance (moved_stances d head.stance) board other nets unit own kind i j s r h lies
       drawn_step c kind Outlines =
           adds c one two (graphic_by board unit head.stance kind one Outlines) (graphic_by other own new_head.stance kind two Outlines)
@@ -260,7 +260,7 @@ module _ (d : Shift) (own : ℕ) where
           (subst (λ (b : Bool). Steps c (with_other board unit c one) (λ x. other_by other own (is_curve one) (is_writing one) b x two)) (sym (head_same (codes "zone")))
           (by_heads c (is_curve one) (is_writing one) (has_head (codes "zone") one))))
 
-      kind_step : (c : Contents) (o : Option Kind) → Steps c (with_child_by board unit head c one o) (λ x. with_child_by other own new_head x two o)
+      kind_step : (c : Contents) (o : Option GraphicKind) → Steps c (with_child_by board unit head c one o) (λ x. with_child_by other own new_head x two o)
       kind_step c None = other_step c
       kind_step c (Some kind) =
           steps_same c (ground_of board.copper one) (ground_of other.copper two) (with_drawn board unit head c kind one) (λ x. with_drawn other own new_head x kind two) same_ground (λ lies. drawn_step c kind lies)
@@ -272,7 +272,7 @@ module _ (d : Shift) (own : ℕ) where
           ∙ ap (λ (b : Bool). by_kinds (has_head (codes "fp_line") one) (has_head (codes "fp_rect") one) b (has_head (codes "fp_poly") two)) (head_same (codes "fp_circle"))
           ∙ ap (λ (b : Bool). by_kinds (has_head (codes "fp_line") one) (has_head (codes "fp_rect") one) (has_head (codes "fp_circle") one) b) (head_same (codes "fp_poly"))
         where
-          by_kinds : Bool → Bool → Bool → Bool → Option Kind
+          by_kinds : Bool → Bool → Bool → Bool → Option GraphicKind
           by_kinds line rect circle outline =
               if line then Some Line
               else if rect then Some Rect
@@ -280,7 +280,7 @@ module _ (d : Shift) (own : ℕ) where
               else if outline then Some Outline
               else None
 
-      abbrev child_by : PlainBoard → ℕ → Head → Bool → Option Kind → Contents → Tree → Result Contents BoardError
+      abbrev child_by : PlainBoard → ℕ → Head → Bool → Option GraphicKind → Contents → Tree → Result Contents BoardError
       child_by board unit head pad kind c t = if pad then adding c t (pad_of board unit head t >>= λ pad. Ok (pad ∷ [])) else with_child_by board unit head c t kind
 
       by_pad : (c : Contents) (pad : Bool) → Steps c (child_by board unit head pad (drawn_kind one) c one) (λ x. child_by other own new_head pad (drawn_kind one) x two)
@@ -292,7 +292,7 @@ module _ (d : Shift) (own : ℕ) where
       unfolding with_child
       list_step c =
           subst (λ (b : Bool). Steps c (child_by board unit head (has_head (codes "pad") one) (drawn_kind one) c one) (λ x. child_by other own new_head b (drawn_kind two) x two)) (sym (head_same (codes "pad")))
-          (subst (λ (o : Option Kind). Steps c (child_by board unit head (has_head (codes "pad") one) (drawn_kind one) c one) (λ x. child_by other own new_head (has_head (codes "pad") one) o x two)) (sym kind_same) (by_pad c (has_head (codes "pad") one)))
+          (subst (λ (o : Option GraphicKind). Steps c (child_by board unit head (has_head (codes "pad") one) (drawn_kind one) c one) (λ x. child_by other own new_head (has_head (codes "pad") one) o x two)) (sym kind_same) (by_pad c (has_head (codes "pad") one)))
 
     -- an atom gives nothing
     atom_step : (c : Contents) (s r : Span) (q p : Bool) (x y : List ℕ) → Steps c (with_child board unit head c (leaf s q x)) (λ z. with_child other own new_head z (leaf r p y))

@@ -27,7 +27,7 @@ use Rattle.courtyard.specs.Ends.{place as spot_of_point, is_same, is_short}
 use Rattle.court_moves.specs.Moves.{IsShiftedSeg, AreShiftedSegs, HasPoint, HasCorner}
 use Rattle.court_moves.proofs.Moving.{beyond, same_moved, chained_moved}
 use Rattle.court_moves.proofs.Cornering.{has_corner}
-use Rattle.footprint_read.specs.declared.sides.Side.{Side}
+use Rattle.footprint_read.specs.declared.sides.CourtSide.{CourtSide}
 use Rattle.footprint_read.specs.declared.sides.Course.{Course}
 use Rattle.footprint_read.specs.declared.courts.Court.{Court}
 use Rattle.footprint_read.specs.declared.courts.Court.TheVariants.{Unchecked, Parts, Off}
@@ -318,7 +318,7 @@ module _ (d : Shift) where
 
   -- ---- courtyards
 
-  parts_again : (stance : Stance) (side : Side) (parts others : List Part) → HasParts stance side parts → AreShifted ddx ddy parts others → HasParts (moved_stance d stance) (moved_side d side) others
+  parts_again : (stance : Stance) (side : CourtSide) (parts others : List Part) → HasParts stance side parts → AreShifted ddx ddy parts others → HasParts (moved_stance d stance) (moved_side d side) others
   parts_again stance side parts others has h =
       let k = split d has.drawn (map outline_part has.polys) others (subst (λ (l : List Part). AreShifted ddx ddy l others) has.all h) in
       let m = outlines_of has.polys k.vs k.rest in
@@ -340,7 +340,7 @@ module _ (d : Shift) where
   court_with (Parts parts) others = Parts others
   court_with Off others = Off
 
-  pub record CourtAgain (stance : Stance) (side : Side) (court : Court) (others : List Part) : Type 0 where
+  pub record CourtAgain (stance : Stance) (side : CourtSide) (court : Court) (others : List Part) : Type 0 where
     pub is : IsCourt (moved_stance d stance) (moved_side d side) (court_with court others)
     pub parts : parts_in (court_with court others) ≡ others
     pub lies : lies_on_board (court_with court others) ≡ true
@@ -349,7 +349,7 @@ module _ (d : Shift) where
   none_left [] h = refl
   none_left (o ∷ others) h = absurd h
 
-  pub court_again : (stance : Stance) (side : Side) (court : Court) (others : List Part) → IsCourt stance side court → lies_on_board court ≡ true → AreShifted ddx ddy (parts_in court) others → CourtAgain stance side court others
+  pub court_again : (stance : Stance) (side : CourtSide) (court : Court) (others : List Part) → IsCourt stance side court → lies_on_board court ≡ true → AreShifted ddx ddy (parts_in court) others → CourtAgain stance side court others
   court_again stance side Unchecked others (inl curved) lies h = record { is = inl curved; parts = none_left others h; lies = refl }
   court_again stance side Unchecked others (inr loose) lies h = record { is = inr (closed_same side.lines ∙ loose); parts = none_left others h; lies = refl }
   court_again stance side (Parts parts) others (checked, has) lies h = record { is = ((checked.0, closed_same side.lines ∙ checked.1), parts_again stance side parts others has h); parts = refl; lies = refl }

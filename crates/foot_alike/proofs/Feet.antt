@@ -11,7 +11,7 @@ use Rattle.board_items.specs.declared.item.About.TheVariants.{Text, Courtyard, F
 use Rattle.board_items.specs.declared.item.Item.{Item}
 use Rattle.board_items.specs.Boards.{PlainBoard}
 use Rattle.board_items.specs.Refusals.{room_of}
-use Rattle.part_read.specs.declared.drawings.Kind.{Kind}
+use Rattle.part_read.specs.declared.drawings.GraphicKind.{GraphicKind}
 use Rattle.part_read.specs.declared.graphics.Ground.{Ground}
 use Rattle.part_read.specs.declared.graphics.Ground.TheVariants.{Copper, Outlines, Front, Back, Elsewhere}
 use Rattle.list_read.specs.Answers.{◌>>=◌, check}
@@ -21,14 +21,14 @@ use Rattle.part_read.specs.Graphics.{ground_of, one_item, graphic_by, curve_by, 
 use Rattle.part_read.proofs.Reach.{both_ok}
 use Rattle.pad_read.specs.declared.head.Head.{Head}
 use Rattle.pad_read.specs.PadOf.{pad_of}
-use Rattle.footprint_read.specs.declared.sides.Side.{Side}
+use Rattle.footprint_read.specs.declared.sides.CourtSide.{CourtSide}
 use Rattle.footprint_read.specs.declared.contents.Contents.{Contents}
 use Rattle.footprint_read.specs.declared.courts.Court.{Court}
 use Rattle.footprint_read.specs.declared.courts.Court.TheVariants.{Unchecked, Parts, Off}
 use Rattle.footprint_read.specs.Courtyards.{with_graphic, IsCourt}
 use Rattle.footprint_read.specs.FootHead.{head_of}
 use Rattle.footprint_read.specs.declared.contents.Given.{Given}
-use Rattle.footprint_read.specs.FootprintOf.{given_at, with_items, adding, at_front, at_back, with_drawn, with_arc, drawn_kind, is_curve, is_writing, with_other, with_child_by, with_child, with_children, empty, body_of, court_notes, all_given, items_of, with_room, is_placed, has_room_after, finished, contents_of, SaysInside, SaysWith, Says}
+use Rattle.footprint_read.specs.FootprintOf.{given_at, with_items, adding, at_front, at_back, with_drawn, with_arc, drawn_kind, is_curve, is_writing, with_other, with_child_by, with_child, with_children, empty, body_of, court_notes, all_given, items_of, with_room, is_placed, has_room_after, finished, contents_of, SaysInside, SaysWithHead, FootprintSays}
 use Rattle.footprint_read.proofs.Standing.{items_append, placed_fits}
 use Rattle.read_alike.specs.Carried.{ItemsOf}
 use Rattle.draw_alike.proofs.Placed.{same_ok, one_item_of, graphic_of, note_stands, text_of_unit, curve_of_unit}
@@ -82,11 +82,11 @@ inside_says : (board : PlainBoard) (unit : ℕ) (tree : Tree) (head : Head) (r :
 inside_says board unit tree head (Err e) items eh ec says = absurd (no_items says)
 inside_says board unit tree head (Ok contents) items eh ec says = finished_says board unit tree head contents says.front says.back items eh ec says.of_front says.of_back (sym says.same)
 
-with_says : (board : PlainBoard) (unit : ℕ) (tree : Tree) (r : Result Head BoardError) (items : List Item) → head_of board.copper tree ≡ r → SaysWith board unit tree r (Ok items) → FootSays board unit tree items
+with_says : (board : PlainBoard) (unit : ℕ) (tree : Tree) (r : Result Head BoardError) (items : List Item) → head_of board.copper tree ≡ r → SaysWithHead board unit tree r (Ok items) → FootSays board unit tree items
 with_says board unit tree (Err e) items eh says = absurd (no_items says)
 with_says board unit tree (Ok head) items eh says = inside_says board unit tree head (contents_of board unit head tree) items eh refl says
 
-pub foot_says : (board : PlainBoard) (unit : ℕ) (tree : Tree) (items : List Item) → Says board unit tree (Ok items) → FootSays board unit tree items
+pub foot_says : (board : PlainBoard) (unit : ℕ) (tree : Tree) (items : List Item) → FootprintSays board unit tree (Ok items) → FootSays board unit tree items
 foot_says board unit tree items says = with_says board unit tree (head_of board.copper tree) items refl says
 
 -- ---- its items
@@ -122,11 +122,11 @@ module _ (unit : ℕ) where
   adding_stands c t (Ok items) h law =
       subst (λ (l : List Item). ItemsOf unit l) (sym (items_append c.given (given_at (place t) items) ∙ ap (λ (l : List Item). items_of c.given ++ l) (items_given (place t) items))) (both_stand unit (items_of c.given) items h (law items refl))
 
-  front_stands : (c : Contents) (answer : Result Side BoardError) → ItemsOf unit (items_of c.given) → Stand c (at_front c answer)
+  front_stands : (c : Contents) (answer : Result CourtSide BoardError) → ItemsOf unit (items_of c.given) → Stand c (at_front c answer)
   front_stands c (Err e) h = tt
   front_stands c (Ok side) h = h
 
-  back_stands : (c : Contents) (answer : Result Side BoardError) → ItemsOf unit (items_of c.given) → Stand c (at_back c answer)
+  back_stands : (c : Contents) (answer : Result CourtSide BoardError) → ItemsOf unit (items_of c.given) → Stand c (at_back c answer)
   back_stands c (Err e) h = tt
   back_stands c (Ok side) h = h
 
@@ -135,7 +135,7 @@ module _ (unit : ℕ) where
   ground_stands c (Ok lies) f h = h lies
 
   module _ (board : PlainBoard) (head : Head) where
-    drawn_stands : (c : Contents) (kind : Kind) (t : Tree) (lies : Ground) → ItemsOf unit (items_of c.given) → Stand c (with_drawn board unit head c kind t lies)
+    drawn_stands : (c : Contents) (kind : GraphicKind) (t : Tree) (lies : Ground) → ItemsOf unit (items_of c.given) → Stand c (with_drawn board unit head c kind t lies)
     drawn_stands c kind t Front h = front_stands c (with_graphic head.stance kind c.front t) h
     drawn_stands c kind t Back h = back_stands c (with_graphic head.stance kind c.back t) h
     drawn_stands c kind t (Copper layer) h = adding_stands c t (graphic_by board unit head.stance kind t (Copper layer)) h (λ items e. graphic_of board unit head.stance kind t (Copper layer) items e)
@@ -161,7 +161,7 @@ module _ (unit : ℕ) where
             adding_stands c t (Ok (note_of (name_in t) unit FootZone [] ∷ [])) h (λ items e. subst (λ (is : List Item). ItemsOf unit is) (same_ok e) (note_stands unit (name_in t) FootZone []))
         by_heads false false false = h
 
-    kind_stands : (c : Contents) (t : Tree) (o : Option Kind) → ItemsOf unit (items_of c.given) → Stand c (with_child_by board unit head c t o)
+    kind_stands : (c : Contents) (t : Tree) (o : Option GraphicKind) → ItemsOf unit (items_of c.given) → Stand c (with_child_by board unit head c t o)
     kind_stands c t None h = other_stands c t h
     kind_stands c t (Some kind) h = ground_stands c (ground_of board.copper t) (with_drawn board unit head c kind t) (λ lies. drawn_stands c kind t lies h)
 
@@ -190,7 +190,7 @@ notes_stand unit tree layer Unchecked = note_stands unit (name_in tree) Courtyar
 notes_stand unit tree layer (Parts parts) = tt
 notes_stand unit tree layer Off = tt
 
-pub foot_stands : (board : PlainBoard) (unit : ℕ) (tree : Tree) (items : List Item) → Says board unit tree (Ok items) → ItemsOf unit items
+pub foot_stands : (board : PlainBoard) (unit : ℕ) (tree : Tree) (items : List Item) → FootprintSays board unit tree (Ok items) → ItemsOf unit items
 foot_stands board unit tree items says =
     let k = foot_says board unit tree items says in
     let given : ItemsOf unit (items_of k.contents.given) = subst (λ (a : Result Contents BoardError). Stand unit empty a) k.has_contents (children_stand unit board k.head (parts tree) empty tt) in
@@ -201,7 +201,7 @@ foot_stands board unit tree items says =
     (both_stand unit (body_of unit k.head tree k.front k.back ∷ []) (items_of k.contents.given) body given) (notes_stand unit tree (codes "F.CrtYd") k.front)) (notes_stand unit tree (codes "B.CrtYd") k.back))
 
 -- there is always a body
-pub foot_some : (board : PlainBoard) (unit : ℕ) (tree : Tree) (items : List Item) → Says board unit tree (Ok items) → 1 ≤ length items
+pub foot_some : (board : PlainBoard) (unit : ℕ) (tree : Tree) (items : List Item) → FootprintSays board unit tree (Ok items) → 1 ≤ length items
 foot_some board unit tree items says =
     let k = foot_says board unit tree items says in
     subst (λ (is : List Item). 1 ≤ length is) (sym (all_items unit k.head tree k.contents.given k.front k.back) ∙ k.are) (omega arith)
@@ -220,7 +220,7 @@ with_few board unit (g ∷ gs) before low h = by_room (has_room_after before boa
         let k = more (omega (arith, less)) h in
         omega (arith, k)
 
-pub foot_few : (board : PlainBoard) (unit : ℕ) (tree : Tree) (items : List Item) → Says board unit tree (Ok items) → length items ≤ room_of board
+pub foot_few : (board : PlainBoard) (unit : ℕ) (tree : Tree) (items : List Item) → FootprintSays board unit tree (Ok items) → length items ≤ room_of board
 foot_few board unit tree items says =
     let k = foot_says board unit tree items says in
     let all = all_given unit k.head tree k.contents.given k.front k.back in

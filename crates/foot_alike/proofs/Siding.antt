@@ -9,15 +9,15 @@ use Rattle.board_errors.specs.declared.errors.BoardError.TheVariants.{Missing}
 use Rattle.part_read.specs.declared.numbers.Spot.{Spot}
 use Rattle.part_read.specs.declared.stances.Stance.{Stance}
 use Rattle.part_read.specs.declared.figures.Figure.TheVariants.{Outline as OutlineFigure}
-use Rattle.part_read.specs.declared.drawings.Kind.{Kind}
-use Rattle.part_read.specs.declared.drawings.Kind.TheVariants.{Line, Rect, Circle, Outline}
+use Rattle.part_read.specs.declared.drawings.GraphicKind.{GraphicKind}
+use Rattle.part_read.specs.declared.drawings.GraphicKind.TheVariants.{Line, Rect, Circle, Outline}
 use Rattle.list_read.specs.Answers.{◌>>=◌, needed}
 use Rattle.list_read.specs.Heads.{place, has_head}
 use Rattle.list_read.specs.Elements.{element}
 use Rattle.part_read.specs.Numbers.{spot_at, spot_of}
 use Rattle.part_read.specs.Drawings.{spots_among}
 use Rattle.part_read.specs.Stances.{stood}
-use Rattle.footprint_read.specs.declared.sides.Side.{Side}
+use Rattle.footprint_read.specs.declared.sides.CourtSide.{CourtSide}
 use Rattle.footprint_read.specs.declared.sides.Course.{Course}
 use Rattle.footprint_read.specs.Courtyards.{with_figure, with_curve, with_line, with_rect, with_circle, with_spots, has_arc, with_outline, with_graphic}
 use Rattle.read_alike.specs.Alike.{Shift, Alike}
@@ -36,17 +36,17 @@ use Rattle.pad_alike.proofs.Standing.{stood_moved}
 abbrev pub moved_course : Shift → Course → Course
 moved_course d line = record { a = moved_spot d line.a; b = moved_spot d line.b }
 
-abbrev pub moved_side : Shift → Side → Side
+abbrev pub moved_side : Shift → CourtSide → CourtSide
 moved_side d side = record side { lines = map (moved_course d) side.lines }
 
 module _ (d : Shift) where
-  abbrev pub SideMoved : Side → Side → Type 0
+  abbrev pub SideMoved : CourtSide → CourtSide → Type 0
   SideMoved x y = y ≡ moved_side d x
 
   spot_same : (word : List ℕ) (t u : Tree) → PlainParts t u → Agrees Same (spot_of word t) (spot_of word u)
   spot_same word t u h = needed_step Same word t u spot_at spot_at h spot_plain
 
-  line_moved : (stance : Stance) (side : Side) (t u : Tree) → PlainParts t u → Agrees SideMoved (with_line stance side t) (with_line (moved_stance d stance) (moved_side d side) u)
+  line_moved : (stance : Stance) (side : CourtSide) (t u : Tree) → PlainParts t u → Agrees SideMoved (with_line stance side t) (with_line (moved_stance d stance) (moved_side d side) u)
   unfolding with_line
   line_moved stance side t u h =
       same_bind SideMoved (spot_of (codes "start") t) (spot_of (codes "start") u) _ _ (spot_same (codes "start") t u h) (λ a.
@@ -55,22 +55,22 @@ module _ (d : Shift) where
       ∙ ap (λ (z : Spot). record side { lines = map (moved_course d) side.lines ++ record { a = moved_spot d (stood stance a); b = z } ∷ [] }) (stood_moved d stance b)
       ∙ ap (λ (l : List Course). record side { lines = l }) (sym (map-append (moved_course d) side.lines (record { a = stood stance a; b = stood stance b } ∷ [])))))
 
-  rect_moved : (side : Side) (t u : Tree) → PlainParts t u → Agrees SideMoved (with_rect side t) (with_rect (moved_side d side) u)
+  rect_moved : (side : CourtSide) (t u : Tree) → PlainParts t u → Agrees SideMoved (with_rect side t) (with_rect (moved_side d side) u)
   unfolding with_rect
   rect_moved side t u h =
       same_bind SideMoved (spot_of (codes "start") t) (spot_of (codes "start") u) _ _ (spot_same (codes "start") t u h) (λ a.
       same_bind SideMoved (spot_of (codes "end") t) (spot_of (codes "end") u) _ _ (spot_same (codes "end") t u h) (λ b. refl))
 
-  circle_moved : (side : Side) (t u : Tree) → PlainParts t u → Agrees SideMoved (with_circle side t) (with_circle (moved_side d side) u)
+  circle_moved : (side : CourtSide) (t u : Tree) → PlainParts t u → Agrees SideMoved (with_circle side t) (with_circle (moved_side d side) u)
   unfolding with_circle
   circle_moved side t u h =
       same_bind SideMoved (spot_of (codes "center") t) (spot_of (codes "center") u) _ _ (spot_same (codes "center") t u h) (λ a.
       same_bind SideMoved (spot_of (codes "end") t) (spot_of (codes "end") u) _ _ (spot_same (codes "end") t u h) (λ b. refl))
 
-  spots_moved : (side : Side) (t u : Tree) (curved : Bool) (spots : List Spot) → Agrees SideMoved (with_spots side t curved spots) (with_spots (moved_side d side) u curved spots)
+  spots_moved : (side : CourtSide) (t u : Tree) (curved : Bool) (spots : List Spot) → Agrees SideMoved (with_spots side t curved spots) (with_spots (moved_side d side) u curved spots)
   spots_moved side t u curved spots = by_tests curved (nat_le 3 (length spots))
     where
-      with_by : Side → Tree → Bool → Bool → Result Side BoardError
+      with_by : CourtSide → Tree → Bool → Bool → Result CourtSide BoardError
       with_by side t curved many =
           if curved then Ok (with_curve side)
           else if many then Ok (with_figure side (OutlineFigure spots))
@@ -98,11 +98,11 @@ module _ (d : Shift) where
   arc_same t u h =
       ap (list_any (has_head (codes "arc"))) (parts_are u) ∙ any_arc (forest_in t) (forest_in u) h ∙ sym (ap (list_any (has_head (codes "arc"))) (parts_are t))
 
-  outline_moved : (side : Side) (t u : Tree) → PlainParts t u → Agrees SideMoved (with_outline side t) (with_outline (moved_side d side) u)
+  outline_moved : (side : CourtSide) (t u : Tree) → PlainParts t u → Agrees SideMoved (with_outline side t) (with_outline (moved_side d side) u)
   unfolding with_outline
   outline_moved side t u h = by_found (element (codes "pts") t) (element (codes "pts") u) (element_in None (codes "pts") t u h)
     where
-      of_list : Side → Tree → Result Side BoardError
+      of_list : CourtSide → Tree → Result CourtSide BoardError
       of_list side t = spots_among true (parts t) >>= λ spots. with_spots side t (has_arc t) spots
 
       by_found : (o p : Option Tree) → FoundAlike None (has_head (codes "pts")) o p → Agrees SideMoved (needed (Missing (place t)) o >>= of_list side) (needed (Missing (place u)) p >>= of_list (moved_side d side))
@@ -114,7 +114,7 @@ module _ (d : Shift) where
           subst (λ (l : List Spot). Agrees SideMoved (with_spots side x (has_arc x) ss) (with_spots (moved_side d side) y (has_arc y) l)) (sym (same_spots ss ts m))
           (subst (λ (b : Bool). Agrees SideMoved (with_spots side x (has_arc x) ss) (with_spots (moved_side d side) y b ss)) (sym (arc_same x y (inside x y k.0))) (spots_moved side x y (has_arc x) ss)))
 
-  pub graphic_moved : (stance : Stance) (kind : Kind) (side : Side) (t u : Tree) → PlainParts t u → Agrees SideMoved (with_graphic stance kind side t) (with_graphic (moved_stance d stance) kind (moved_side d side) u)
+  pub graphic_moved : (stance : Stance) (kind : GraphicKind) (side : CourtSide) (t u : Tree) → PlainParts t u → Agrees SideMoved (with_graphic stance kind side t) (with_graphic (moved_stance d stance) kind (moved_side d side) u)
   graphic_moved stance Line side t u h = line_moved stance side t u h
   graphic_moved stance Rect side t u h = rect_moved side t u h
   graphic_moved stance Circle side t u h = circle_moved side t u h

@@ -7,7 +7,7 @@ use Rattle.part_read.specs.declared.stances.Stance.{Stance}
 use Rattle.part_read.specs.declared.figures.Figure.{Figure}
 use Rattle.part_read.specs.Figures.{radius_of}
 use Rattle.part_read.proofs.There.{both_some}
-use Rattle.footprint_read.specs.declared.sides.Side.{Side}
+use Rattle.footprint_read.specs.declared.sides.CourtSide.{CourtSide}
 use Rattle.footprint_read.specs.declared.courts.Court.{Court}
 use Rattle.footprint_read.specs.declared.courts.Court.TheVariants.{Unchecked, Parts, Off}
 use Rattle.footprint_read.specs.Bare.{AreBare}
@@ -27,7 +27,7 @@ outlines_bare : (polys : List (List Point)) → AreBare (map outline_part polys)
 outlines_bare [] = All-nil IsBare
 outlines_bare (p ∷ ps) = All-cons IsBare (outline_part p) (map outline_part ps) refl (outlines_bare ps)
 
-pub court_bare : (stance : Stance) (side : Side) (court : Court) → IsCourt stance side court → AreBare (parts_in court)
+pub court_bare : (stance : Stance) (side : CourtSide) (court : Court) → IsCourt stance side court → AreBare (parts_in court)
 court_bare stance side Unchecked h = All-nil IsBare
 court_bare stance side Off h = All-nil IsBare
 court_bare stance side (Parts parts) h =

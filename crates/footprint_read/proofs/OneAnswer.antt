@@ -13,13 +13,13 @@ use Rattle.courtyard.specs.Ends.{IsJoined}
 use Rattle.courtyard.specs.Outlines.{AreChained, corners}
 use Rattle.courtyard.proofs.Unique.{one_list}
 use Rattle.pad_read.specs.declared.head.Head.{Head}
-use Rattle.footprint_read.specs.declared.sides.Side.{Side}
+use Rattle.footprint_read.specs.declared.sides.CourtSide.{CourtSide}
 use Rattle.footprint_read.specs.declared.contents.Contents.{Contents}
 use Rattle.footprint_read.specs.declared.courts.Court.{Court}
 use Rattle.footprint_read.specs.declared.courts.Court.TheVariants.{Unchecked, Parts, Off}
 use Rattle.footprint_read.specs.Courtyards.{is_closed, segs_of, figure_parts, outline_part, HasParts, IsChecked, IsCourt}
 use Rattle.footprint_read.specs.FootHead.{head_of}
-use Rattle.footprint_read.specs.FootprintOf.{finished, contents_of, SaysOf, SaysInside, SaysWith, Says}
+use Rattle.footprint_read.specs.FootprintOf.{finished, contents_of, SaysOf, SaysInside, SaysWithHead, FootprintSays}
 use Rattle.footprint_read.proofs.Closed.{closed_joined}
 
 same_some : {A : Type 0} {x y : A} → Some x ≡ Some y → x ≡ y
@@ -27,14 +27,14 @@ same_some h = cc
 
 -- ---- one courtyard
 
-same_segs : (side : Side) (r s : List Seg) → segs_of side.lines ≡ Some r → segs_of side.lines ≡ Some s → r ≡ s
+same_segs : (side : CourtSide) (r s : List Seg) → segs_of side.lines ≡ Some r → segs_of side.lines ≡ Some s → r ≡ s
 same_segs side r s h k = same_some (sym h ∙ k)
 
 one_chain : (segs : List Seg) (p q : List (List Point)) → ((e : LineEnd) → IsJoined segs e) → AreChained segs p → AreChained segs q → p ≡ q
 one_chain segs p q joined h k =
     h.polygons ∙ ap (λ (os : List (List LineEnd)). map (corners segs) os) (one_list segs joined h.all k.all h.outlines k.outlines) ∙ sym k.polygons
 
-same_parts : (stance : Stance) (side : Side) (p q : List Part) → is_closed side.lines ≡ true → HasParts stance side p → HasParts stance side q → p ≡ q
+same_parts : (stance : Stance) (side : CourtSide) (p q : List Part) → is_closed side.lines ≡ true → HasParts stance side p → HasParts stance side q → p ≡ q
 same_parts stance side p q closed h k =
     let drawn : h.drawn ≡ k.drawn = same_some (sym h.of_figures ∙ k.of_figures) in
     let segs : h.segs ≡ k.segs = same_segs side h.segs k.segs h.of_lines k.of_lines in
@@ -45,15 +45,15 @@ same_parts stance side p q closed h k =
 never : {b : Bool} → b ≡ true → b ≡ false → ⊥
 never h k = let e : true ≡ false = sym h ∙ k in absurd cc
 
-not_both : (side : Side) → (side.curved ≡ true) ⊎ (is_closed side.lines ≡ false) → IsChecked side → ⊥
+not_both : (side : CourtSide) → (side.curved ≡ true) ⊎ (is_closed side.lines ≡ false) → IsChecked side → ⊥
 not_both side (inl h) k = never h k.0
 not_both side (inr h) k = never k.1 h
 
-not_off : (stance : Stance) (side : Side) (parts : List Part) → HasParts stance side parts → (figure_parts stance side.figures ≡ None) ⊎ (segs_of side.lines ≡ None) → ⊥
+not_off : (stance : Stance) (side : CourtSide) (parts : List Part) → HasParts stance side parts → (figure_parts stance side.figures ≡ None) ⊎ (segs_of side.lines ≡ None) → ⊥
 not_off stance side parts h (inl k) = let e : None ≡ Some h.drawn = sym k ∙ h.of_figures in absurd cc
 not_off stance side parts h (inr k) = let e : None ≡ Some h.segs = sym k ∙ h.of_lines in absurd cc
 
-one_court : (stance : Stance) (side : Side) (c d : Court) → IsCourt stance side c → IsCourt stance side d → c ≡ d
+one_court : (stance : Stance) (side : CourtSide) (c d : Court) → IsCourt stance side c → IsCourt stance side d → c ≡ d
 one_court stance side Unchecked Unchecked h k = refl
 one_court stance side Unchecked (Parts q) h k = absurd (not_both side h k.0)
 one_court stance side Unchecked Off h k = absurd (not_both side h k.0)
@@ -79,9 +79,9 @@ one_inside : (board : PlainBoard) (unit : ℕ) (head : Head) (tree : Tree) (r : 
 one_inside board unit head tree (Err e) a b h k = h ∙ sym k
 one_inside board unit head tree (Ok contents) a b h k = one_of board unit head tree contents a b h k
 
-one_with : (board : PlainBoard) (unit : ℕ) (tree : Tree) (r : Result Head BoardError) (a b : Result (List Item) BoardError) → SaysWith board unit tree r a → SaysWith board unit tree r b → a ≡ b
+one_with : (board : PlainBoard) (unit : ℕ) (tree : Tree) (r : Result Head BoardError) (a b : Result (List Item) BoardError) → SaysWithHead board unit tree r a → SaysWithHead board unit tree r b → a ≡ b
 one_with board unit tree (Err e) a b h k = h ∙ sym k
 one_with board unit tree (Ok head) a b h k = one_inside board unit head tree (contents_of board unit head tree) a b h k
 
-pub one_answer : (board : PlainBoard) (unit : ℕ) (tree : Tree) (a b : Result (List Item) BoardError) → Says board unit tree a → Says board unit tree b → a ≡ b
+pub one_answer : (board : PlainBoard) (unit : ℕ) (tree : Tree) (a b : Result (List Item) BoardError) → FootprintSays board unit tree a → FootprintSays board unit tree b → a ≡ b
 one_answer board unit tree a b h k = one_with board unit tree (head_of board.copper tree) a b h k

@@ -13,22 +13,22 @@ use Rattle.footprint_read.specs.declared.contents.Contents.{Contents}
 use Rattle.footprint_read.specs.declared.courts.Court.{Court}
 use Rattle.footprint_read.specs.Courtyards.{IsCourt}
 use Rattle.footprint_read.specs.FootHead.{head_of}
-use Rattle.footprint_read.specs.FootprintOf.{finished, contents_of, SaysOf, SaysInside, SaysWith, Says, SaysItems}
+use Rattle.footprint_read.specs.FootprintOf.{finished, contents_of, SaysOf, SaysInside, SaysWithHead, FootprintSays, SaysItems}
 
 module _ (board : PlainBoard) (unit : ℕ) (tree : Tree) where
-  pub head_refused : (e : BoardError) → (e ≡ OutOfMemory) ⊎ (head_of board.copper tree ≡ Err e) → (e ≡ OutOfMemory) ⊎ Says board unit tree (Err e)
+  pub head_refused : (e : BoardError) → (e ≡ OutOfMemory) ⊎ (head_of board.copper tree ≡ Err e) → (e ≡ OutOfMemory) ⊎ FootprintSays board unit tree (Err e)
   head_refused e (inl h) = inl h
-  head_refused e (inr h) = inr (subst (λ (r : Result Head BoardError). SaysWith board unit tree r (Err e)) (sym h) refl)
+  head_refused e (inr h) = inr (subst (λ (r : Result Head BoardError). SaysWithHead board unit tree r (Err e)) (sym h) refl)
 
-  with_head : (head : Head) (answer : Result (List Item) BoardError) → head_of board.copper tree ≡ Ok head → SaysInside board unit head tree (contents_of board unit head tree) answer → Says board unit tree answer
-  with_head head answer h k = subst (λ (r : Result Head BoardError). SaysWith board unit tree r answer) (sym h) k
+  with_head : (head : Head) (answer : Result (List Item) BoardError) → head_of board.copper tree ≡ Ok head → SaysInside board unit head tree (contents_of board unit head tree) answer → FootprintSays board unit tree answer
+  with_head head answer h k = subst (λ (r : Result Head BoardError). SaysWithHead board unit tree r answer) (sym h) k
 
-  pub contents_refused : (head : Head) (e : BoardError) → head_of board.copper tree ≡ Ok head → (e ≡ OutOfMemory) ⊎ (contents_of board unit head tree ≡ Err e) → (e ≡ OutOfMemory) ⊎ Says board unit tree (Err e)
+  pub contents_refused : (head : Head) (e : BoardError) → head_of board.copper tree ≡ Ok head → (e ≡ OutOfMemory) ⊎ (contents_of board unit head tree ≡ Err e) → (e ≡ OutOfMemory) ⊎ FootprintSays board unit tree (Err e)
   contents_refused head e h (inl k) = inl k
   contents_refused head e h (inr k) = inr (with_head head (Err e) h (subst (λ (r : Result Contents BoardError). SaysInside board unit head tree r (Err e)) (sym k) refl))
 
   says_by : (head : Head) (contents : Contents) (front back : Court) (answer : Result (List Item) BoardError) → head_of board.copper tree ≡ Ok head → contents_of board unit head tree ≡ Ok contents
-      → IsCourt head.stance contents.front front → IsCourt head.stance contents.back back → answer ≡ finished board unit head tree contents.given front back → Says board unit tree answer
+      → IsCourt head.stance contents.front front → IsCourt head.stance contents.back back → answer ≡ finished board unit head tree contents.given front back → FootprintSays board unit tree answer
   says_by head contents front back answer h k f b s =
       let inside : SaysOf board unit head tree contents answer = record { front = front; back = back; of_front = f; of_back = b; same = s } in
       with_head head answer h (subst (λ (r : Result Contents BoardError). SaysInside board unit head tree r answer) (sym k) inside)

@@ -13,8 +13,8 @@ use Rattle.board_items.specs.declared.parts.Part.{Part}
 use Rattle.part_read.specs.declared.numbers.Spot.{Spot}
 use Rattle.part_read.specs.declared.stances.Stance.{Stance}
 use Rattle.part_read.specs.declared.radii.Radius.{Radius}
-use Rattle.part_read.specs.declared.drawings.Kind.{Kind}
-use Rattle.part_read.specs.declared.drawings.Kind.TheVariants.{Line, Rect, Circle, Outline}
+use Rattle.part_read.specs.declared.drawings.GraphicKind.{GraphicKind}
+use Rattle.part_read.specs.declared.drawings.GraphicKind.TheVariants.{Line, Rect, Circle, Outline}
 use Rattle.part_read.specs.declared.figures.Figure.{Figure}
 use Rattle.part_read.specs.declared.figures.Figure.TheVariants.{Line as LineFigure, Rect as RectFigure, Circle as CircleFigure, Outline as OutlineFigure}
 use Rattle.list_read.specs.Answers.{◌>>=◌, needed}
@@ -30,41 +30,41 @@ use Rattle.part_read.specs.Drawings.{spots_among}
 use Rattle.courtyard.specs.Ends.{is_same}
 use Rattle.courtyard.specs.Outlines.{AreChained}
 use Rattle.footprint_read.specs.declared.sides.Course.{Course}
-use Rattle.footprint_read.specs.declared.sides.Side.{Side}
+use Rattle.footprint_read.specs.declared.sides.CourtSide.{CourtSide}
 use Rattle.footprint_read.specs.declared.courts.Court.{Court}
 use Rattle.footprint_read.specs.declared.courts.Court.TheVariants.{Unchecked, Parts, Off}
 
-abbrev pub empty_side : Side
+abbrev pub empty_side : CourtSide
 empty_side = record { curved = false; figures = []; lines = [] }
 
 -- ---- what a list on the layer of a courtyard adds to its side
 
-abbrev pub with_figure : Side → Figure → Side
+abbrev pub with_figure : CourtSide → Figure → CourtSide
 with_figure side figure = record side { figures = side.figures ++ figure ∷ [] }
 
-abbrev pub with_curve : Side → Side
+abbrev pub with_curve : CourtSide → CourtSide
 with_curve side = record side { curved = true }
 
 -- a line from one spot of the board to another
-unfoldable pub with_line : Stance → Side → Tree → Result Side BoardError
+unfoldable pub with_line : Stance → CourtSide → Tree → Result CourtSide BoardError
 with_line stance side tree = do
   start ← spot_of (codes "start") tree
   end ← spot_of (codes "end") tree
   Ok (record side { lines = side.lines ++ record { a = stood stance start; b = stood stance end } ∷ [] })
 
-unfoldable pub with_rect : Side → Tree → Result Side BoardError
+unfoldable pub with_rect : CourtSide → Tree → Result CourtSide BoardError
 with_rect side tree = do
   start ← spot_of (codes "start") tree
   end ← spot_of (codes "end") tree
   Ok (with_figure side (RectFigure start end))
 
-unfoldable pub with_circle : Side → Tree → Result Side BoardError
+unfoldable pub with_circle : CourtSide → Tree → Result CourtSide BoardError
 with_circle side tree = do
   center ← spot_of (codes "center") tree
   end ← spot_of (codes "end") tree
   Ok (with_figure side (CircleFigure center (radius_between center end)))
 
-abbrev pub with_spots : Side → Tree → Bool → List Spot → Result Side BoardError
+abbrev pub with_spots : CourtSide → Tree → Bool → List Spot → Result CourtSide BoardError
 with_spots side list curved spots =
     if curved then Ok (with_curve side)
     else if nat_le 3 (length spots) then Ok (with_figure side (OutlineFigure spots))
@@ -74,13 +74,13 @@ abbrev pub has_arc : Tree → Bool
 has_arc list = list_any (has_head (codes "arc")) (parts list)
 
 -- an outline; with an arc in it its points are not counted
-unfoldable pub with_outline : Side → Tree → Result Side BoardError
+unfoldable pub with_outline : CourtSide → Tree → Result CourtSide BoardError
 with_outline side tree = do
   list ← needed (Missing (place tree)) (element (codes "pts") tree)
   spots ← spots_among true (parts list)
   with_spots side list (has_arc list) spots
 
-abbrev pub with_graphic : Stance → Kind → Side → Tree → Result Side BoardError
+abbrev pub with_graphic : Stance → GraphicKind → CourtSide → Tree → Result CourtSide BoardError
 with_graphic stance Line side tree = with_line stance side tree
 with_graphic stance Rect side tree = with_rect side tree
 with_graphic stance Circle side tree = with_circle side tree
@@ -156,7 +156,7 @@ outline_part points = court_part no_radius (Area points)
 -- ---- the courtyard of a side: it is not checked, or it lies on the board and has these parts, or it leaves the board
 
 -- the parts are those of the figures, and then the closed outlines of the lines, by their definition
-pub record HasParts (stance : Stance) (side : Side) (parts : List Part) : Type 0 where
+pub record HasParts (stance : Stance) (side : CourtSide) (parts : List Part) : Type 0 where
   pub drawn : List Part
   pub segs : List Seg
   pub polys : List (List Point)
@@ -165,10 +165,10 @@ pub record HasParts (stance : Stance) (side : Side) (parts : List Part) : Type 0
   pub chained : AreChained segs polys
   pub all : parts ≡ drawn ++ map outline_part polys
 
-abbrev pub IsChecked : Side → Type 0
+abbrev pub IsChecked : CourtSide → Type 0
 IsChecked side = (side.curved ≡ false) × (is_closed side.lines ≡ true)
 
-abbrev pub IsCourt : Stance → Side → Court → Type 0
+abbrev pub IsCourt : Stance → CourtSide → Court → Type 0
 IsCourt stance side Unchecked = (side.curved ≡ true) ⊎ (is_closed side.lines ≡ false)
 IsCourt stance side (Parts parts) = IsChecked side × HasParts stance side parts
 IsCourt stance side Off = IsChecked side × ((figure_parts stance side.figures ≡ None) ⊎ (segs_of side.lines ≡ None))

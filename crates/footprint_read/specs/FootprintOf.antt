@@ -11,8 +11,8 @@ use Rattle.board_items.specs.declared.item.What.TheVariants.{Body}
 use Rattle.board_items.specs.declared.item.Item.{Item}
 use Rattle.board_items.specs.Boards.{PlainBoard}
 use Rattle.board_items.specs.Refusals.{room_of}
-use Rattle.part_read.specs.declared.drawings.Kind.{Kind}
-use Rattle.part_read.specs.declared.drawings.Kind.TheVariants.{Line, Rect, Circle, Outline}
+use Rattle.part_read.specs.declared.drawings.GraphicKind.{GraphicKind}
+use Rattle.part_read.specs.declared.drawings.GraphicKind.TheVariants.{Line, Rect, Circle, Outline}
 use Rattle.part_read.specs.declared.graphics.Ground.{Ground}
 use Rattle.part_read.specs.declared.graphics.Ground.TheVariants.{Front, Back}
 use Rattle.list_read.specs.Answers.{◌>>=◌, check}
@@ -22,7 +22,7 @@ use Rattle.part_read.specs.OnBoard.{fits_board}
 use Rattle.part_read.specs.PlainItems.{plain_item}
 use Rattle.part_read.specs.Graphics.{ground_of, graphic_by, curve_by, text_by, note_of}
 use Rattle.pad_read.specs.declared.head.Head.{Head}
-use Rattle.footprint_read.specs.declared.sides.Side.{Side}
+use Rattle.footprint_read.specs.declared.sides.CourtSide.{CourtSide}
 use Rattle.footprint_read.specs.declared.contents.Contents.{Contents}
 use Rattle.footprint_read.specs.declared.contents.Given.{Given}
 use Rattle.footprint_read.specs.FootHead.{head_of}
@@ -43,13 +43,13 @@ with_items contents tree items = record contents { given = contents.given ++ giv
 abbrev pub adding : Contents → Tree → Result (List Item) BoardError → Result Contents BoardError
 adding contents tree answer = answer >>= λ items. Ok (with_items contents tree items)
 
-abbrev pub at_front : Contents → Result Side BoardError → Result Contents BoardError
+abbrev pub at_front : Contents → Result CourtSide BoardError → Result Contents BoardError
 at_front contents answer = answer >>= λ side. Ok (record contents { front = side })
 
-abbrev pub at_back : Contents → Result Side BoardError → Result Contents BoardError
+abbrev pub at_back : Contents → Result CourtSide BoardError → Result Contents BoardError
 at_back contents answer = answer >>= λ side. Ok (record contents { back = side })
 
-abbrev pub with_drawn : PlainBoard → ℕ → Head → Contents → Kind → Tree → Ground → Result Contents BoardError
+abbrev pub with_drawn : PlainBoard → ℕ → Head → Contents → GraphicKind → Tree → Ground → Result Contents BoardError
 with_drawn board unit head contents kind tree Front = at_front contents (with_graphic head.stance kind contents.front tree)
 with_drawn board unit head contents kind tree Back = at_back contents (with_graphic head.stance kind contents.back tree)
 with_drawn board unit head contents kind tree lies = adding contents tree (graphic_by board unit head.stance kind tree lies)
@@ -60,7 +60,7 @@ with_arc contents tree Front = Ok (record contents { front = with_curve contents
 with_arc contents tree Back = Ok (record contents { back = with_curve contents.back })
 with_arc contents tree lies = adding contents tree (curve_by tree lies)
 
-abbrev pub drawn_kind : Tree → Option Kind
+abbrev pub drawn_kind : Tree → Option GraphicKind
 drawn_kind t =
     if has_head (codes "fp_line") t then Some Line
     else if has_head (codes "fp_rect") t then Some Rect
@@ -82,7 +82,7 @@ with_other board unit contents t =
     else if has_head (codes "zone") t then Ok (with_items contents t (note_of (name_in t) unit FootZone [] ∷ []))
     else Ok contents
 
-abbrev pub with_child_by : PlainBoard → ℕ → Head → Contents → Tree → Option Kind → Result Contents BoardError
+abbrev pub with_child_by : PlainBoard → ℕ → Head → Contents → Tree → Option GraphicKind → Result Contents BoardError
 with_child_by board unit head contents t (Some kind) = ground_of board.copper t >>= with_drawn board unit head contents kind t
 with_child_by board unit head contents t None = with_other board unit contents t
 
@@ -159,14 +159,14 @@ abbrev pub SaysInside : PlainBoard → ℕ → Head → Tree → Result Contents
 SaysInside board unit head tree (Err e) answer = answer ≡ Err e
 SaysInside board unit head tree (Ok contents) answer = SaysOf board unit head tree contents answer
 
-abbrev pub SaysWith : PlainBoard → ℕ → Tree → Result Head BoardError → Result (List Item) BoardError → Type 0
-SaysWith board unit tree (Err e) answer = answer ≡ Err e
-SaysWith board unit tree (Ok head) answer = SaysInside board unit head tree (contents_of board unit head tree) answer
+abbrev pub SaysWithHead : PlainBoard → ℕ → Tree → Result Head BoardError → Result (List Item) BoardError → Type 0
+SaysWithHead board unit tree (Err e) answer = answer ≡ Err e
+SaysWithHead board unit tree (Ok head) answer = SaysInside board unit head tree (contents_of board unit head tree) answer
 
-abbrev pub Says : PlainBoard → ℕ → Tree → Result (List Item) BoardError → Type 0
-Says board unit tree answer = SaysWith board unit tree (head_of board.copper tree) answer
+abbrev pub FootprintSays : PlainBoard → ℕ → Tree → Result (List Item) BoardError → Type 0
+FootprintSays board unit tree answer = SaysWithHead board unit tree (head_of board.copper tree) answer
 
 -- the call gives items that the definition gives, or a refusal that it gives, unless memory ran out
 abbrev pub SaysItems : Result (Vec Item Global) BoardError → PlainBoard → ℕ → Tree → Type 0
-SaysItems (Ok items) board unit tree = Says board unit tree (Ok items.items)
-SaysItems (Err e) board unit tree = (e ≡ OutOfMemory) ⊎ Says board unit tree (Err e)
+SaysItems (Ok items) board unit tree = FootprintSays board unit tree (Ok items.items)
+SaysItems (Err e) board unit tree = (e ≡ OutOfMemory) ⊎ FootprintSays board unit tree (Err e)

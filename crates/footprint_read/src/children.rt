@@ -18,7 +18,7 @@ use crate::notes::note_on;
 use board_items::{About, Board, BoardError, Item};
 use list_read::{has_head, place};
 use pad_read::{Head, pad_of};
-use part_read::{Ground, Kind, curve_by, ground_of, read_graphic, read_text};
+use part_read::{GraphicKind, Ground, curve_by, ground_of, read_graphic, read_text};
 use plain_types::one;
 use sexpr_read::Node;
 use std::alloc::{AllocError, Global};
@@ -26,24 +26,24 @@ use std::alloc::{AllocError, Global};
 /// What a graphic is, and where it lies.
 #[derive(Clone, Copy)]
 struct Drawn {
-    kind: Kind,
+    kind: GraphicKind,
     lies: Ground,
 }
 
-fn drawn_kind(node: Node<'_, '_>) -> Option<Kind>
+fn drawn_kind(node: Node<'_, '_>) -> Option<GraphicKind>
     ensures { result ≡ drawn_kind (tree_of node.entry) }
 {
     if has_head(node, b"fp_line") {
-        return Some(Kind::Line);
+        return Some(GraphicKind::Line);
     }
     if has_head(node, b"fp_rect") {
-        return Some(Kind::Rect);
+        return Some(GraphicKind::Rect);
     }
     if has_head(node, b"fp_circle") {
-        return Some(Kind::Circle);
+        return Some(GraphicKind::Circle);
     }
     if has_head(node, b"fp_poly") {
-        return Some(Kind::Outline);
+        return Some(GraphicKind::Outline);
     }
     None
 }

@@ -3,7 +3,7 @@
 ghost use Rattle.std.specs.Prelude.{◌≡◌, ◌++◌, [], IfOk, OnOk};
 ghost use Rattle.footprint_read.specs.FootprintOf.{empty, given_at};
 
-use crate::sides::Side;
+use crate::sides::CourtSide;
 use board_items::Item;
 use std::alloc::{AllocError, Global};
 use std::marker::Model;
@@ -86,8 +86,8 @@ impl AllGiven {
 #[derive(Drop)]
 pub struct Contents {
     pub given: AllGiven,
-    pub front: Side,
-    pub back: Side,
+    pub front: CourtSide,
+    pub back: CourtSide,
 }
 
 impl Contents {
@@ -96,8 +96,8 @@ impl Contents {
     {
         Contents {
             given: AllGiven::new(alloc),
-            front: Side::new(alloc),
-            back: Side::new(alloc),
+            front: CourtSide::new(alloc),
+            back: CourtSide::new(alloc),
         }
     }
 }

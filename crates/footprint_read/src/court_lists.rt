@@ -11,11 +11,11 @@ ghost use Rattle.part_read.specs.Stances.{IsWithin};
 ghost use Rattle.part_read.specs.Figures.{HasReach};
 ghost use Rattle.footprint_read.specs.Courtyards.{with_figure, with_line, with_rect, with_circle, has_arc, with_outline, with_graphic};
 
-use crate::sides::{Course, Side};
+use crate::sides::{Course, CourtSide};
 use board_items::BoardError;
 use list_read::{element, has_head};
 use part_read::{
-    Corners, Figure, Kind, Spot, Stance, missing, radius_between, spot_in, spots_in, stand,
+    Corners, Figure, GraphicKind, Spot, Stance, missing, radius_between, spot_in, spots_in, stand,
 };
 use sexpr_read::Node;
 use std::alloc::{AllocError, Global};
@@ -31,21 +31,21 @@ fn spot_needed(node: Node<'_, '_>, head: &[u8]) -> Result<Spot, BoardError>
     }
 }
 
-fn with_figure(side: Side, figure: Figure) -> Result<Side, AllocError>
+fn with_figure(side: CourtSide, figure: Figure) -> Result<CourtSide, AllocError>
     requires { HasReach figure }
     ensures { IfOk result (λ all. all ≡ with_figure side figure) }
 {
-    Ok(Side {
+    Ok(CourtSide {
         curved: side.curved,
         figures: side.figures.with(figure)?,
         lines: side.lines,
     })
 }
 
-fn with_course(side: Side, course: Course) -> Result<Side, AllocError>
+fn with_course(side: CourtSide, course: Course) -> Result<CourtSide, AllocError>
     ensures { IfOk result (λ all. all ≡ record side { lines = side.lines ++ course ∷ [] }) }
 {
-    Ok(Side {
+    Ok(CourtSide {
         curved: side.curved,
         figures: side.figures,
         lines: side.lines.with(course)?,
@@ -54,7 +54,7 @@ fn with_course(side: Side, course: Course) -> Result<Side, AllocError>
 
 /// With a line, which goes from one spot of the board to another.
 #[tactic(auto, unfolding(crate::specs::Courtyards::with_line))]
-fn with_line(stance: Stance, side: Side, node: Node<'_, '_>) -> Result<Side, BoardError>
+fn with_line(stance: Stance, side: CourtSide, node: Node<'_, '_>) -> Result<CourtSide, BoardError>
     requires quarter { stance.quarter < 4 }
     requires at { IsWithin 3000000000000 stance.at }
     ensures { Gives result (with_line stance side (tree_of node.entry)) }
@@ -70,7 +70,7 @@ fn with_line(stance: Stance, side: Side, node: Node<'_, '_>) -> Result<Side, Boa
 
 /// With a rectangle.
 #[tactic(auto, unfolding(crate::specs::Courtyards::with_rect))]
-fn with_rect(side: Side, node: Node<'_, '_>) -> Result<Side, BoardError>
+fn with_rect(side: CourtSide, node: Node<'_, '_>) -> Result<CourtSide, BoardError>
     ensures { Gives result (with_rect side (tree_of node.entry)) }
 {
     let start = spot_needed(node, b"start")?;
@@ -80,7 +80,7 @@ fn with_rect(side: Side, node: Node<'_, '_>) -> Result<Side, BoardError>
 
 /// With a circle.
 #[tactic(auto, unfolding(crate::specs::Courtyards::with_circle))]
-fn with_circle(side: Side, node: Node<'_, '_>) -> Result<Side, BoardError>
+fn with_circle(side: CourtSide, node: Node<'_, '_>) -> Result<CourtSide, BoardError>
     ensures { Gives result (with_circle side (tree_of node.entry)) }
 {
     let center = spot_needed(node, b"center")?;
@@ -103,7 +103,7 @@ fn has_arc(list: Node<'_, '_>) -> bool
 
 /// With an outline; one with an arc leaves the side unchecked.
 #[tactic(auto, unfolding(crate::specs::Courtyards::with_outline))]
-fn with_outline(alloc: Global, side: Side, node: Node<'_, '_>) -> Result<Side, BoardError>
+fn with_outline(alloc: Global, side: CourtSide, node: Node<'_, '_>) -> Result<CourtSide, BoardError>
     ensures { Gives result (with_outline side (tree_of node.entry)) }
 {
     let Some(list) = element(node, b"pts") else {
@@ -123,18 +123,18 @@ fn with_outline(alloc: Global, side: Side, node: Node<'_, '_>) -> Result<Side, B
 pub fn with_graphic(
     alloc: Global,
     stance: Stance,
-    kind: Kind,
-    side: Side,
+    kind: GraphicKind,
+    side: CourtSide,
     node: Node<'_, '_>,
-) -> Result<Side, BoardError>
+) -> Result<CourtSide, BoardError>
     requires quarter { stance.quarter < 4 }
     requires at { IsWithin 3000000000000 stance.at }
     ensures { Gives result (with_graphic stance kind side (tree_of node.entry)) }
 {
     match kind {
-        Kind::Line => with_line(stance, side, node),
-        Kind::Rect => with_rect(side, node),
-        Kind::Circle => with_circle(side, node),
-        Kind::Outline => with_outline(alloc, side, node),
+        GraphicKind::Line => with_line(stance, side, node),
+        GraphicKind::Rect => with_rect(side, node),
+        GraphicKind::Circle => with_circle(side, node),
+        GraphicKind::Outline => with_outline(alloc, side, node),
     }
 }

@@ -9,7 +9,7 @@ ghost use Rattle.footprint_read.specs.Bare.{AreBare};
 ghost use Rattle.footprint_read.specs.Courtyards.{seg_of, segs_of, line_core, core_of, reach_of, court_part, figure_part, figure_parts, outline_part, parts_in, IsCourt};
 
 use crate::closing::{is_closed, is_long};
-use crate::sides::{Course, Side};
+use crate::sides::{Course, CourtSide};
 use board_items::{Nm, Part, Parts};
 use copper_layers::LayerSet;
 use courtyard::closed_outlines;
@@ -189,7 +189,7 @@ fn append_outlines(parts: &mut SmallVec<Part, 2>, polys: Vec<Poly>) -> Result<()
 
 /// The courtyard of a side, in the footprint that stands so: its figures, and then the closed outlines of its lines.
 #[tactic(auto, using(crate::proofs::Bared::court_bare))]
-pub fn court_of(alloc: Global, stance: Stance, side: &Side) -> Result<Court, AllocError>
+pub fn court_of(alloc: Global, stance: Stance, side: &CourtSide) -> Result<Court, AllocError>
     requires quarter { stance.quarter < 4 }
     requires at { IsWithin 3000000000000 stance.at }
     ensures court { IfOk result (IsCourt stance side.now) }
@@ -199,7 +199,7 @@ pub fn court_of(alloc: Global, stance: Stance, side: &Side) -> Result<Court, All
     Ok(court)
 }
 
-fn court_by(alloc: Global, stance: Stance, side: &Side) -> Result<Court, AllocError>
+fn court_by(alloc: Global, stance: Stance, side: &CourtSide) -> Result<Court, AllocError>
     requires quarter { stance.quarter < 4 }
     requires at { IsWithin 3000000000000 stance.at }
     ensures { IfOk result (IsCourt stance side.now) }

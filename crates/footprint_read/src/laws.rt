@@ -5,9 +5,9 @@ ghost use Rattle.sexpr_read.specs.Tree.{Tree};
 ghost use Rattle.board_errors.specs.declared.errors.BoardError.{BoardError};
 ghost use Rattle.board_items.specs.declared.item.Item.{Item};
 ghost use Rattle.board_items.specs.Boards.{PlainBoard};
-ghost use Rattle.footprint_read.specs.FootprintOf.{Says};
+ghost use Rattle.footprint_read.specs.FootprintOf.{FootprintSays};
 
 /// A list says one thing: it gives these items, or this refusal.
 pub fn one_answer()
-    ensures { (board : PlainBoard) (unit : ℕ) (tree : Tree) (a b : Result (List Item) BoardError) → Says board unit tree a → Says board unit tree b → a ≡ b }
+    ensures { (board : PlainBoard) (unit : ℕ) (tree : Tree) (a b : Result (List Item) BoardError) → FootprintSays board unit tree a → FootprintSays board unit tree b → a ≡ b }
 {}

@@ -101,21 +101,21 @@ impl Figures {
 
 /// What was read of a courtyard.
 #[derive(Drop)]
-pub struct Side {
+pub struct CourtSide {
     /// It has a curve.
     pub curved: bool,
     pub figures: Figures,
     pub lines: Courses,
 }
 
-impl Side {
+impl CourtSide {
     ghost use Rattle.std.specs.Prelude.{◌≡◌};
     ghost use Rattle.footprint_read.specs.Courtyards.{empty_side, with_curve};
 
-    pub fn new(alloc: Global) -> Side
+    pub fn new(alloc: Global) -> CourtSide
         ensures { result ≡ empty_side }
     {
-        Side {
+        CourtSide {
             curved: false,
             figures: Figures::new(alloc),
             lines: Courses::new(alloc),
@@ -123,10 +123,10 @@ impl Side {
     }
 
     /// With a curve.
-    pub fn with_curve(self) -> Side
+    pub fn with_curve(self) -> CourtSide
         ensures { result ≡ with_curve self }
     {
-        Side {
+        CourtSide {
             curved: true,
             figures: self.figures,
             lines: self.lines,

@@ -11,7 +11,7 @@ abbrev pub edges_of : List Point → Part → List Seg
 edges_of corners p = between p.low p.high (outline corners)
 
 -- the part has edges of the outline, and its box holds them
-pub record IsPartOf (corners : List Point) (p : Part) : Type 0 where
+pub record IsRunOf (corners : List Point) (p : Part) : Type 0 where
   pub some : p.low < p.high
   pub within : p.high ≤ length corners
   pub hull : IsRunBox (edges_of corners p) p.bounds

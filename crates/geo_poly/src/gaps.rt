@@ -10,7 +10,7 @@ ghost use Rattle.geo_seg.specs.Inside.{path, outline, EachEdge};
 ghost use Rattle.geo_seg.specs.Runs.{IsRunBox};
 ghost use Rattle.geo_poly.specs.Outlines.{IsApart, EachApart};
 ghost use Rattle.geo_poly.specs.Runs.{between};
-ghost use Rattle.geo_poly.specs.Parts.{IsPartOf, edges_of};
+ghost use Rattle.geo_poly.specs.Parts.{IsRunOf, edges_of};
 
 use crate::edges::{before, path_gap};
 use crate::runs::{Part, part_of, whole};
@@ -103,8 +103,8 @@ fn paths_gap(
 }
 
 fn short_gap(a: &Poly, p: Part, b: &Poly, q: Part, most: i64) -> i64
-    requires first { IsPartOf a.now p }
-    requires second { IsPartOf b.now q }
+    requires first { IsRunOf a.now p }
+    requires second { IsRunOf b.now q }
     requires range { IsDistance most }
     ensures { IsGap (λ d. EachApart d (edges_of a.now p) (edges_of b.now q)) most result }
 {
@@ -122,8 +122,8 @@ fn short_gap(a: &Poly, p: Part, b: &Poly, q: Part, most: i64) -> i64
 
 // The same of each edge of the one part and each of the other.
 fn parts_gap(a: &Poly, p: Part, b: &Poly, q: Part, most: i64) -> i64
-    requires first { IsPartOf a.now p }
-    requires second { IsPartOf b.now q }
+    requires first { IsRunOf a.now p }
+    requires second { IsRunOf b.now q }
     requires range { IsDistance most }
     ensures { IsGap (λ d. EachApart d (edges_of a.now p) (edges_of b.now q)) most result }
 {

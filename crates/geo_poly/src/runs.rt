@@ -7,7 +7,7 @@ ghost use Rattle.geo_seg.specs.Inside.{path, outline, EachEdge, SomeEdge};
 ghost use Rattle.geo_seg.specs.Runs.{IsRunBox};
 ghost use Rattle.geo_poly.specs.Outlines.{IsApart, IsReached, EachApart, SomeReached};
 ghost use Rattle.geo_poly.specs.Runs.{between};
-ghost use Rattle.geo_poly.specs.Parts.{IsPartOf, edges_of};
+ghost use Rattle.geo_poly.specs.Parts.{IsRunOf, edges_of};
 
 use crate::edges::{before, path_apart, path_within};
 use crate::walks::end;
@@ -46,7 +46,7 @@ pub(crate) fn part_of(poly: &Poly, low: usize, high: usize, size: usize) -> Part
     ensures low { result.low ≡ low }
     ensures high { result.high ≡ high }
     ensures size { result.size ≡ size }
-    ensures part { IsPartOf poly.now result }
+    ensures part { IsRunOf poly.now result }
 {
     Part {
         low,
@@ -80,7 +80,7 @@ fn first_size(all: usize) -> usize {
 
 // The whole outline.
 pub(crate) fn whole(poly: &Poly) -> Part
-    ensures part { IsPartOf poly.now result }
+    ensures part { IsRunOf poly.now result }
     ensures whole { edges_of poly.now result ≡ outline poly.now }
 {
     let all = poly.corners().len();
@@ -126,8 +126,8 @@ fn far_apart(from: Point, part: &[Point], far: Bounds, s: Seg, d: i64) -> bool
 }
 
 fn short_apart(a: &Poly, p: Part, b: &Poly, q: Part, d: i64) -> bool
-    requires first { IsPartOf a.now p }
-    requires second { IsPartOf b.now q }
+    requires first { IsRunOf a.now p }
+    requires second { IsRunOf b.now q }
     requires range { IsDistance d }
     ensures { IsTrue result ↔ EachApart d (edges_of a.now p) (edges_of b.now q) }
 {
@@ -145,8 +145,8 @@ fn short_apart(a: &Poly, p: Part, b: &Poly, q: Part, d: i64) -> bool
 
 // Whether each edge of the one part is apart from each of the other.
 fn parts_apart(a: &Poly, p: Part, b: &Poly, q: Part, d: i64) -> bool
-    requires first { IsPartOf a.now p }
-    requires second { IsPartOf b.now q }
+    requires first { IsRunOf a.now p }
+    requires second { IsRunOf b.now q }
     requires range { IsDistance d }
     ensures { IsTrue result ↔ EachApart d (edges_of a.now p) (edges_of b.now q) }
 {
@@ -220,8 +220,8 @@ fn far_within(from: Point, part: &[Point], far: Bounds, s: Seg, d: i64) -> bool
 }
 
 fn short_within(a: &Poly, p: Part, b: &Poly, q: Part, d: i64) -> bool
-    requires first { IsPartOf a.now p }
-    requires second { IsPartOf b.now q }
+    requires first { IsRunOf a.now p }
+    requires second { IsRunOf b.now q }
     requires range { IsDistance d }
     ensures { IsTrue result ↔ SomeReached d (edges_of a.now p) (edges_of b.now q) }
 {
@@ -239,8 +239,8 @@ fn short_within(a: &Poly, p: Part, b: &Poly, q: Part, d: i64) -> bool
 
 // Whether some edge of the one part is within d of some of the other.
 fn parts_within(a: &Poly, p: Part, b: &Poly, q: Part, d: i64) -> bool
-    requires first { IsPartOf a.now p }
-    requires second { IsPartOf b.now q }
+    requires first { IsRunOf a.now p }
+    requires second { IsRunOf b.now q }
     requires range { IsDistance d }
     ensures { IsTrue result ↔ SomeReached d (edges_of a.now p) (edges_of b.now q) }
 {

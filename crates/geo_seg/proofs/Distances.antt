@@ -4,7 +4,7 @@ use Rattle.std.proofs.lemmas.Int.{ints}
 use Rattle.int_algebra.proofs.Ring.{ring, var, sq, ◌⊕◌, ◌⊖◌, ◌⊗◌}
 use Rattle.int_algebra.proofs.Order.{le_by, lt_by, le_gap, lt_gap, lt_le_trans, le_lt_trans, product-nonneg, product-pos, sum-nonneg, square-nonneg}
 use Rattle.geo_seg.specs.Points.{Spot}
-use Rattle.geo_seg.specs.Nearer.{square, squared_gap, squared_limit, IsNearer, IsWithin, AreApart, AreWithin}
+use Rattle.geo_seg.specs.Nearer.{square, squared_gap, squared_limit, IsNearer, IsAtMost, AreApart, AreWithin}
 
 limit_le : (d e v w : ℤ) → pos 0 ≤ℤ d → d ≤ℤ e → square (d *ℤ v *ℤ w) ≤ℤ square (e *ℤ v *ℤ w)
 limit_le d e v w hd h =
@@ -26,7 +26,7 @@ limit_lt d e v w hd h hv hw =
 pub nearer_more : (d e : ℤ) (p q : Spot) → pos 0 ≤ℤ d → d ≤ℤ e → IsNearer d p q → IsNearer e p q
 nearer_more d e p q hd h n = lt_le_trans (squared_gap p q) (squared_limit d p q) (squared_limit e p q) n (limit_le d e p.w q.w hd h)
 
-pub within_nearer : (d e : ℤ) (p q : Spot) → pos 0 ≤ℤ d → d <ℤ e → IsWithin d p q → IsNearer e p q
+pub within_nearer : (d e : ℤ) (p q : Spot) → pos 0 ≤ℤ d → d <ℤ e → IsAtMost d p q → IsNearer e p q
 within_nearer d e p q hd h n = le_lt_trans (squared_gap p q) (squared_limit d p q) (squared_limit e p q) n (limit_lt d e p.w q.w hd h p.positive q.positive)
 
 pub apart_less : (P Q : Spot → Type 0) (d e : ℤ) → pos 0 ≤ℤ d → d ≤ℤ e → AreApart P Q e → AreApart P Q d

@@ -29,8 +29,8 @@ abbrev pub IsNearer : ℤ → Spot → Spot → Type 0
 IsNearer d p q = squared_gap p q <ℤ squared_limit d p q
 
 -- p and q are at most d apart
-abbrev pub IsWithin : ℤ → Spot → Spot → Type 0
-IsWithin d p q = squared_gap p q ≤ℤ squared_limit d p q
+abbrev pub IsAtMost : ℤ → Spot → Spot → Type 0
+IsAtMost d p q = squared_gap p q ≤ℤ squared_limit d p q
 
 -- no point of P and point of Q are nearer to each other than d
 pub record AreApart (P Q : Spot → Type 0) (d : ℤ) : Type 0 where
@@ -42,7 +42,7 @@ pub record AreWithin (P Q : Spot → Type 0) (d : ℤ) : Type 0 where
   pub to : Spot
   pub of_first : P from
   pub of_second : Q to
-  pub within : IsWithin d from to
+  pub within : IsAtMost d from to
 
 -- P and Q share a point
 pub record DoMeet (P Q : Spot → Type 0) : Type 0 where

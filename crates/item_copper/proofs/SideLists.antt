@@ -5,8 +5,8 @@ use Rattle.std.proofs.lemmas.List.Elements.{All-nil, All-cons, All-head, All-tai
 use Rattle.geo_seg.specs.Distances.{Meet, IsGap}
 use Rattle.board_items.specs.declared.parts.Part.{Part}
 use Rattle.board_items.specs.Copper.{SomeMeet}
-use Rattle.item_copper.specs.declared.side.Side.{Side}
-use Rattle.item_copper.specs.declared.side.Side.TheVariants.{Listed, Single}
+use Rattle.item_copper.specs.declared.side.SomeParts.{SomeParts}
+use Rattle.item_copper.specs.declared.side.SomeParts.TheVariants.{Listed, Single}
 use Rattle.item_copper.specs.declared.side.ListedParts.{ListedParts}
 use Rattle.item_copper.specs.declared.side.SinglePart.{SinglePart}
 use Rattle.item_copper.specs.Sides.{is_taken, taken, parts_at}
@@ -26,10 +26,10 @@ listed_parts l = filter (is_taken l.layer) l.parts.now
 abbrev pub single_part : SinglePart → Part
 single_part s = record { layers = s.layers; shape = s.shape.now }
 
-pub of_listed : (side : Side) (l : ListedParts) → side ≡ Listed l → listed_parts l ≡ parts_at side
+pub of_listed : (side : SomeParts) (l : ListedParts) → side ≡ Listed l → listed_parts l ≡ parts_at side
 of_listed side l e = taken_is l.layer l.parts.now ∙ sym (ap parts_at e)
 
-pub of_single : (side : Side) (s : SinglePart) → side ≡ Single s → single_part s ∷ [] ≡ parts_at side
+pub of_single : (side : SomeParts) (s : SinglePart) → side ≡ Single s → single_part s ∷ [] ≡ parts_at side
 of_single side s e = sym (ap parts_at e)
 
 -- ---- lists of one

@@ -4,7 +4,7 @@ use Rattle.std.proofs.lemmas.Int.{ints}
 use Rattle.int_algebra.proofs.Ring.{var, ◌⊕◌, ◌⊖◌, ◌⊗◌, sq, ring}
 use Rattle.geo_seg.specs.declared.shapes.Shape.{Shape}
 use Rattle.geo_seg.specs.Points.{Spot}
-use Rattle.geo_seg.specs.Nearer.{squared_gap, squared_limit, IsWithin}
+use Rattle.geo_seg.specs.Nearer.{squared_gap, squared_limit, IsAtMost}
 use Rattle.geo_seg.specs.Distances.{Meet}
 use Rattle.board_items.specs.declared.item.Item.{Item}
 use Rattle.board_items.specs.Copper.{CopperMeets}
@@ -17,7 +17,7 @@ gap_sym p q =
 limit_sym : (d : ℤ) (p q : Spot) → squared_limit d p q ≡ squared_limit d q p
 limit_sym d p q = ring (d ∷ p.w ∷ q.w ∷ []) (sq (var 0 ⊗ var 1 ⊗ var 2)) (sq (var 0 ⊗ var 2 ⊗ var 1)) tt
 
-within_sym : (d : ℤ) (p q : Spot) → IsWithin d p q → IsWithin d q p
+within_sym : (d : ℤ) (p q : Spot) → IsAtMost d p q → IsAtMost d q p
 within_sym d p q n = along (squared_gap p q) (squared_gap q p) (squared_limit d p q) (squared_limit d q p) (gap_sym p q) (limit_sym d p q) n
   where
     along : (a a' b b' : ℤ) → a ≡ a' → b ≡ b' → a ≤ℤ b → a' ≤ℤ b'
@@ -29,7 +29,7 @@ meet_back s t m = record {
   to = m.from;
   of_first = m.of_second;
   of_second = m.of_first;
-  within = subst (λ (d : ℤ). IsWithin d m.to m.from) (swapped s.radius t.radius) (within_sym (s.radius +ℤ t.radius) m.from m.to m.within);
+  within = subst (λ (d : ℤ). IsAtMost d m.to m.from) (swapped s.radius t.radius) (within_sym (s.radius +ℤ t.radius) m.from m.to m.within);
 }
   where
     swapped : (r q : ℤ) → r +ℤ q ≡ q +ℤ r

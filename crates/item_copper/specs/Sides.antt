@@ -3,8 +3,8 @@ use Rattle.std.specs.Prelude.{ℕ, Bool, true, List, [], ◌∷◌, Option, None
 use Rattle.board_items.specs.declared.parts.Part.{Part}
 use Rattle.copper_layers.specs.Layers.{has_layer}
 use Rattle.board_items.specs.Copper.{on_layer}
-use Rattle.item_copper.specs.declared.side.Side.{Side}
-use Rattle.item_copper.specs.declared.side.Side.TheVariants.{Nothing, Listed, Single}
+use Rattle.item_copper.specs.declared.side.SomeParts.{SomeParts}
+use Rattle.item_copper.specs.declared.side.SomeParts.TheVariants.{Nothing, Listed, Single}
 
 -- whether a part is taken: each, or one that lies on the layer
 abbrev pub is_taken : Option ℕ → Part → Bool
@@ -17,7 +17,7 @@ taken None parts = parts
 taken (Some layer) parts = on_layer layer parts
 
 -- the parts of a side
-abbrev pub parts_at : Side → List Part
+abbrev pub parts_at : SomeParts → List Part
 parts_at Nothing = []
 parts_at (Listed listed) = taken listed.layer listed.parts.now
 parts_at (Single single) = record { layers = single.layers; shape = single.shape.now } ∷ []

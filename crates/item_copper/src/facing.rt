@@ -7,7 +7,7 @@ ghost use Rattle.geo_seg.specs.Distances.{Apart, Meet, IsGap};
 ghost use Rattle.board_items.specs.Copper.{SomeMeet, Keeps};
 ghost use Rattle.item_copper.specs.Sides.{is_taken, parts_at};
 
-use crate::side::{ListedParts, Side};
+use crate::side::{ListedParts, SomeParts};
 use board_items::{Nm, Part};
 use geo_seg::Shape;
 
@@ -34,13 +34,13 @@ fn lists_none(listed: &ListedParts<'_>) -> bool
 }
 
 /// Whether the side has no parts. Shapes are not looked at.
-pub fn is_empty(side: &Side<'_>) -> bool
+pub fn is_empty(side: &SomeParts<'_>) -> bool
     ensures { IsTrue result ↔ (parts_at side.now ≡ []) }
 {
     match side {
-        Side::Nothing => true,
-        Side::Listed(listed) => lists_none(listed),
-        Side::Single(_) => false,
+        SomeParts::Nothing => true,
+        SomeParts::Listed(listed) => lists_none(listed),
+        SomeParts::Single(_) => false,
     }
 }
 
@@ -57,18 +57,18 @@ fn meets_listed(shape: &Shape, listed: &ListedParts<'_>) -> bool
 }
 
 // Whether the shape meets one of the side.
-fn meets_side(shape: &Shape, side: &Side<'_>) -> bool
+fn meets_side(shape: &Shape, side: &SomeParts<'_>) -> bool
     ensures { IsTrue result ↔ Any (λ other. Meet shape.now other.shape) (parts_at side.now) }
 {
     match side {
-        Side::Nothing => false,
-        Side::Listed(listed) => meets_listed(shape, listed),
-        Side::Single(single) => geo_shape::meet(shape, single.shape),
+        SomeParts::Nothing => false,
+        SomeParts::Listed(listed) => meets_listed(shape, listed),
+        SomeParts::Single(single) => geo_shape::meet(shape, single.shape),
     }
 }
 
 // Whether one of those that are listed meets one of the side.
-fn listed_meet(listed: &ListedParts<'_>, side: &Side<'_>) -> bool
+fn listed_meet(listed: &ListedParts<'_>, side: &SomeParts<'_>) -> bool
     ensures { IsTrue result ↔ Any (λ part. Any (λ other. Meet part.shape other.shape) (parts_at side.now)) (filter (is_taken listed.now.layer) listed.now.parts.now) }
 {
     for part in listed.parts {
@@ -80,13 +80,13 @@ fn listed_meet(listed: &ListedParts<'_>, side: &Side<'_>) -> bool
 }
 
 /// Whether some of the two sides touch or overlap.
-pub fn sides_meet(own: &Side<'_>, others: &Side<'_>) -> bool
+pub fn sides_meet(own: &SomeParts<'_>, others: &SomeParts<'_>) -> bool
     ensures { IsTrue result ↔ SomeMeet (parts_at own.now) (parts_at others.now) }
 {
     match own {
-        Side::Nothing => false,
-        Side::Listed(listed) => listed_meet(listed, others),
-        Side::Single(single) => meets_side(single.shape, others),
+        SomeParts::Nothing => false,
+        SomeParts::Listed(listed) => listed_meet(listed, others),
+        SomeParts::Single(single) => meets_side(single.shape, others),
     }
 }
 
@@ -117,19 +117,19 @@ fn gap_to_listed(shape: &Shape, listed: &ListedParts<'_>, most: Nm) -> Nm
 }
 
 // The gap between the shape and the side.
-fn gap_to_side(shape: &Shape, side: &Side<'_>, most: Nm) -> Nm
+fn gap_to_side(shape: &Shape, side: &SomeParts<'_>, most: Nm) -> Nm
     requires { IsLength most }
     ensures { IsGap (λ g. All (λ other. Apart shape.now other.shape (pos 2 *ℤ g)) (parts_at side.now)) most result }
 {
     match side {
-        Side::Nothing => most,
-        Side::Listed(listed) => gap_to_listed(shape, listed, most),
-        Side::Single(single) => shape_gap(shape, single.shape, most),
+        SomeParts::Nothing => most,
+        SomeParts::Listed(listed) => gap_to_listed(shape, listed, most),
+        SomeParts::Single(single) => shape_gap(shape, single.shape, most),
     }
 }
 
 // The gap between those that are listed and the side.
-fn listed_gap(listed: &ListedParts<'_>, side: &Side<'_>, most: Nm) -> Nm
+fn listed_gap(listed: &ListedParts<'_>, side: &SomeParts<'_>, most: Nm) -> Nm
     requires { IsLength most }
     ensures { IsGap (λ g. All (λ part. All (λ other. Apart part.shape other.shape (pos 2 *ℤ g)) (parts_at side.now)) (filter (is_taken listed.now.layer) listed.now.parts.now)) most result }
 {
@@ -143,13 +143,13 @@ fn listed_gap(listed: &ListedParts<'_>, side: &Side<'_>, most: Nm) -> Nm
 }
 
 /// The greatest whole number of nanometres from 1 to `most` that the two sides keep, or 0.
-pub fn sides_gap(own: &Side<'_>, others: &Side<'_>, most: Nm) -> Nm
+pub fn sides_gap(own: &SomeParts<'_>, others: &SomeParts<'_>, most: Nm) -> Nm
     requires { IsLength most }
     ensures { IsGap (Keeps (parts_at own.now) (parts_at others.now)) most result }
 {
     match own {
-        Side::Nothing => most,
-        Side::Listed(listed) => listed_gap(listed, others, most),
-        Side::Single(single) => gap_to_side(single.shape, others, most),
+        SomeParts::Nothing => most,
+        SomeParts::Listed(listed) => listed_gap(listed, others, most),
+        SomeParts::Single(single) => gap_to_side(single.shape, others, most),
     }
 }

@@ -11,5 +11,5 @@ mod touch;
 
 pub use facing::{is_empty, sides_gap, sides_meet};
 pub use layers::share_layer;
-pub use side::{ListedParts, Side, SinglePart};
+pub use side::{ListedParts, SinglePart, SomeParts};
 pub use touch::{copper_meets, touches};

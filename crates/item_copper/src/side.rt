@@ -24,7 +24,7 @@ pub struct SinglePart<'a> {
 
 /// Some parts of an item. Contracts see them as a list.
 #[derive(Clone, Copy)]
-pub enum Side<'a> {
+pub enum SomeParts<'a> {
     Nothing,
     Listed(ListedParts<'a>),
     Single(SinglePart<'a>),

@@ -8,13 +8,13 @@ use Rattle.geo_seg.specs.declared.boxes.Bounds.{Bounds}
 use Rattle.geo_seg.specs.Boxes.{FitsWithin, BoxesMeet, widened, do_boxes_meet, are_near}
 use Rattle.board_items.specs.declared.parts.Part.{Part}
 use Rattle.board_items.specs.declared.item.Item.{Item}
-use Rattle.board_items.specs.Boards.{PlainBoard, IsSound as IsSoundBoard, item_at, is_mark, marks_of}
+use Rattle.board_items.specs.Boards.{PlainBoard, IsSound, item_at, is_mark, marks_of}
 use Rattle.board_items.specs.Parts.{parts_of}
 use Rattle.board_items.specs.Extents.{AreBoundsOf}
 use Rattle.box_index.specs.declared.area.Area.{Area}
 use Rattle.box_index.specs.declared.entry.Entry.{Entry}
 use Rattle.box_index.specs.Areas.{has_tile, end_of}
-use Rattle.box_index.specs.Tiles.{PlainIndex, IsSound, margin, meets_tile, near_of, is_in, owner_of}
+use Rattle.box_index.specs.Tiles.{PlainIndex, IsSoundIndex, margin, meets_tile, near_of, is_in, owner_of}
 use Rattle.box_index.proofs.Buckets.{contains_filter}
 use Rattle.box_index.proofs.TileLemmas.{owns_both}
 use Rattle.item_facts.specs.Near.{DoRise, HasMet, HasReached, IsWalked, IsNear, is_mark_of, HoldsMarks, AreEnough}
@@ -80,7 +80,7 @@ module _ (index : PlainIndex) (area : Area) (box : Bounds) (old : List ℕ) wher
       ]
 
   -- each entry whose box meets this one was met in the tile that answers for the two
-  pub walk_done : (ids : List ℕ) (here : ℕ) → IsWalked index area box old ids here → IsSound index → FitsWithin (pos 2000000000) box
+  pub walk_done : (ids : List ℕ) (here : ℕ) → IsWalked index area box old ids here → IsSoundIndex index → FitsWithin (pos 2000000000) box
       → ((tile : ℕ) → has_tile area tile ≡ meets_tile (widened box (margin index)) tile) → ((tile : ℕ) → here ≤ tile → has_tile area tile ≡ false) → HasReached box index.entries old ids
   walk_done ids here w sound fits tiles past = record { kept = w.kept; met = met }
     where
@@ -119,7 +119,7 @@ module _ (items : List (ℕ × Item)) (index : PlainIndex) (holds : HoldsMarks i
   enough = near_enough items item kept (do_rise kept rise) among
 
 -- all areas and bodies of the board are enough for each item
-pub all_enough : (board : PlainBoard) → IsSoundBoard board → (item : Item) → AreEnough item board.items (marks_of board.items)
+pub all_enough : (board : PlainBoard) → IsSound board → (item : Item) → AreEnough item board.items (marks_of board.items)
 all_enough board sound item =
     near_enough board.items item (marks_of board.items) (ids_rise (λ (i : Item). is_mark i.what) 0 board.next_id board.items sound.ids)
     (λ id other found near. ids_has (λ (i : Item). is_mark i.what) board.items id other found near.mark)

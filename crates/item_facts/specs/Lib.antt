@@ -3,4 +3,3 @@ pub mod Raised
 pub mod Near
 pub mod Known
 pub mod Same
-pub mod Nets

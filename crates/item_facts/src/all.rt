@@ -1,24 +1,20 @@
 //! The facts of items.
 
 ghost use Rattle.std.specs.Prelude.{◌≡◌, IfOk, OnOk, IsSome};
-ghost use Rattle.std.specs.Option.{option_copied};
-ghost use Rattle.board_items.specs.Boards.{IsSound, marks_of, item_at, name_of};
+ghost use Rattle.board_items.specs.Boards.{IsSound, marks_of, item_at};
 ghost use Rattle.net_class.specs.Classes.{PlainClasses};
 ghost use Rattle.net_class.specs.Views.{plain_class};
 ghost use Rattle.rule_pick.specs.FactsOf.{AreFactsOf, AreFacts, class_of_net};
 ghost use Rattle.rule_pick.specs.AllFacts.{HasFacts};
 ghost use Rattle.item_facts.specs.Known.{AreKnown};
 ghost use Rattle.item_facts.specs.Near.{AreEnough, HoldsMarks};
-ghost use Rattle.item_facts.specs.Nets.{AreNets};
 
 use crate::classes::class_of_net;
 use crate::names::{areas_near, courtyards_near};
 use crate::near::{index_marks, marks_near};
-use crate::nets::{Net, known_net, places};
 use crate::of_item::facts_with;
 use board_items::{Board, Item};
 use box_index::TileIndex;
-use drc_io::Name;
 use net_class::{Class, Classes};
 use rule_pick::{Facts, FactsById};
 use std::alloc::{AllocError, Global};
@@ -46,24 +42,6 @@ pub fn known_class<'c>(
     Ok(class)
 }
 
-// The facts of an item of a net of this class and name, where the ids are enough to ask.
-fn facts_named(
-    alloc: Global,
-    board: &Board,
-    class: &Class,
-    name: Option<&Name>,
-    item: &Item,
-    ids: &[u32],
-) -> Result<Facts, AllocError>
-    requires name { option_copied name ≡ name_of board.now item.now.net }
-    requires ids { AreEnough item.now board.now.items ids.now }
-    ensures { (classes : PlainClasses) → plain_class class.now ≡ class_of_net classes board.now item.now.net → IfOk result (λ facts. AreFactsOf board.now classes item.now facts) }
-{
-    let areas = areas_near(alloc, board, item, ids)?;
-    let courtyards = courtyards_near(alloc, board, item, ids)?;
-    facts_with(alloc, board, class, name, item, areas, courtyards)
-}
-
 /// The facts of an item of this class, where the ids are enough to ask for the areas and bodies that it meets. Only want of memory
 /// refuses it.
 pub fn facts_among(
@@ -76,7 +54,9 @@ pub fn facts_among(
     requires { AreEnough item.now board.now.items ids.now }
     ensures { (classes : PlainClasses) → plain_class class.now ≡ class_of_net classes board.now item.now.net → IfOk result (λ facts. AreFactsOf board.now classes item.now facts) }
 {
-    facts_named(alloc, board, class, board.net_name(item.net), item, ids)
+    let areas = areas_near(alloc, board, item, ids)?;
+    let courtyards = courtyards_near(alloc, board, item, ids)?;
+    facts_with(alloc, board, class, item, areas, courtyards)
 }
 
 /// The facts of an item, which is asked only against the areas and bodies near it. The index has all areas and bodies of the
@@ -133,32 +113,9 @@ pub fn facts(alloc: Global, board: &Board, classes: &Classes, id: u32) -> Result
     facts_of(alloc, board, classes, board.get(id).unwrap())
 }
 
-// How many items the board has, which may be more than are told where its ids run out.
-fn count_of(board: &Board) -> usize {
+// How many slots the facts of all items take, about: more where items were taken out.
+fn slots_of(board: &Board) -> usize {
     MOST_ITEMS.saturating_sub(board.left()) as usize
-}
-
-// The facts of an item, as `facts_near` gives them, of a net that is maybe remembered.
-fn facts_next<'c>(
-    alloc: Global,
-    board: &'c Board,
-    classes: &'c Classes,
-    index: &TileIndex,
-    places: &mut [Option<Net<'c>>],
-    known: &mut BTreeMap<u32, &'c Class>,
-    room: &mut Vec<u32>,
-    item: &Item,
-) -> Result<Facts, AllocError>
-    requires index { HoldsMarks board.now.items index.now }
-    requires places { AreNets classes.now board.now places.old }
-    requires known { AreKnown classes.now board.now known.old }
-    ensures places { OnOk result (AreNets classes.now board.now places.new) }
-    ensures known { OnOk result (AreKnown classes.now board.now known.new) }
-    ensures facts { IfOk result (AreFactsOf board.now classes.now item.now) }
-{
-    let net = known_net(places, known, board, classes, item.net)?;
-    marks_near(board, index, item, room)?;
-    facts_named(alloc, board, net.class, net.name, item, room)
 }
 
 /// The facts of all items of the board, by id. Each is asked only against the areas and bodies near it, and the class of each
@@ -168,20 +125,10 @@ pub fn all_facts(alloc: Global, board: &Board, classes: &Classes) -> Result<Fact
 {
     let index = index_marks(alloc, board)?;
     let mut known = BTreeMap::new(alloc);
-    let mut places = places(alloc, count_of(board))?;
     let mut room = Vec::new(alloc);
-    let mut all = FactsById::with_room(alloc, count_of(board))?;
+    let mut all = FactsById::with_room(alloc, slots_of(board))?;
     for (id, item) in board.iter() {
-        let facts = facts_next(
-            alloc,
-            board,
-            classes,
-            &index,
-            &mut places,
-            &mut known,
-            &mut room,
-            item,
-        )?;
+        let facts = facts_near(alloc, board, classes, &index, &mut known, &mut room, item)?;
         all.insert(id, facts)?;
     }
     Ok(all)

@@ -13,7 +13,6 @@ mod lengths;
 mod meets;
 mod names;
 mod near;
-mod nets;
 mod of_item;
 mod reaching;
 

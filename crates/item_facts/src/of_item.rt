@@ -1,7 +1,6 @@
 //! The facts of an item.
 
 ghost use Rattle.std.specs.Prelude.{◌≡◌, [], unwrap_or, IfOk};
-ghost use Rattle.std.specs.Option.{option_copied};
 ghost use Rattle.board_items.specs.Boards.{name_of};
 ghost use Rattle.net_class.specs.Classes.{PlainClasses};
 ghost use Rattle.net_class.specs.Views.{plain_class};
@@ -17,27 +16,25 @@ use net_class::Class;
 use rule_pick::{Facts, Names};
 use std::alloc::{AllocError, Global};
 
-// An equal name, or an empty one.
-fn name_or_empty(alloc: Global, name: Option<&Name>) -> Result<Name, AllocError>
-    ensures { IfOk result (λ copy. copy ≡ unwrap_or (option_copied name.entry) []) }
+// The name of a net; empty where it was not declared.
+fn net_name(alloc: Global, board: &Board, net: u32) -> Result<Name, AllocError>
+    ensures { IfOk result (λ name. name ≡ unwrap_or (name_of board.now net) []) }
 {
-    match name {
+    match board.net_name(net) {
         None => Ok(Name::of(Vec::new(alloc))),
         Some(name) => Ok(name.copy()?),
     }
 }
 
-// The facts of an item of a net of this class and name that meets these areas and courtyards.
+// The facts of an item of this class that meets these areas and courtyards.
 pub(crate) fn facts_with(
     alloc: Global,
     board: &Board,
     class: &Class,
-    name: Option<&Name>,
     item: &Item,
     areas: Names,
     courtyards: Names,
 ) -> Result<Facts, AllocError>
-    requires name { option_copied name ≡ name_of board.now item.now.net }
     requires areas { AreNamesOf (MeetsArea item.now) board.now.items areas }
     requires courtyards { AreNamesOf (MeetsCourtyard item.now) board.now.items courtyards }
     ensures { (classes : PlainClasses) → plain_class class.now ≡ class_of_net classes board.now item.now.net → IfOk result (λ facts. AreFactsOf board.now classes item.now facts) }
@@ -45,7 +42,7 @@ pub(crate) fn facts_with(
     Ok(Facts {
         kind: kind_of(&item.what),
         class: class.name.copy()?,
-        net_name: name_or_empty(alloc, name)?,
+        net_name: net_name(alloc, board, item.net)?,
         width: width_of(item),
         diameter: diameter_of(item),
         hole: hole_of(item),

@@ -3,7 +3,7 @@ use Rattle.std.proofs.Common.{◌≡◌, ◌≢◌, ℕ, ◌<◌, ◌≤◌, Lis
 use Rattle.std.proofs.lemmas.Bool.{or_cases, or_parts, and_parts, and_from, eqb-true, eqb-false, leb-true, le-leb, ne_eqb, both_ways}
 use Rattle.std.specs.Prelude.{◌==◌}
 use Rattle.json_exact.specs.Characters.{within}
-use Rattle.json_exact.specs.Numbers.{is_digit, AreDigits, IsWhole, IsFraction, is_mark, IsSign, IsExponent, IsNumber}
+use Rattle.json_exact.specs.Numbers.{is_digit, AreDigits, IsWholePart, IsFraction, is_mark, IsSign, IsExponent, IsNumber}
 use Rattle.json_exact.specs.Scans.{is_sign, is_in_number, then, written, may_end}
 use Rattle.json_exact.specs.declared.scan.Last.{Last}
 use Rattle.json_exact.specs.declared.scan.Last.TheVariants.{Nothing, Minus, Zero, Whole, Point, Fraction, Mark, Sign, Exponent, Misplaced}
@@ -121,7 +121,7 @@ not_zero b e h =
     and_from (leb 49 b) (leb b 57) (le-leb 49 b low') both.1
 
 abbrev Unsigned : List ℕ → Type 0
-Unsigned t = (w f e : List ℕ) × IsWhole w × IsFraction f × IsExponent e × (t ≡ w ++ (f ++ e))
+Unsigned t = (w f e : List ℕ) × IsWholePart w × IsFraction f × IsExponent e × (t ≡ w ++ (f ++ e))
 
 unsigned : (b : ℕ) (t : List ℕ) → may_end (written (cond (b == 48) Zero (cond (is_digit b) Whole Misplaced)) t) ≡ true → Unsigned (b ∷ t)
 unsigned b t h =
@@ -195,7 +195,7 @@ whole_digit_is d h =
     let low' : 48 ≤ d = omega arith in
     and_from (leb 48 d) (leb d 57) (le-leb 48 d low') both.1
 
-with_whole : (s : Last) → then s 48 ≡ Zero → ((d : ℕ) → within 49 57 d ≡ true → then s d ≡ Whole) → (w f e : List ℕ) → IsWhole w → IsFraction f → IsExponent e → may_end (written s (w ++ (f ++ e))) ≡ true
+with_whole : (s : Last) → then s 48 ≡ Zero → ((d : ℕ) → within 49 57 d ≡ true → then s d ≡ Whole) → (w f e : List ℕ) → IsWholePart w → IsFraction f → IsExponent e → may_end (written s (w ++ (f ++ e))) ≡ true
 with_whole s z d w f e (inl k) x y =
     subst (λ (q : List ℕ). may_end (written s (q ++ (f ++ e))) ≡ true) (sym k) (ap (λ (l : Last). may_end (written l (f ++ e))) z ∙ with_fraction Zero refl refl refl refl f e x y)
 with_whole s z d w f e (inr k) x y =

@@ -15,8 +15,8 @@ abbrev pub IsMinus : List ℕ → Type 0
 IsMinus bytes = (bytes ≡ []) ⊎ (bytes ≡ 45 ∷ [])
 
 -- `0`, or digits of which the first is none
-abbrev pub IsWhole : List ℕ → Type 0
-IsWhole bytes = (bytes ≡ 48 ∷ []) ⊎ ((d : ℕ) × (ds : List ℕ) × IsTrue (within 49 57 d) × AreDigits ds × (bytes ≡ d ∷ ds))
+abbrev pub IsWholePart : List ℕ → Type 0
+IsWholePart bytes = (bytes ≡ 48 ∷ []) ⊎ ((d : ℕ) × (ds : List ℕ) × IsTrue (within 49 57 d) × AreDigits ds × (bytes ≡ d ∷ ds))
 
 -- `.` and digits, or nothing
 abbrev pub IsFraction : List ℕ → Type 0
@@ -38,5 +38,5 @@ IsExponent bytes =
 
 abbrev pub IsNumber : List ℕ → Type 0
 IsNumber bytes =
-    (minus whole fraction exponent : List ℕ) × IsMinus minus × IsWhole whole × IsFraction fraction × IsExponent exponent
+    (minus whole fraction exponent : List ℕ) × IsMinus minus × IsWholePart whole × IsFraction fraction × IsExponent exponent
     × (bytes ≡ minus ++ (whole ++ (fraction ++ exponent)))

@@ -13,7 +13,7 @@ use Rattle.board_items.specs.Boards.{PlainBoard, item_at}
 use Rattle.board_items.specs.Extents.{AreBoundsOf}
 use Rattle.board_items.specs.Parts.{parts_of}
 use Rattle.board_index.specs.Holding.{HoldsItems}
-use Rattle.box_index.specs.Reached.{HasReached, AreInOrder}
+use Rattle.box_index.specs.Reached.{HasReached, AreSorted}
 use Rattle.box_index.specs.Tiles.{PlainIndex}
 use Rattle.rule_pick.specs.FactsOf.{MeetsArea, MeetsCourtyard}
 use Rattle.item_facts.specs.Near.{IsNear, HoldsMarks}
@@ -170,7 +170,7 @@ module _ (board : PlainBoard) (near : List ℕ) (before now : Option Item) where
 -- ---- all items that one area or body concerns
 
 pub concerned : (board : PlainBoard) (index : PlainIndex) → HoldsItems board index → (before now : Option Item) (none first second near old new : List ℕ)
-    → HasNear index before none first → HasNear index now first second → AreInOrder second near → HasOthers board near before now old new → HasConcerned board before now old new
+    → HasNear index before none first → HasNear index now first second → AreSorted second near → HasOthers board near before now old new → HasConcerned board before now old new
 concerned board index holds before now none first second near old new p q order o = record { kept = o.kept; others = others }
   where
     others : (id : ℕ) (item : Item) → item_at board.items id ≡ Some item → Contains new id ⊎ GiveSame item before now

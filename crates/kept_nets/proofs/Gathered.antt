@@ -3,9 +3,9 @@ use Rattle.std.proofs.Common.{◌≡◌, ◌≢◌, refl, sym, ap, subst, ◌∙
 use Rattle.std.specs.List.{AllZip}
 use Rattle.std.proofs.lemmas.Bool.{ne_eqb}
 use Rattle.board_items.specs.Boards.{PlainBoard}
-use Rattle.net_groups.specs.NetParts.{NetPart}
+use Rattle.net_groups.specs.NetParts.{PlainNetPart}
 use Rattle.kept_nets.specs.declared.works.Work.{Work}
-use Rattle.net_groups.specs.NetParts.{IsPartOf, real_nets}
+use Rattle.net_groups.specs.NetParts.{IsNetPart, real_nets}
 use Rattle.kept_nets.specs.Works.{AreFound}
 
 -- of these nets the numbers that are not 0
@@ -55,15 +55,15 @@ zip_of R (x ∷ xs) (y ∷ ys) long each = (each 0 x y (omega arith), zip_of R x
 
 -- a work is found again with its part, or without one
 abbrev IsSameWork : PlainBoard → Work → Work → Type 0
-IsSameWork board work after = IfSome after.part (IsPartOf board work.net)
+IsSameWork board work after = IfSome after.part (IsNetPart board work.net)
 
-joined : (board : PlainBoard) (works after : List Work) (parts : List NetPart) → AllZip (IsSameWork board) works after → AllZip (λ (work : Work) (part : NetPart). work.part ≡ Some part) after parts → AllZip (IsPartOf board) (nets_of works) parts
+joined : (board : PlainBoard) (works after : List Work) (parts : List PlainNetPart) → AllZip (IsSameWork board) works after → AllZip (λ (work : Work) (part : PlainNetPart). work.part ≡ Some part) after parts → AllZip (IsNetPart board) (nets_of works) parts
 joined board [] [] [] h k = tt
 joined board [] [] (p ∷ ps) h k = absurd k
 joined board [] (a ∷ ss) ps h k = absurd h
 joined board (w ∷ ws) [] ps h k = absurd h
 joined board (w ∷ ws) (a ∷ ss) [] h k = absurd k
-joined board (w ∷ ws) (a ∷ ss) (p ∷ ps) h k = (subst (λ o. IfSome o (IsPartOf board w.net)) k.0 h.0, joined board ws ss ps h.1 k.1)
+joined board (w ∷ ws) (a ∷ ss) (p ∷ ps) h k = (subst (λ o. IfSome o (IsNetPart board w.net)) k.0 h.0, joined board ws ss ps h.1 k.1)
 
 -- a place of a list, at any default
 at_any : (xs : List Work) (j : ℕ) (d e : Work) → j < length xs → get_or xs j d ≡ get_or xs j e
@@ -72,8 +72,8 @@ at_any (x ∷ xs) zero d e lt = refl
 at_any (x ∷ xs) (suc j) d e lt = at_any xs j d e (omega arith)
 
 -- the parts that the works found are those of their nets
-pub gathered : (board : PlainBoard) (works after : List Work) (parts : List NetPart) → AreFound board works after → AllZip (λ (work : Work) (part : NetPart). work.part ≡ Some part) after parts → AllZip (IsPartOf board) (nets_of works) parts
+pub gathered : (board : PlainBoard) (works after : List Work) (parts : List PlainNetPart) → AreFound board works after → AllZip (λ (work : Work) (part : PlainNetPart). work.part ≡ Some part) after parts → AllZip (IsNetPart board) (nets_of works) parts
 gathered board works after parts f k =
     joined board works after parts
-    (zip_of (IsSameWork board) works after f.long (λ j d e lt. subst (λ (w : Work). IfSome w.part (IsPartOf board (get_or works j d).net)) (at_any after j d e (omega (arith, f.long))) (f.each j d lt).2))
+    (zip_of (IsSameWork board) works after f.long (λ j d e lt. subst (λ (w : Work). IfSome w.part (IsNetPart board (get_or works j d).net)) (at_any after j d e (omega (arith, f.long))) (f.each j d lt).2))
     k

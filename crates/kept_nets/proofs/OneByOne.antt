@@ -4,7 +4,7 @@ use Rattle.std.specs.Prelude.{IfSome}
 use Rattle.std.proofs.lemmas.Bool.{cases_eq}
 use Rattle.std.proofs.lemmas.List.{length-set, get_or_default, get_or-set_same, get_or-set_other}
 use Rattle.board_items.specs.Boards.{PlainBoard}
-use Rattle.net_groups.specs.NetParts.{IsPartOf}
+use Rattle.net_groups.specs.NetParts.{IsNetPart}
 use Rattle.kept_nets.specs.declared.works.Work.{Work}
 use Rattle.kept_nets.specs.Works.{AreFound, AreFoundUpTo}
 
@@ -13,7 +13,7 @@ none_yet board works = record { long = refl; found = λ j d l m. absurd (omega a
 
 -- the next work has found its part
 pub one_more : (board : PlainBoard) (count : ℕ) (works after : List Work) (was now : Work) → AreFoundUpTo board count works after → count < length after → was ≡ slice_index_or after count was
-    → now.place ≡ was.place → now.net ≡ was.net → IfSome now.part (IsPartOf board was.net) → AreFoundUpTo board (count + 1) works (set after count now)
+    → now.place ≡ was.place → now.net ≡ was.net → IfSome now.part (IsNetPart board was.net) → AreFoundUpTo board (count + 1) works (set after count now)
 one_more board count works after was now h l at place net part = record {
   long = length-set after count now ∙ h.long;
   found = λ j d below within. by j d below within (cases_eq j count);
@@ -21,7 +21,7 @@ one_more board count works after was now h l at place net part = record {
 }
   where
     IsFoundAt : Work → Work → Type 0
-    IsFoundAt to from = (to.place ≡ from.place) × (to.net ≡ from.net) × IfSome to.part (IsPartOf board from.net)
+    IsFoundAt to from = (to.place ≡ from.place) × (to.net ≡ from.net) × IfSome to.part (IsNetPart board from.net)
 
     own : (d : Work) → IsFoundAt (slice_index_or (set after count now) count d) (slice_index_or works count d)
     own d =

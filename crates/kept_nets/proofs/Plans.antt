@@ -5,9 +5,9 @@ use Rattle.std.proofs.lemmas.List.{get_or_default, get_or-set_other, get_or-set_
 use Rattle.std.proofs.lemmas.List.Elements.{All-contains, All-push, All-weaker, Contains-append_left, Contains-push, Contains-push_cases, Contains-get_or}
 use Rattle.board_items.specs.Boards.{PlainBoard}
 use Rattle.board_laws.specs.Edits.{is_one_of}
-use Rattle.net_groups.specs.NetParts.{NetPart}
+use Rattle.net_groups.specs.NetParts.{PlainNetPart}
 use Rattle.kept_nets.specs.declared.works.Work.{Work}
-use Rattle.net_groups.specs.NetParts.{IsPartOf}
+use Rattle.net_groups.specs.NetParts.{IsNetPart}
 use Rattle.kept_nets.specs.Works.{IsDue, AreAt, AreWorksUpTo, AreFound, IsPlan}
 
 eq_or : (m k : ℕ) → (m ≡ k) ⊎ (m ≢ k)
@@ -33,38 +33,38 @@ all_front P works work all k d lt = All-contains P (works ++ work ∷ []) (get_o
 pub all_last : (P : Work → Type 0) (works : List Work) (work : Work) → All P (works ++ work ∷ []) → P work
 all_last P works work all = All-contains P (works ++ work ∷ []) work all (Contains-push works work)
 
-pub plan_done : (board : PlainBoard) (nets : List ℕ) (parts after : List NetPart) (works : List Work) (work : Work) (part : NetPart) → work.part ≡ Some part → after ≡ set parts work.place part → IsPlan board nets parts (works ++ work ∷ []) → IsPlan board nets after works
+pub plan_done : (board : PlainBoard) (nets : List ℕ) (parts after : List PlainNetPart) (works : List Work) (work : Work) (part : PlainNetPart) → work.part ≡ Some part → after ≡ set parts work.place part → IsPlan board nets parts (works ++ work ∷ []) → IsPlan board nets after works
 plan_done board nets parts after works work part found put plan = record {
   long = ap length put ∙ (length-set parts work.place part ∙ plan.long);
-  right = all_front (λ w. (w.place < length nets) × IfSome w.part (IsPartOf board (get_or nets w.place 0))) works work plan.right;
+  right = all_front (λ w. (w.place < length nets) × IfSome w.part (IsNetPart board (get_or nets w.place 0))) works work plan.right;
   due = λ k d lt. by_place k d lt (eq_or k work.place);
 }
   where
-    here : (work.place < length nets) × IfSome work.part (IsPartOf board (get_or nets work.place 0))
-    here = all_last (λ w. (w.place < length nets) × IfSome w.part (IsPartOf board (get_or nets w.place 0))) works work plan.right
+    here : (work.place < length nets) × IfSome work.part (IsNetPart board (get_or nets work.place 0))
+    here = all_last (λ w. (w.place < length nets) × IfSome w.part (IsNetPart board (get_or nets w.place 0))) works work plan.right
 
-    fresh : IsPartOf board (get_or nets work.place 0) part
-    fresh = subst (λ o. IfSome o (IsPartOf board (get_or nets work.place 0))) found here.1
+    fresh : IsNetPart board (get_or nets work.place 0) part
+    fresh = subst (λ o. IfSome o (IsNetPart board (get_or nets work.place 0))) found here.1
 
-    further : (k : ℕ) (d : NetPart) → k ≢ work.place → IsPartOf board (get_or nets k 0) (get_or parts k d) ⊎ IsDue (works ++ work ∷ []) k → IsPartOf board (get_or nets k 0) (get_or after k d) ⊎ IsDue works k
-    further k d other (inl p) = inl (subst (IsPartOf board (get_or nets k 0)) (sym (ap (λ (ps : List NetPart). get_or ps k d) put ∙ get_or-set_other parts work.place k part d other)) p)
+    further : (k : ℕ) (d : PlainNetPart) → k ≢ work.place → IsNetPart board (get_or nets k 0) (get_or parts k d) ⊎ IsDue (works ++ work ∷ []) k → IsNetPart board (get_or nets k 0) (get_or after k d) ⊎ IsDue works k
+    further k d other (inl p) = inl (subst (IsNetPart board (get_or nets k 0)) (sym (ap (λ (ps : List PlainNetPart). get_or ps k d) put ∙ get_or-set_other parts work.place k part d other)) p)
     further k d other (inr a) = left (any_left (λ w. w.place ≡ k) works work a)
       where
-        left : IsDue works k ⊎ (work.place ≡ k) → IsPartOf board (get_or nets k 0) (get_or after k d) ⊎ IsDue works k
+        left : IsDue works k ⊎ (work.place ≡ k) → IsNetPart board (get_or nets k 0) (get_or after k d) ⊎ IsDue works k
         left (inl q) = inr q
         left (inr e) = absurd (other (sym e))
 
-    by_place : (k : ℕ) (d : NetPart) → k < length nets → (k ≡ work.place) ⊎ (k ≢ work.place) → IsPartOf board (get_or nets k 0) (get_or after k d) ⊎ IsDue works k
+    by_place : (k : ℕ) (d : PlainNetPart) → k < length nets → (k ≡ work.place) ⊎ (k ≢ work.place) → IsNetPart board (get_or nets k 0) (get_or after k d) ⊎ IsDue works k
     by_place k d lt (inr other) = further k d other (plan.due k d lt)
     by_place k d lt (inl e) =
-        let there : get_or after work.place d ≡ part = ap (λ (ps : List NetPart). get_or ps work.place d) put ∙ get_or-set_same parts work.place part d (omega (arith, here.0, plan.long)) in
-        inl (subst (λ (n : ℕ). IsPartOf board (get_or nets n 0) (get_or after n d)) (sym e) (subst (IsPartOf board (get_or nets work.place 0)) (sym there) fresh))
+        let there : get_or after work.place d ≡ part = ap (λ (ps : List PlainNetPart). get_or ps work.place d) put ∙ get_or-set_same parts work.place part d (omega (arith, here.0, plan.long)) in
+        inl (subst (λ (n : ℕ). IsNetPart board (get_or nets n 0) (get_or after n d)) (sym e) (subst (IsNetPart board (get_or nets work.place 0)) (sym there) fresh))
 
 -- a plan with no work left is done
-pub plan_empty : (board : PlainBoard) (nets : List ℕ) (parts : List NetPart) → IsPlan board nets parts [] → AreAt board nets parts
+pub plan_empty : (board : PlainBoard) (nets : List ℕ) (parts : List PlainNetPart) → IsPlan board nets parts [] → AreAt board nets parts
 plan_empty board nets parts plan k d lt = by_due (plan.due k d lt)
   where
-    by_due : IsPartOf board (get_or nets k 0) (get_or parts k d) ⊎ IsDue [] k → IsPartOf board (get_or nets k 0) (get_or parts k d)
+    by_due : IsNetPart board (get_or nets k 0) (get_or parts k d) ⊎ IsDue [] k → IsNetPart board (get_or nets k 0) (get_or parts k d)
     by_due (inl p) = p
     by_due (inr a) = absurd (omega (arith, a.2))
 
@@ -93,8 +93,8 @@ module _ (nets touched : List ℕ) (place : ℕ) (works : List Work) (r : AreWor
       by_place k among (inr q) = absurd (free (subst (λ (n : ℕ). is_one_of touched (get_or nets n 0) ≡ true) q among))
 
 -- the works that were found and the parts that stay make a plan
-pub planned : (board : PlainBoard) (nets touched : List ℕ) (parts : List NetPart) (works found : List Work) → length parts ≡ length nets
-    → ((k : ℕ) (d : NetPart) → k < length nets → is_one_of touched (get_or nets k 0) ≡ false → IsPartOf board (get_or nets k 0) (get_or parts k d))
+pub planned : (board : PlainBoard) (nets touched : List ℕ) (parts : List PlainNetPart) (works found : List Work) → length parts ≡ length nets
+    → ((k : ℕ) (d : PlainNetPart) → k < length nets → is_one_of touched (get_or nets k 0) ≡ false → IsNetPart board (get_or nets k 0) (get_or parts k d))
     → AreWorksUpTo nets touched (length nets) works → AreFound board works found → IsPlan board nets parts found
 planned board nets touched parts works found long stay r f = record {
   long = long;
@@ -102,13 +102,13 @@ planned board nets touched parts works found long stay r f = record {
   due = λ k d lt. by_touch k d lt (is_one_of touched (get_or nets k 0)) refl;
 }
   where
-    right : All (λ w. (w.place < length nets) × IfSome w.part (IsPartOf board (get_or nets w.place 0))) found
+    right : All (λ w. (w.place < length nets) × IfSome w.part (IsNetPart board (get_or nets w.place 0))) found
     right k d lt =
         let below : k < length works = omega (arith, f.long) in
         let e = f.each k d below in
         let h = r.only k d below in
         let same : (get_or works k d).net ≡ get_or nets (get_or found k d).place 0 = h.1 ∙ ap (λ n. get_or nets n 0) (sym e.0) in
-        (omega (arith, h.0, e.0), subst (λ (net : ℕ). IfSome (get_or found k d).part (IsPartOf board net)) same e.2)
+        (omega (arith, h.0, e.0), subst (λ (net : ℕ). IfSome (get_or found k d).part (IsNetPart board net)) same e.2)
 
     due_of : (k : ℕ) → IsDue works k → IsDue found k
     due_of k a =
@@ -116,6 +116,6 @@ planned board nets touched parts works found long stay r f = record {
         let lt : a.0 < length found = omega (arith, a.2, f.long) in
         (a.0, get_or found a.0 a.1, lt, get_or_default found a.0 (get_or found a.0 a.1) a.1 lt, e.0 ∙ (ap (λ (w : Work). w.place) a.3 ∙ a.4))
 
-    by_touch : (k : ℕ) (d : NetPart) → k < length nets → (b : Bool) → is_one_of touched (get_or nets k 0) ≡ b → IsPartOf board (get_or nets k 0) (get_or parts k d) ⊎ IsDue found k
+    by_touch : (k : ℕ) (d : PlainNetPart) → k < length nets → (b : Bool) → is_one_of touched (get_or nets k 0) ≡ b → IsNetPart board (get_or nets k 0) (get_or parts k d) ⊎ IsDue found k
     by_touch k d lt true q = inr (due_of k (r.all k lt q))
     by_touch k d lt false q = inl (stay k d lt q)

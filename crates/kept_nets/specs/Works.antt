@@ -3,19 +3,19 @@ use Rattle.std.specs.Prelude.{◌≡◌, ◌⊎◌, ℕ, ◌<◌, ◌≤◌, tru
 use Rattle.std.specs.List.{Any}
 use Rattle.board_items.specs.Boards.{PlainBoard}
 use Rattle.board_laws.specs.Edits.{is_one_of}
-use Rattle.net_groups.specs.NetParts.{NetPart}
+use Rattle.net_groups.specs.NetParts.{PlainNetPart}
 use Rattle.kept_nets.specs.declared.works.Work.{Work}
-use Rattle.net_groups.specs.NetParts.{IsPartOf}
+use Rattle.net_groups.specs.NetParts.{IsNetPart}
 
 -- the same works, of which each has found its part or met a want of memory
 pub record AreFound (board : PlainBoard) (works after : List Work) : Type 0 where
   pub long : length after ≡ length works
-  pub each : (j : ℕ) (d : Work) → j < length works → ((slice_index_or after j d).place ≡ (slice_index_or works j d).place) × ((slice_index_or after j d).net ≡ (slice_index_or works j d).net) × IfSome (slice_index_or after j d).part (IsPartOf board (slice_index_or works j d).net)
+  pub each : (j : ℕ) (d : Work) → j < length works → ((slice_index_or after j d).place ≡ (slice_index_or works j d).place) × ((slice_index_or after j d).net ≡ (slice_index_or works j d).net) × IfSome (slice_index_or after j d).part (IsNetPart board (slice_index_or works j d).net)
 
 -- the same works, of which the first so many have found theirs
 pub record AreFoundUpTo (board : PlainBoard) (count : ℕ) (works after : List Work) : Type 0 where
   pub long : length after ≡ length works
-  pub found : (j : ℕ) (d : Work) → j < count → j < length works → ((slice_index_or after j d).place ≡ (slice_index_or works j d).place) × ((slice_index_or after j d).net ≡ (slice_index_or works j d).net) × IfSome (slice_index_or after j d).part (IsPartOf board (slice_index_or works j d).net)
+  pub found : (j : ℕ) (d : Work) → j < count → j < length works → ((slice_index_or after j d).place ≡ (slice_index_or works j d).place) × ((slice_index_or after j d).net ≡ (slice_index_or works j d).net) × IfSome (slice_index_or after j d).part (IsNetPart board (slice_index_or works j d).net)
   pub rest : (j : ℕ) (d : Work) → count ≤ j → slice_index_or after j d ≡ slice_index_or works j d
 
 -- a work for each net, in their order
@@ -32,11 +32,11 @@ pub record AreWorksUpTo (nets touched : List ℕ) (count : ℕ) (works : List Wo
   pub all : (k : ℕ) → k < count → is_one_of touched (slice_index_or nets k 0) ≡ true → IsDue works k
 
 -- each part is that of its net, or one of the works brings it
-pub record IsPlan (board : PlainBoard) (nets : List ℕ) (parts : List NetPart) (works : List Work) : Type 0 where
+pub record IsPlan (board : PlainBoard) (nets : List ℕ) (parts : List PlainNetPart) (works : List Work) : Type 0 where
   pub long : length parts ≡ length nets
-  pub right : All (λ work. (work.place < length nets) × IfSome work.part (IsPartOf board (slice_index_or nets work.place 0))) works
-  pub due : (k : ℕ) (d : NetPart) → k < length nets → IsPartOf board (slice_index_or nets k 0) (slice_index_or parts k d) ⊎ IsDue works k
+  pub right : All (λ work. (work.place < length nets) × IfSome work.part (IsNetPart board (slice_index_or nets work.place 0))) works
+  pub due : (k : ℕ) (d : PlainNetPart) → k < length nets → IsNetPart board (slice_index_or nets k 0) (slice_index_or parts k d) ⊎ IsDue works k
 
 -- each part is that of its net, place by place
-abbrev pub AreAt : PlainBoard → List ℕ → List NetPart → Type 0
-AreAt board nets parts = (k : ℕ) (d : NetPart) → k < length nets → IsPartOf board (slice_index_or nets k 0) (slice_index_or parts k d)
+abbrev pub AreAt : PlainBoard → List ℕ → List PlainNetPart → Type 0
+AreAt board nets parts = (k : ℕ) (d : PlainNetPart) → k < length nets → IsNetPart board (slice_index_or nets k 0) (slice_index_or parts k d)

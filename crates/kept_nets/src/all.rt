@@ -3,7 +3,7 @@
 ghost use Rattle.std.specs.Prelude.{◌≡◌, ◌++◌, [], ◌∷◌, IfOk, OnOk, Some};
 ghost use Rattle.std.specs.List.{AllZip};
 ghost use Rattle.board_index.specs.Holding.{HoldsItems};
-ghost use Rattle.net_groups.specs.NetParts.{NetPart as PlainPart, AreParts, real_nets};
+ghost use Rattle.net_groups.specs.NetParts.{PlainNetPart, AreParts, real_nets};
 ghost use Rattle.kept_nets.specs.Works.{AreAllWorks};
 
 use crate::part::NetPart;
@@ -41,7 +41,7 @@ fn all_works(alloc: Global, board: &Board) -> Result<Vec<Work>, AllocError>
 
 // Appends the part that the work found. It fails where the work met a want of memory.
 fn push_found(parts: &mut Vec<NetPart>, work: Work) -> Result<(), AllocError>
-    ensures { OnOk result ((part : PlainPart) × (work.part ≡ Some part) × (parts.new.items ≡ parts.old.items ++ part ∷ [])) }
+    ensures { OnOk result ((part : PlainNetPart) × (work.part ≡ Some part) × (parts.new.items ≡ parts.old.items ++ part ∷ [])) }
 {
     match work.part {
         None => Err(AllocError),

@@ -4,7 +4,7 @@ ghost use Rattle.std.specs.Prelude.{◌≡◌, ℕ, false, List, Contains};
 ghost use Rattle.board_items.specs.declared.item.Item.{Item};
 ghost use Rattle.board_items.specs.Boards.{PlainBoard};
 ghost use Rattle.net_groups.specs.Groups.{is_of_net, items_of};
-ghost use Rattle.net_groups.specs.NetParts.{NetPart, AreParts};
+ghost use Rattle.net_groups.specs.NetParts.{PlainNetPart, AreParts};
 ghost use Rattle.board_laws.specs.Edits.{IsEdit, WasOrIs};
 
 /// A net of whose items an edit touches none keeps its items.
@@ -14,5 +14,5 @@ pub fn net_stays()
 
 /// A board has one list of parts.
 pub fn one_list_of_parts()
-    ensures { (board : PlainBoard) (parts others : List NetPart) → AreParts board parts → AreParts board others → parts ≡ others }
+    ensures { (board : PlainBoard) (parts others : List PlainNetPart) → AreParts board parts → AreParts board others → parts ≡ others }
 {}

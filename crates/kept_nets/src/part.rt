@@ -2,7 +2,7 @@
 
 ghost use Rattle.std.specs.Prelude.{◌≡◌, IfOk};
 ghost use Rattle.board_index.specs.Holding.{HoldsItems};
-ghost use Rattle.net_groups.specs.NetParts.{is_open, IsPartOf, NetPart as PlainPart};
+ghost use Rattle.net_groups.specs.NetParts.{is_open, IsNetPart, PlainNetPart};
 
 use board_items::Board;
 use box_index::TileIndex;
@@ -22,7 +22,7 @@ pub struct NetPart {
 }
 
 impl Model for NetPart {
-    ghost Value = { PlainPart };
+    ghost Value = { PlainNetPart };
 
     ghost view = { λ part. record { net = part.net; groups = part.groups.items; anchors = part.anchors.items; links = part.nest.links } };
 }
@@ -84,7 +84,7 @@ pub(crate) fn part_of(
     index: &TileIndex,
 ) -> Result<NetPart, AllocError>
     requires { HoldsItems board.now index.now }
-    ensures { IfOk result (IsPartOf board.now net) }
+    ensures { IfOk result (IsNetPart board.now net) }
 {
     let groups = groups(alloc, board, net, index)?;
     let anchors = anchors(alloc, board, net, &groups)?;

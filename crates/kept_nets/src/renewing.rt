@@ -6,7 +6,7 @@ ghost use Rattle.std.specs.List.Sorted.{IsStrictlyIncreasing};
 ghost use Rattle.board_items.specs.Boards.{PlainBoard};
 ghost use Rattle.board_laws.specs.Edits.{is_one_of};
 ghost use Rattle.board_index.specs.Holding.{HoldsItems};
-ghost use Rattle.net_groups.specs.NetParts.{NetPart as PlainPart, IsPartOf, AreParts};
+ghost use Rattle.net_groups.specs.NetParts.{PlainNetPart, IsNetPart, AreParts};
 ghost use Rattle.board_laws.specs.Edits.{IsEdit};
 ghost use Rattle.kept_nets.specs.Touched.{AreTouched};
 ghost use Rattle.kept_nets.specs.Works.{AreWorksUpTo, IsPlan};
@@ -48,7 +48,7 @@ fn works_of(alloc: Global, parts: &[NetPart], nets: &[u32]) -> Result<Vec<Work>,
 // Puts the part that a work found into its place.
 fn put(parts: &mut [NetPart], work: Work) -> Result<(), AllocError>
     requires { work.place < length parts.old }
-    ensures { OnOk result ((part : PlainPart) × (work.part ≡ Some part) × (parts.new ≡ slice_set parts.old work.place part)) }
+    ensures { OnOk result ((part : PlainNetPart) × (work.part ≡ Some part) × (parts.new ≡ slice_set parts.old work.place part)) }
 {
     let place = work.place;
     match work.part {
@@ -63,7 +63,7 @@ fn put(parts: &mut [NetPart], work: Work) -> Result<(), AllocError>
 // Puts the parts that were found into their places. It fails where a work met a want of memory.
 fn put_parts(parts: &mut [NetPart], mut works: Vec<Work>) -> Result<(), AllocError>
     requires { All (λ work. work.place < length parts.old) works.items }
-    ensures { OnOk result ((board : PlainBoard) (nets : List ℕ) → IsPlan board nets parts.old works.items → AllZip (IsPartOf board) nets parts.new) }
+    ensures { OnOk result ((board : PlainBoard) (nets : List ℕ) → IsPlan board nets parts.old works.items → AllZip (IsNetPart board) nets parts.new) }
 {
     while let Some(work) = works.pop() {
         put(parts, work)?;

@@ -2,7 +2,7 @@
 
 ghost use Rattle.std.specs.Prelude.{◌≡◌, IfSome};
 ghost use Rattle.board_index.specs.Holding.{HoldsItems};
-ghost use Rattle.net_groups.specs.NetParts.{IsPartOf};
+ghost use Rattle.net_groups.specs.NetParts.{IsNetPart};
 ghost use Rattle.kept_nets.specs.Works.{AreFound};
 
 use crate::part::{NetPart, part_of};
@@ -25,7 +25,7 @@ fn find_part(alloc: Global, board: &Board, index: &TileIndex, work: &mut Work)
     requires { HoldsItems board.now index.now }
     ensures place { work.new.place ≡ work.old.place }
     ensures net { work.new.net ≡ work.old.net }
-    ensures part { IfSome work.new.part (IsPartOf board.now work.old.net) }
+    ensures part { IfSome work.new.part (IsNetPart board.now work.old.net) }
 {
     work.part = part_of(alloc, board, work.net, index).ok();
 }
@@ -62,7 +62,7 @@ pub(crate) fn find_parts(
         works,
         |_: usize, work: &mut Work|
             requires { HoldsItems board.now index.now }
-            ensures { (work.new.place ≡ work.old.place) × (work.new.net ≡ work.old.net) × IfSome work.new.part (IsPartOf board.entry.now work.old.net) }
+            ensures { (work.new.place ≡ work.old.place) × (work.new.net ≡ work.old.net) × IfSome work.new.part (IsNetPart board.entry.now work.old.net) }
         {
             find_part(alloc, board, index, work);
         },

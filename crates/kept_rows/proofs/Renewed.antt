@@ -5,14 +5,14 @@ use Rattle.std.specs.List.Sorted.{IsPermutation}
 use Rattle.std.proofs.lemmas.List.Elements.{All-filter, filter_passes}
 use Rattle.std.proofs.lemmas.List.Kept.{AllPairs-filter}
 use Rattle.board_items.specs.declared.item.Item.{Item}
-use Rattle.box_index.specs.Tiles.{PlainIndex, IsSound}
+use Rattle.box_index.specs.Tiles.{PlainIndex, IsSoundIndex}
 use Rattle.box_index.proofs.Buckets.{contains_filter}
 use Rattle.pair_check.specs.PlainRow.{PlainRow}
 use Rattle.pair_check.specs.Pairs.{Breaks}
 use Rattle.pair_check.specs.Singles.{BreaksAlone}
 use Rattle.pair_check.specs.Rows.{Checked, IsRow, IsRowOfOne, AreRows, Before}
 use Rattle.row_check.specs.Tiles.{IsIndexOf, is_changed}
-use Rattle.row_check.specs.Whole.{ids_of, Apart, AreOnceWhere, AreInOrder, AreEnough, AreSingles, IsOfTiles}
+use Rattle.row_check.specs.Whole.{ids_of, StandApart, AreOnceWhere, AreInOrder, AreEnough, AreSingles, IsOfTiles}
 use Rattle.row_check.proofs.RowLists.{no_rows}
 use Rattle.row_check.proofs.WholeRows.{asked, id_of_found, once_append}
 use Rattle.row_check.proofs.Sorting.{apart_or_same, Same, once_from_rows, once_permutation, rows_from_once}
@@ -90,7 +90,7 @@ module _ (old new : Checked) (changed : List ℕ) (step : IsStep old new changed
   })
 
 -- ---- all rows
-module _ (old new : Checked) (index : PlainIndex) (sound : IsSound index) (is : IsIndexOf new index) (changed tiles : List ℕ) (step : IsStep old new changed) (enough : AreEnough index changed tiles) where
+module _ (old new : Checked) (index : PlainIndex) (sound : IsSoundIndex index) (is : IsIndexOf new index) (changed tiles : List ℕ) (step : IsStep old new changed) (enough : AreEnough index changed tiles) where
   abbrev Left : PlainRow → Type 0
   Left row = IsLeft new changed row
 
@@ -121,17 +121,17 @@ module _ (old new : Checked) (index : PlainIndex) (sound : IsSound index) (is : 
       by_item (inl c) = or_left (is_changed changed row.first) (is_changed changed row.second) (in_changed changed row.first c)
       by_item (inr c) = or_right (is_changed changed row.first) (is_changed changed row.second) (in_changed changed row.second c)
 
-  unless_same : (p q : PlainRow) → (Same p q → ⊥) → Apart p q
+  unless_same : (p q : PlainRow) → (Same p q → ⊥) → StandApart p q
   unless_same p q differ = by_case (apart_or_same p q)
     where
-      by_case : Apart p q ⊎ Same p q → Apart p q
+      by_case : StandApart p q ⊎ Same p q → StandApart p q
       by_case (inl apart) = apart
       by_case (inr same) = absurd (differ same)
 
-  left_single : (r s : PlainRow) → Left r → Single s → Apart r s
+  left_single : (r s : PlainRow) → Left r → Single s → StandApart r s
   left_single r s h k = unless_same r s (λ same. true≢false (sym (single_touched s k) ∙ (sym (touched_alike r s same) ∙ h.untouched)))
 
-  first_paired : (r s : PlainRow) → Left r ⊎ Single r → Paired s → Apart r s
+  first_paired : (r s : PlainRow) → Left r ⊎ Single r → Paired s → StandApart r s
   first_paired r s (inl h) k = unless_same r s (λ same. true≢false (sym (paired_touched s k) ∙ (sym (touched_alike r s same) ∙ h.untouched)))
   first_paired r s (inr h) k = unless_same r s (λ same. let one = h.0.same in let two = k.0.ordered in let e = same.first in let f = same.second in omega arith)
 

@@ -2,7 +2,7 @@
 
 ghost use Rattle.std.specs.Prelude.{◌++◌, ℕ, List, filter, not};
 ghost use Rattle.std.specs.List.Sorted.{IsPermutation};
-ghost use Rattle.box_index.specs.Tiles.{PlainIndex, IsSound};
+ghost use Rattle.box_index.specs.Tiles.{PlainIndex, IsSoundIndex};
 ghost use Rattle.pair_check.specs.PlainRow.{PlainRow};
 ghost use Rattle.pair_check.specs.Rows.{Checked, AreRows};
 ghost use Rattle.row_check.specs.Tiles.{IsIndexOf};
@@ -12,7 +12,7 @@ ghost use Rattle.kept_rows.specs.Steps.{IsStep, is_touched};
 /// The rows after a change are those that it left, those of each item that changed alone, and those of the tiles that hold such an
 /// item, put in order.
 pub fn rows_renewed()
-    ensures { (old new : Checked) (index : PlainIndex) → IsSound index → IsIndexOf new index → (changed tiles : List ℕ) → IsStep old new changed → AreEnough index changed tiles
+    ensures { (old new : Checked) (index : PlainIndex) → IsSoundIndex index → IsIndexOf new index → (changed tiles : List ℕ) → IsStep old new changed → AreEnough index changed tiles
         → (rows singles pairs after : List PlainRow) → AreRows old rows → AreSingles new changed singles → AreOnceWhere (IsOfTiles new index tiles changed) pairs
         → IsPermutation ((filter (λ row. not (is_touched changed row)) rows ++ singles) ++ pairs) after → AreInOrder after → AreRows new after }
 {}

@@ -5,7 +5,7 @@ ghost use Rattle.std.specs.List.{AllZip, flat_map};
 ghost use Rattle.std.specs.List.Sorted.{IsStrictlyIncreasing};
 ghost use Rattle.pair_check.specs.PlainRow.{PlainRow};
 ghost use Rattle.pair_check.specs.Rows.{Checked, AreRows};
-ghost use Rattle.pair_check.specs.Views.{checked_by, IsWhole};
+ghost use Rattle.pair_check.specs.Views.{checked_by, IsWholeView};
 ghost use Rattle.row_check.specs.Tiles.{IsIndexOf, AreRowsOfTile, is_changed};
 ghost use Rattle.row_check.specs.Whole.{AreEnough, ids_of};
 ghost use Rattle.kept_rows.specs.Steps.{IsStep, is_touched};
@@ -63,7 +63,7 @@ pub fn renew_rows(
     tiles: &[u32],
     batches: &[TileRows],
 ) -> Result<(), AllocError>
-    requires view { IsWhole view.now }
+    requires view { IsWholeView view.now }
     requires index { IsIndexOf (checked_by view.now) index.now }
     requires changed { IsStrictlyIncreasing changed.now }
     requires enough { AreEnough index.now changed.now tiles.now }
@@ -88,7 +88,7 @@ pub fn rows_anew(
     tiles: &[u32],
     batches: &[TileRows],
 ) -> Result<Vec<Row>, AllocError>
-    requires view { IsWhole view.now }
+    requires view { IsWholeView view.now }
     requires index { IsIndexOf (checked_by view.now) index.now }
     requires ids { ids.now ≡ ids_of (checked_by view.now).board }
     requires rise { IsStrictlyIncreasing ids.now }

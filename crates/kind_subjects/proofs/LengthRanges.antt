@@ -7,9 +7,9 @@ use Rattle.board_items.specs.declared.item.Hole.{Hole}
 use Rattle.board_items.specs.declared.item.What.{What}
 use Rattle.board_items.specs.declared.item.What.TheVariants.{Via}
 use Rattle.int_algebra.proofs.Scalars.{passed}
-use Rattle.kind_subjects.specs.Lengths.{IsWithin, ring_of}
+use Rattle.kind_subjects.specs.Lengths.{IsNearZero, ring_of}
 
-pub passed_within : (n : ℤ) → IsLength n → IsWithin (passed n)
+pub passed_within : (n : ℤ) → IsLength n → IsNearZero (passed n)
 passed_within n h =
     let a = h.from in
     let b = h.to in record { from = omega (arith, ints); to = omega (arith, ints) }
@@ -28,7 +28,7 @@ difference_fits size drill h k =
     let c = k.from in
     let d = k.to in small_fits (passed size -ℤ passed drill) (omega (arith, ints)) (omega (arith, ints))
 
-pub difference_within : (size drill : ℤ) → IsLength size → IsLength drill → IsWithin (passed (passed size -ℤ passed drill))
+pub difference_within : (size drill : ℤ) → IsLength size → IsLength drill → IsNearZero (passed (passed size -ℤ passed drill))
 difference_within size drill h k =
     let a = h.from in
     let b = h.to in
@@ -44,7 +44,7 @@ passed_is_length n h =
     let a = h.from in
     let b = h.to in record { from = omega (arith, ints); to = omega (arith, ints) }
 
-pub passed_gap_within : (v gap : ℤ) → IsLength v → pos 0 ≤ℤ gap → gap ≤ℤ v → IsWithin (passed gap)
+pub passed_gap_within : (v gap : ℤ) → IsLength v → pos 0 ≤ℤ gap → gap ≤ℤ v → IsNearZero (passed gap)
 passed_gap_within v gap h k l =
     let a = h.to in record { from = omega (arith, ints); to = omega (arith, ints) }
 
@@ -54,10 +54,10 @@ length_if n nm e h = there nm (subst IsLengthIfSome e h)
     there : (nm : ℤ) → IsLengthIfSome (Some nm) → IsLength nm
     there nm k = search (rules, k)
 
-pub within_passed : (n : ℤ) → IsWithin n → passed n ≡ n
+pub within_passed : (n : ℤ) → IsNearZero n → passed n ≡ n
 within_passed n h =
     let a = h.from in
     let b = h.to in omega (arith, ints)
 
-pub passed_is_within : (n : ℤ) → IsWithin n → IsWithin (passed n)
-passed_is_within n h = subst IsWithin (sym (within_passed n h)) h
+pub passed_is_within : (n : ℤ) → IsNearZero n → IsNearZero (passed n)
+passed_is_within n h = subst IsNearZero (sym (within_passed n h)) h

@@ -14,7 +14,7 @@ use Rattle.kind_subjects.specs.declared.subject.Subject.TheVariants.{Sides, Leng
 use Rattle.kind_subjects.specs.Subjects.{subject_of}
 
 -- within 500 mm of 0: the copper round a hole is narrower than nothing where the drill is wider than the via
-pub record IsWithin (n : ℤ) : Type 0 where
+pub record IsNearZero (n : ℤ) : Type 0 where
   pub from : neg_ℤ greatest ≤ℤ n
   pub to : n ≤ℤ greatest
 

@@ -3,7 +3,7 @@
 ghost use Rattle.std.specs.Prelude.{◌≡◌, ℤ, pos, ◌*ℤ◌, ◌≤ℤ◌, IfSome, if◌then◌else◌};
 ghost use Rattle.std.specs.Option.{option_map};
 ghost use Rattle.plain_types.specs.Lengths.{IsLength};
-ghost use Rattle.kind_subjects.specs.Lengths.{IsWithin, ring_of, track_width, via_size, length_by, length_of, times, IsQuotient};
+ghost use Rattle.kind_subjects.specs.Lengths.{IsNearZero, ring_of, track_width, via_size, length_by, length_of, times, IsQuotient};
 
 use crate::subject::{Measure, Subject, subject_of};
 use board_items::{Item, Nm, What};
@@ -12,7 +12,7 @@ use cond_lang::Kind;
 // Twice the width of the copper round the hole of a via.
 fn ring_of(item: &Item) -> Option<Nm>
     ensures value { result ≡ ring_of item.now.what item.now.hole }
-    ensures range { IfSome result IsWithin }
+    ensures range { IfSome result IsNearZero }
 {
     match (&item.what, &item.hole) {
         (What::Via { size, drill, .. }, Some(_)) => Some(*size - *drill),
@@ -22,7 +22,7 @@ fn ring_of(item: &Item) -> Option<Nm>
 
 fn track_width(item: &Item) -> Option<Nm>
     ensures value { result ≡ track_width item.now.what }
-    ensures range { IfSome result IsWithin }
+    ensures range { IfSome result IsNearZero }
 {
     match &item.what {
         What::Track { width } => Some(*width),
@@ -32,7 +32,7 @@ fn track_width(item: &Item) -> Option<Nm>
 
 fn via_size(item: &Item) -> Option<Nm>
     ensures value { result ≡ via_size item.now.what }
-    ensures range { IfSome result IsWithin }
+    ensures range { IfSome result IsNearZero }
 {
     match &item.what {
         What::Via { size, .. } => Some(*size),
@@ -42,7 +42,7 @@ fn via_size(item: &Item) -> Option<Nm>
 
 fn hole_size(item: &Item) -> Option<Nm>
     ensures value { result ≡ option_map (λ hole. hole.least) item.now.hole }
-    ensures range { IfSome result IsWithin }
+    ensures range { IfSome result IsNearZero }
 {
     match &item.hole {
         Some(hole) => Some(hole.least),
@@ -52,7 +52,7 @@ fn hole_size(item: &Item) -> Option<Nm>
 
 fn length_by(measure: Measure, item: &Item) -> Option<Nm>
     ensures value { result ≡ length_by measure item.now }
-    ensures range { IfSome result IsWithin }
+    ensures range { IfSome result IsNearZero }
 {
     match measure {
         Measure::Width => track_width(item),
@@ -65,7 +65,7 @@ fn length_by(measure: Measure, item: &Item) -> Option<Nm>
 /// The length that the kind limits, in nanometres; of the copper round a hole twice the width.
 pub fn length_of(kind: Kind, item: &Item) -> Option<Nm>
     ensures value { result ≡ length_of kind item.now }
-    ensures range { IfSome result IsWithin }
+    ensures range { IfSome result IsNearZero }
 {
     match subject_of(kind) {
         Subject::Length(measure) => length_by(measure, item),
@@ -96,9 +96,9 @@ pub fn counted(kind: Kind, nm: Nm) -> Nm
 
 /// The length that there is: the measured one by how many times it is measured, rounded down.
 pub fn length_once(kind: Kind, n: Nm) -> Nm
-    requires { IsWithin n }
+    requires { IsNearZero n }
     ensures quotient { IsQuotient n (times kind) result }
-    ensures range { IsWithin result }
+    ensures range { IsNearZero result }
 {
     if is_twice(kind) { n.div_euclid(2) } else { n }
 }

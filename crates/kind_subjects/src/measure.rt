@@ -15,13 +15,13 @@ use crate::layer::RowLayer;
 use crate::subject::{Faces, Subject, subject_of};
 use board_items::{Hole, Item, Nm, Part, Parts, What};
 use cond_lang::Kind;
-use item_copper::{ListedParts, Side, SinglePart, is_empty, sides_gap, sides_meet};
+use item_copper::{ListedParts, SinglePart, SomeParts, is_empty, sides_gap, sides_meet};
 
 /// Parts of the one item, and those of the other that they are measured against.
 #[derive(Clone, Copy)]
 pub struct Faced<'a> {
-    own: Side<'a>,
-    others: Side<'a>,
+    own: SomeParts<'a>,
+    others: SomeParts<'a>,
 }
 
 /// All that faces each other.
@@ -35,133 +35,133 @@ pub enum Facings<'a> {
 // ---- the parts of an item
 
 // All parts of the list.
-fn all(parts: &Parts) -> Side<'_>
+fn all(parts: &Parts) -> SomeParts<'_>
     ensures { parts_at result ≡ parts.now }
 {
-    Side::Listed(ListedParts {
+    SomeParts::Listed(ListedParts {
         parts: parts.as_slice(),
         layer: None,
     })
 }
 
 // The copper on the layer.
-fn copper_on(item: &Item, layer: u32) -> Side<'_>
+fn copper_on(item: &Item, layer: u32) -> SomeParts<'_>
     requires { layer < 32 }
     ensures { parts_at result ≡ copper_on layer item.now }
 {
-    Side::Listed(ListedParts {
+    SomeParts::Listed(ListedParts {
         parts: item.copper.as_slice(),
         layer: Some(layer),
     })
 }
 
 // The hole, if there is one.
-fn whole_hole(hole: &Option<Hole>) -> Side<'_>
+fn whole_hole(hole: &Option<Hole>) -> SomeParts<'_>
     ensures { parts_at result ≡ hole_parts hole.now }
 {
     match hole {
-        Some(hole) => Side::Single(SinglePart {
+        Some(hole) => SomeParts::Single(SinglePart {
             layers: hole.layers,
             shape: &hole.shape,
         }),
-        None => Side::Nothing,
+        None => SomeParts::Nothing,
     }
 }
 
 // The hole, where it goes through the layer.
-fn hole_on(item: &Item, layer: u32) -> Side<'_>
+fn hole_on(item: &Item, layer: u32) -> SomeParts<'_>
     requires { layer < 32 }
     ensures { parts_at result ≡ hole_on layer item.now }
 {
     match &item.hole {
-        Some(hole) if hole.layers.has(layer) => Side::Single(SinglePart {
+        Some(hole) if hole.layers.has(layer) => SomeParts::Single(SinglePart {
             layers: hole.layers,
             shape: &hole.shape,
         }),
-        _ => Side::Nothing,
+        _ => SomeParts::Nothing,
     }
 }
 
 // The hole of an item without copper.
-fn hole_alone(item: &Item) -> Side<'_>
+fn hole_alone(item: &Item) -> SomeParts<'_>
     ensures { parts_at result ≡ hole_alone item.now }
 {
     if item.copper.as_slice().is_empty() {
         whole_hole(&item.hole)
     } else {
-        Side::Nothing
+        SomeParts::Nothing
     }
 }
 
 // The lines of an edge of the board.
-fn lines_of(what: &What) -> Side<'_>
+fn lines_of(what: &What) -> SomeParts<'_>
     ensures { parts_at result ≡ lines_of what.now }
 {
     match what {
         What::Edge { lines } => all(lines.get()),
-        _ => Side::Nothing,
+        _ => SomeParts::Nothing,
     }
 }
 
 // The courtyard of the front.
-fn front_of(what: &What) -> Side<'_>
+fn front_of(what: &What) -> SomeParts<'_>
     ensures { parts_at result ≡ front_of what.now }
 {
     match what {
         What::Body { front, .. } => all(front.get()),
-        _ => Side::Nothing,
+        _ => SomeParts::Nothing,
     }
 }
 
 // The courtyard of the back.
-fn back_of(what: &What) -> Side<'_>
+fn back_of(what: &What) -> SomeParts<'_>
     ensures { parts_at result ≡ back_of what.now }
 {
     match what {
         What::Body { back, .. } => all(back.get()),
-        _ => Side::Nothing,
+        _ => SomeParts::Nothing,
     }
 }
 
 // The part, where it has the layer.
-fn part_on(part: &Part, layer: u32) -> Side<'_>
+fn part_on(part: &Part, layer: u32) -> SomeParts<'_>
     requires { layer < 32 }
     ensures { parts_at result ≡ on_layer layer (part.now ∷ []) }
 {
     if part.layers.has(layer) {
-        Side::Single(SinglePart {
+        SomeParts::Single(SinglePart {
             layers: part.layers,
             shape: &part.shape,
         })
     } else {
-        Side::Nothing
+        SomeParts::Nothing
     }
 }
 
 // A rule area, where it has the layer.
-fn area_on(what: &What, layer: u32) -> Side<'_>
+fn area_on(what: &What, layer: u32) -> SomeParts<'_>
     requires { layer < 32 }
     ensures { parts_at result ≡ area_on layer what.now }
 {
     match what {
         What::Area { shape, .. } => part_on(shape.get(), layer),
-        _ => Side::Nothing,
+        _ => SomeParts::Nothing,
     }
 }
 
 // The courtyard on the layer: that of the front on F.Cu, and that of the back on B.Cu.
-fn yard_on<'a>(front: &'a Parts, back: &'a Parts, layer: u32) -> Side<'a>
+fn yard_on<'a>(front: &'a Parts, back: &'a Parts, layer: u32) -> SomeParts<'a>
     ensures { parts_at result ≡ yard_on layer front.now back.now }
 {
     match layer {
         0 => all(front),
         31 => all(back),
-        _ => Side::Nothing,
+        _ => SomeParts::Nothing,
     }
 }
 
 // The copper on the layer, or without any copper the hole there.
-fn asked_on(item: &Item, layer: u32) -> Side<'_>
+fn asked_on(item: &Item, layer: u32) -> SomeParts<'_>
     requires { layer < 32 }
     ensures { parts_at result ≡ on_layer layer (parts_asked item.now) }
 {
@@ -173,7 +173,7 @@ fn asked_on(item: &Item, layer: u32) -> Side<'_>
 }
 
 // Where the item is on the layer, as an area sees it.
-fn placed_on(item: &Item, layer: u32) -> Side<'_>
+fn placed_on(item: &Item, layer: u32) -> SomeParts<'_>
     requires { layer < 32 }
     ensures { parts_at result ≡ placed_on layer item.now item.now.what }
 {

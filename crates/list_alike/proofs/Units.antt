@@ -23,7 +23,7 @@ use Rattle.read_alike.specs.Agreeing.{Agrees, Same}
 use Rattle.read_alike.specs.Moved.{moved_spot}
 use Rattle.read_alike.proofs.Shapes.{leads_bind, settled}
 use Rattle.part_read.specs.declared.numbers.Spot.{Spot}
-use Rattle.part_read.specs.declared.drawings.Kind.{Kind}
+use Rattle.part_read.specs.declared.drawings.GraphicKind.{GraphicKind}
 use Rattle.part_read.specs.declared.graphics.Ground.{Ground}
 use Rattle.part_read.specs.Graphics.{ground_of}
 use Rattle.part_read.specs.Stances.{stood}
@@ -107,7 +107,7 @@ module _ (o : Option Shift) (board other : PlainBoard) (unit own : ℕ) (i j : F
       (subst (λ (l : LayerSet). Agrees Same (ground_of board.copper one) (ground_of l two)) (sym ground.copper) (ground_alike o board.copper i j s r alike))
       (λ v w e. subst (λ (z : Ground). Leads (ReadsItems (shift_of o) own) (given v) (after z)) (sym e) (law v))
 
-  pub graphics_carried : (kind : Kind) → SaysItems board unit one (Graphic kind) (Ok items) → has_room other own (of_unit own now) ≡ true → SaysItems other own two (Graphic kind) (Ok (of_unit own now))
+  pub graphics_carried : (kind : GraphicKind) → SaysItems board unit one (Graphic kind) (Ok items) → has_room other own (of_unit own now) ≡ true → SaysItems other own two (Graphic kind) (Ok (of_unit own now))
   graphics_carried kind says room =
       let law = on_grounds (graphic_by board unit as_it_is kind one) (graphic_by other own as_it_is kind two)
       (λ lies. graphic_carried o (shift_of o) as_it_is as_it_is (as_they_are o) board other (same_nets board other ground) unit own kind i j s r alike lies) in

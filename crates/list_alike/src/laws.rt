@@ -7,7 +7,7 @@ ghost use Rattle.sexpr_read.specs.Tree.{Forest, Tree, branch};
 ghost use Rattle.board_items.specs.declared.item.About.{About};
 ghost use Rattle.board_items.specs.declared.item.Item.{Item};
 ghost use Rattle.board_items.specs.Boards.{PlainBoard, name_of};
-ghost use Rattle.part_read.specs.declared.drawings.Kind.{Kind};
+ghost use Rattle.part_read.specs.declared.drawings.GraphicKind.{GraphicKind};
 ghost use Rattle.pcb_read.specs.declared.sorts.Sort.{Sort};
 ghost use Rattle.pcb_read.specs.declared.sorts.Sort.TheVariants.{Graphic, Text, Curve};
 ghost use Rattle.pcb_read.specs.ItemsOf.{SaysItems, has_room};
@@ -29,7 +29,7 @@ pub fn tracks()
 /// So does the list of a graphic, a curve or a text, on a board with the same layers and nets and room for the items.
 pub fn graphics()
     ensures graphics { (o : Option Shift) (board other : PlainBoard) (unit own : ℕ) (i j : Forest) (s r : Span) (items now : List Item) → SameGround board other → Alike o i j → AllZip (Becomes (shift_of o)) items now
-        → (kind : Kind) → SaysItems board unit (branch s i) (Graphic kind) (Ok items) → has_room other own (of_unit own now) ≡ true → SaysItems other own (branch r j) (Graphic kind) (Ok (of_unit own now)) }
+        → (kind : GraphicKind) → SaysItems board unit (branch s i) (Graphic kind) (Ok items) → has_room other own (of_unit own now) ≡ true → SaysItems other own (branch r j) (Graphic kind) (Ok (of_unit own now)) }
     ensures curves { (o : Option Shift) (board other : PlainBoard) (unit own : ℕ) (i j : Forest) (s r : Span) (items now : List Item) → SameGround board other → Alike o i j → AllZip (Becomes (shift_of o)) items now
         → SaysItems board unit (branch s i) Curve (Ok items) → SaysItems other own (branch r j) Curve (Ok (of_unit own now)) }
     ensures texts { (o : Option Shift) (board other : PlainBoard) (unit own : ℕ) (i j : Forest) (s r : Span) (items now : List Item) → SameGround board other → Alike o i j → AllZip (Becomes (shift_of o)) items now

@@ -8,7 +8,7 @@ use Rattle.json_exact.specs.declared.error.JsonError.{JsonError}
 use Rattle.json_exact.specs.declared.error.JsonError.TheVariants.{Bad, TooDeep, OutOfMemory as NoMemoryForText}
 use Rattle.net_class.specs.declared.error.ProjectError.{ProjectError}
 use Rattle.net_class.specs.declared.error.ProjectError.TheVariants.{Json, OutOfMemory}
-use Rattle.net_class.specs.ProjectText.{Says, refusal_of}
+use Rattle.net_class.specs.ProjectText.{ProjectSays, refusal_of}
 use Rattle.net_class.specs.Classes.{PlainClass, PlainPattern, PlainMins, PlainClasses, plain_mins, plain_default}
 use Rattle.net_class.specs.Members.{object_in, length_in}
 use Rattle.net_class.specs.ClassesOf.{Written, or_plain, sizes_in, written_in, patterns_in, rules_in, default_clearance, class_from, classes_from, with_rest, classes_of}
@@ -50,7 +50,7 @@ is_json (Bad at) h = refl
 is_json (TooDeep at) h = refl
 is_json NoMemoryForText h = absurd (h refl)
 
-pub refused_says : (text : List ℕ) (e : JsonError) (p : ProjectError) → p ≡ refusal_of e → IsRefused text e → (p ≡ OutOfMemory) ⊎ Says text (Err p)
+pub refused_says : (text : List ℕ) (e : JsonError) (p : ProjectError) → p ≡ refusal_of e → IsRefused text e → (p ≡ OutOfMemory) ⊎ ProjectSays text (Err p)
 refused_says text (Bad at) p h r = inr (inr (Bad at, r, (λ k. absurd cc), ap (λ (x : ProjectError). Err x) h))
 refused_says text (TooDeep at) p h r = inr (inr (TooDeep at, r, (λ k. absurd cc), ap (λ (x : ProjectError). Err x) h))
 refused_says text NoMemoryForText p h r = inl h
@@ -58,7 +58,7 @@ refused_says text NoMemoryForText p h r = inl h
 pub refused_only : (text : List ℕ) (e : JsonError) (p : ProjectError) → p ≡ refusal_of e
     → ((v : Json') → SpelledWithin depth_limit text v → e ≡ NoMemoryForText)
     → ((f : JsonError) → IsRefused text f → (f ≡ NoMemoryForText → ⊥) → (e ≡ f) ⊎ (e ≡ NoMemoryForText))
-    → (answer : Result PlainClasses ProjectError) → Says text answer → (p ≡ OutOfMemory) ⊎ (answer ≡ Err p)
+    → (answer : Result PlainClasses ProjectError) → ProjectSays text answer → (p ≡ OutOfMemory) ⊎ (answer ≡ Err p)
 refused_only text e p h only refused answer (inl k) = inl (h ∙ ap refusal_of (only k.0 k.1))
 refused_only text e p h only refused answer (inr k) = by (refused k.0 k.1 k.2)
   where

@@ -18,8 +18,8 @@ SaysValue text answer = (v : Value) × SpelledWithin depth_limit text v × (answ
 abbrev pub SaysRefusal : List ℕ → Result PlainClasses ProjectError → Type 0
 SaysRefusal text answer = (e : JsonError) × IsRefused text e × (e ≢ NoMemoryForText) × (answer ≡ Err (Json e))
 
-abbrev pub Says : List ℕ → Result PlainClasses ProjectError → Type 0
-Says text answer = SaysValue text answer ⊎ SaysRefusal text answer
+abbrev pub ProjectSays : List ℕ → Result PlainClasses ProjectError → Type 0
+ProjectSays text answer = SaysValue text answer ⊎ SaysRefusal text answer
 
 -- the refusal of a text that is no JSON
 abbrev pub refusal_of : JsonError → ProjectError

@@ -18,8 +18,8 @@ name_of e = (reason_in e).name
 abbrev pub code_of : ProjectError → List ℕ
 code_of e = (reason_in e).code
 
-abbrev pub place_of : ProjectError → Option ℕ
-place_of e = (reason_in e).place
+abbrev pub project_place_of : ProjectError → Option ℕ
+project_place_of e = (reason_in e).place
 
-abbrev pub reason_of : ProjectError → List ℕ
-reason_of e = written (reason_in e)
+abbrev pub project_reason_of : ProjectError → List ℕ
+project_reason_of e = written (reason_in e)

@@ -23,7 +23,7 @@ pub enum ProjectError {
 impl ProjectError {
     ghost use Rattle.std.specs.Prelude.{◌≡◌};
     ghost use Rattle.plain_types.specs.Reasons.{plain_reason};
-    ghost use Rattle.net_class.specs.Reasons.{reason_in, name_of, code_of, place_of};
+    ghost use Rattle.net_class.specs.Reasons.{reason_in, name_of, code_of, project_place_of};
 
     fn reason(&self) -> Reason
         ensures { plain_reason result ≡ reason_in self.now }
@@ -52,7 +52,7 @@ impl ProjectError {
 
     /// Its byte of the text. Want of memory has no place.
     pub fn place(&self) -> Option<u32>
-        ensures { result ≡ place_of self.now }
+        ensures { result ≡ project_place_of self.now }
     {
         self.reason().place
     }
@@ -82,9 +82,9 @@ impl<T: Drop> From<AllocFailed<T>> for ProjectError {
 
 impl fmt::Display for ProjectError {
     ghost use Rattle.std.specs.Prelude.{Some};
-    ghost use Rattle.net_class.specs.Reasons.{reason_of};
+    ghost use Rattle.net_class.specs.Reasons.{project_reason_of};
 
-    ghost output = { λ e. Some (reason_of e) };
+    ghost output = { λ e. Some (project_reason_of e) };
 
     fn fmt<W: fmt::Write>(&self, f: &mut fmt::Formatter<W>) -> fmt::Result {
         let name = self.name();

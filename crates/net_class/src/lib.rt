@@ -7,7 +7,7 @@
 ghost use Rattle.std.specs.Prelude.{◌≡◌, ◌≤◌, ◌⊎◌, length, MatchResult, Result, Ok, Err};
 ghost use Rattle.net_class.specs.declared.error.ProjectError.{ProjectError};
 ghost use Rattle.net_class.specs.Classes.{PlainClasses};
-ghost use Rattle.net_class.specs.ProjectText.{Says, refusal_of};
+ghost use Rattle.net_class.specs.ProjectText.{ProjectSays, refusal_of};
 
 mod classes;
 mod drafts;
@@ -31,8 +31,8 @@ use std::alloc::Global;
 /// free.
 pub fn read_project(alloc: Global, text: &[u8]) -> Result<Classes, ProjectError>
     requires { length text.now ≤ 33_554_432 }
-    ensures says { MatchResult result (λ classes. Says text.now (Ok classes)) (λ e. (e ≡ ProjectError.OutOfMemory) ⊎ Says text.now (Err e)) }
-    ensures only { (answer : Result PlainClasses ProjectError) → Says text.now answer → MatchResult result (λ classes. answer ≡ Ok classes) (λ e. (e ≡ ProjectError.OutOfMemory) ⊎ (answer ≡ Err e)) }
+    ensures says { MatchResult result (λ classes. ProjectSays text.now (Ok classes)) (λ e. (e ≡ ProjectError.OutOfMemory) ⊎ ProjectSays text.now (Err e)) }
+    ensures only { (answer : Result PlainClasses ProjectError) → ProjectSays text.now answer → MatchResult result (λ classes. answer ≡ Ok classes) (λ e. (e ≡ ProjectError.OutOfMemory) ⊎ (answer ≡ Err e)) }
 {
     match parse(alloc, text) {
         Ok(json) => classes_of(alloc, json.root()),

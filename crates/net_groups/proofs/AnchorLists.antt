@@ -6,7 +6,7 @@ use Rattle.std.proofs.lemmas.Bool.{cases_lt}
 use Rattle.std.proofs.lemmas.List.{get_or_append_left, get_or-append_right, get_or_default}
 use Rattle.ratsnest.specs.Reach.{IsInReach}
 use Rattle.ratsnest.specs.declared.anchor.Anchor.{Anchor}
-use Rattle.ratsnest.specs.NestOf.{nowhere, anchor_at, group_at, group_count, IsBefore, Rise}
+use Rattle.ratsnest.specs.NestOf.{nowhere, anchor_at, group_at, group_count, IsBefore, AnchorsRise}
 
 -- ---- an anchor is told by what it says; the ranges have one proof each
 ≤ℤ_prop : (a b : ℤ) → IsProp (a ≤ℤ b)
@@ -58,16 +58,16 @@ pub only_one : {X : Type 0} (x y : X) → Contains (x ∷ []) y → x ≡ y
 only_one x y c = elim (cases x [] y c) [ inl e ↦ e | inr more ↦ absurd (nothing y more) ]
 
 -- ---- lists that rise
-pub rise_none : Rise []
+pub rise_none : AnchorsRise []
 rise_none i j lt past = absurd (omega arith)
 
-pub rise_one : (a : Anchor) → Rise (a ∷ [])
+pub rise_one : (a : Anchor) → AnchorsRise (a ∷ [])
 rise_one a i j lt past = absurd (omega arith)
 
 before_at : (a b c d : Anchor) → a ≡ c → b ≡ d → IsBefore c d → IsBefore a b
 before_at a b c d e f h = subst (λ (z : Anchor). IsBefore z b) (sym e) (subst (IsBefore c) (sym f) h)
 
-pub rise_append : (xs ys : List Anchor) → Rise xs → Rise ys → ((a b : Anchor) → Contains xs a → Contains ys b → IsBefore a b) → Rise (xs ++ ys)
+pub rise_append : (xs ys : List Anchor) → AnchorsRise xs → AnchorsRise ys → ((a b : Anchor) → Contains xs a → Contains ys b → IsBefore a b) → AnchorsRise (xs ++ ys)
 rise_append xs ys up more before i j lt past =
     elim (cases_lt j (length xs)) [
       | inl jl ↦
@@ -90,10 +90,10 @@ rise_append xs ys up more before i j lt past =
     within k from past = let whole = length-append xs ys in omega arith
 
 -- ---- two lists that rise and hold the same anchors
-rise_tail : (x : Anchor) (xs : List Anchor) → Rise (x ∷ xs) → Rise xs
+rise_tail : (x : Anchor) (xs : List Anchor) → AnchorsRise (x ∷ xs) → AnchorsRise xs
 rise_tail x xs up i j lt past = up (suc i) (suc j) (omega arith) (omega arith)
 
-before_later : (x : Anchor) (xs : List Anchor) → Rise (x ∷ xs) → (a : Anchor) → Contains xs a → IsBefore x a
+before_later : (x : Anchor) (xs : List Anchor) → AnchorsRise (x ∷ xs) → (a : Anchor) → Contains xs a → IsBefore x a
 before_later x xs up a c =
     let lt = c.1 in
     let e : anchor_at xs c.0 ≡ a = get_or_default xs c.0 nowhere a c.1 ∙ c.2 in
@@ -105,7 +105,7 @@ both_before a b h k = absurd (omega arith)
 never_before : (a b : Anchor) → a ≡ b → IsBefore a b → ⊥
 never_before a b e h = let k : IsBefore a a = subst (IsBefore a) (sym e) h in absurd (omega arith)
 
-pub same_anchors : (xs ys : List Anchor) → Rise xs → Rise ys → ((a : Anchor) → Contains xs a → Contains ys a) → ((a : Anchor) → Contains ys a → Contains xs a) → xs ≡ ys
+pub same_anchors : (xs ys : List Anchor) → AnchorsRise xs → AnchorsRise ys → ((a : Anchor) → Contains xs a → Contains ys a) → ((a : Anchor) → Contains ys a → Contains xs a) → xs ≡ ys
 same_anchors [] [] up more on back = refl
 same_anchors [] (y ∷ ys) up more on back = absurd (nothing y (back y (here y ys)))
 same_anchors (x ∷ xs) [] up more on back = absurd (nothing x (on x (here x xs)))
@@ -122,7 +122,7 @@ same_anchors (x ∷ xs) (y ∷ ys) up more on back =
       ]
     ]
 
-    others : (x : Anchor) (xs : List Anchor) (y : Anchor) (ys : List Anchor) → Rise (x ∷ xs) → x ≡ y → ((a : Anchor) → Contains (x ∷ xs) a → Contains (y ∷ ys) a) → (a : Anchor) → Contains xs a → Contains ys a
+    others : (x : Anchor) (xs : List Anchor) (y : Anchor) (ys : List Anchor) → AnchorsRise (x ∷ xs) → x ≡ y → ((a : Anchor) → Contains (x ∷ xs) a → Contains (y ∷ ys) a) → (a : Anchor) → Contains xs a → Contains ys a
     others x xs y ys up same on a c = elim (cases y ys a (on a (later x xs a c))) [
       | inl is ↦ absurd (never_before x a (same ∙ is) (before_later x xs up a c))
       | inr rest ↦ rest

@@ -4,7 +4,7 @@ use Rattle.std.proofs.lemmas.List.{take_more, append-nil, get_or_default}
 use Rattle.std.proofs.lemmas.List.Elements.{All-filter}
 use Rattle.geo_seg.specs.declared.boxes.Bounds.{Bounds}
 use Rattle.geo_seg.specs.Boxes.{FitsWithin}
-use Rattle.box_index.specs.Tiles.{PlainIndex, IsSound, near_of, is_in}
+use Rattle.box_index.specs.Tiles.{PlainIndex, IsSoundIndex, near_of, is_in}
 use Rattle.box_index.specs.declared.entry.Entry.{Entry}
 use Rattle.net_groups.specs.Classes.{Rises}
 use Rattle.net_groups.specs.Labels.{label_at, IsLabelled, IsVisited}
@@ -77,7 +77,7 @@ pub itself : (es : List Entry) (i : ℕ) → i < length es → get_or es i no_en
 itself es i lt = get_or_default es i no_entry (get_or es i no_entry) lt
 
 -- entries of an index fit
-pub fits_at : (index : PlainIndex) (tile : ℕ) → IsSound index → (es : List Entry) → es ≡ near_of index tile → (i : ℕ) → i < length es → FitsWithin (pos 2000000000) (get_or es i no_entry).bounds
+pub fits_at : (index : PlainIndex) (tile : ℕ) → IsSoundIndex index → (es : List Entry) → es ≡ near_of index tile → (i : ℕ) → i < length es → FitsWithin (pos 2000000000) (get_or es i no_entry).bounds
 fits_at index tile sound es same i lt =
     subst (λ (xs : List Entry). All (λ e. FitsWithin (pos 2000000000) e.bounds) xs) (sym same) (All-filter (is_in index tile) (λ e. FitsWithin (pos 2000000000) e.bounds) index.entries sound.fit) i no_entry lt
 

@@ -16,7 +16,7 @@ use Rattle.item_copper.proofs.Meeting.{copper_to}
 use Rattle.item_copper.proofs.Symmetry.{copper_meets_back}
 use Rattle.box_index.specs.declared.entry.Entry.{Entry}
 use Rattle.geo_seg.specs.Boxes.{are_near}
-use Rattle.box_index.specs.Tiles.{PlainIndex, IsSound, margin, near_of, is_in, meets_tile, owner_of}
+use Rattle.box_index.specs.Tiles.{PlainIndex, IsSoundIndex, margin, near_of, is_in, meets_tile, owner_of}
 use Rattle.box_index.proofs.Buckets.{complete}
 use Rattle.net_groups.specs.Touching.{TouchOn}
 use Rattle.geo_seg.specs.Boxes.{do_boxes_meet}
@@ -72,7 +72,7 @@ boxes_back : (b c : Bounds) → BoxesMeet b c → BoxesMeet c b
 boxes_back b c m = record { left = m.right; right = m.left; top = m.bottom; bottom = m.top }
 
 -- ---- the tile that answers for a pair lends both
-module _ (index : PlainIndex) (sound : IsSound index) where
+module _ (index : PlainIndex) (sound : IsSoundIndex index) where
   wide : pos 0 ≤ℤ margin index
   wide = let from = sound.reach_from in omega (arith, ints)
 
@@ -90,7 +90,7 @@ module _ (index : PlainIndex) (sound : IsSound index) where
   lent_meets tile own c = All-contains (λ (e : Entry). is_in index tile e ≡ true) (near_of index tile) own (filter_passes (is_in index tile) index.entries) c
 
 -- ---- all that a place touches
-module _ (Step : ℕ → ℕ → Type 0) (ids : List ℕ) (rooms : List Bounds) (index : PlainIndex) (are : AreRooms Step ids rooms) (holds : HoldsRooms rooms index) (sound : IsSound index) (own : Entry) (o : IsRoomAt rooms own) where
+module _ (Step : ℕ → ℕ → Type 0) (ids : List ℕ) (rooms : List Bounds) (index : PlainIndex) (are : AreRooms Step ids rooms) (holds : HoldsRooms rooms index) (sound : IsSoundIndex index) (own : Entry) (o : IsRoomAt rooms own) where
   pub asked_somewhere : (j : ℕ) → j < length ids → Step (get_or ids own.id 0) (get_or ids j 0)
       → (tile : ℕ) × (meets_tile (widened own.bounds (margin index)) tile ≡ true) × Contains (asked_in ids index tile own) (get_or ids j 0)
   asked_somewhere j lt s =

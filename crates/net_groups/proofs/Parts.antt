@@ -8,11 +8,11 @@ use Rattle.board_items.specs.Boards.{PlainBoard, IsSound, name_of, item_at}
 use Rattle.board_index.proofs.OneList.{nothing, cons_case}
 use Rattle.net_groups.specs.Groups.{HasCopper, AreGroupsOf, IsOnBoard, items_of}
 use Rattle.net_groups.specs.Anchors.{AreAnchorsOf}
-use Rattle.net_groups.specs.NetParts.{NetPart, IsPartOf, AreParts, IsWritable, real_nets}
+use Rattle.net_groups.specs.NetParts.{PlainNetPart, IsNetPart, AreParts, IsWritable, real_nets}
 use Rattle.net_groups.proofs.Nets.{conductor}
 use Rattle.ratsnest.specs.NestOf.{HasPlaces}
 
-pub part_stays : (old new : PlainBoard) (net : ℕ) → items_of net new.items ≡ items_of net old.items → (part : NetPart) → IsPartOf old net part → IsPartOf new net part
+pub part_stays : (old new : PlainBoard) (net : ℕ) → items_of net new.items ≡ items_of net old.items → (part : PlainNetPart) → IsNetPart old net part → IsNetPart new net part
 part_stays old new net same part h = record {
   number = h.number;
   groups = subst (λ (items : List (ℕ × Item)). AreGroupsOf items part.groups) (sym same) h.groups;
@@ -31,7 +31,7 @@ named (e ∷ es) net c = by_test (λ k. named es net k) (nat_eq net e.0) refl (c
     by_test again false h (inr k) = rw h (again k)
 
 -- some net is that of the part at a place
-its_net : (board : PlainBoard) (nets : List ℕ) (parts : List NetPart) → AllZip (IsPartOf board) nets parts → (k : ℕ) (d : NetPart) → k < length parts → (net : ℕ) × Contains nets net × IsPartOf board net (get_or parts k d)
+its_net : (board : PlainBoard) (nets : List ℕ) (parts : List PlainNetPart) → AllZip (IsNetPart board) nets parts → (k : ℕ) (d : PlainNetPart) → k < length parts → (net : ℕ) × Contains nets net × IsNetPart board net (get_or parts k d)
 its_net board [] [] h k d lt = absurd (omega arith)
 its_net board [] (p ∷ ps) h k d lt = absurd h
 its_net board (n ∷ ns) [] h k d lt = absurd h
@@ -44,7 +44,7 @@ there board id item e = subst IsSome (sym e) refl
 on_board : (board : PlainBoard) → IsSound board → (net id : ℕ) → HasCopper (items_of net board.items) id → IsOnBoard board id
 on_board board s net id has = let is = conductor board net s id has in there board id is.item is.found
 
-pub writable : (board : PlainBoard) → IsSound board → (net : ℕ) → Contains (real_nets board) net → (part : NetPart) → IsPartOf board net part → IsWritable board part
+pub writable : (board : PlainBoard) → IsSound board → (net : ℕ) → Contains (real_nets board) net → (part : PlainNetPart) → IsNetPart board net part → IsWritable board part
 writable board s net c part is = record {
   declared =
       let numbers = map (λ (entry : ℕ × List ℕ). entry.0) board.nets in
@@ -56,5 +56,5 @@ writable board s net c part is = record {
   places = All-weaker (Contains part.links) (HasPlaces part.anchors) (λ link c. let l = (is.links.sound link c).link in (let o = l.in_order in let w = l.within in omega arith, l.within)) part.links (All-contains_itself part.links);
 }
 
-pub are_writable : (board : PlainBoard) → IsSound board → (parts : List NetPart) → AreParts board parts → All (IsWritable board) parts
+pub are_writable : (board : PlainBoard) → IsSound board → (parts : List PlainNetPart) → AreParts board parts → All (IsWritable board) parts
 are_writable board s parts are k d lt = let r = its_net board (real_nets board) parts are k d lt in writable board s r.0 r.1 (get_or parts k d) r.2

@@ -7,7 +7,7 @@ use Rattle.geo_seg.specs.Boxes.{widened}
 use Rattle.box_index.specs.declared.area.Area.{Area}
 use Rattle.box_index.specs.declared.entry.Entry.{Entry}
 use Rattle.box_index.specs.Areas.{has_tile, end_of}
-use Rattle.box_index.specs.Tiles.{PlainIndex, IsSound, margin, meets_tile}
+use Rattle.box_index.specs.Tiles.{PlainIndex, IsSoundIndex, margin, meets_tile}
 use Rattle.net_groups.specs.Labels.{IsVisited}
 use Rattle.net_groups.specs.Asking.{asked_in, IsWalked, IsVisitedWhole}
 use Rattle.net_groups.specs.Rooms.{AreRooms, HoldsRooms, IsRoomAt}
@@ -46,7 +46,7 @@ module _ (Step : ℕ → ℕ → Type 0) (ids : List ℕ) (index : PlainIndex) (
 
 pub walk_done : (Step : ℕ → ℕ → Type 0) (ids : List ℕ) (rooms : List Bounds) (index : PlainIndex) (area : Area) (own : Entry) (label : ℕ) (labels now : List (Option ℕ)) (stack here_stack : List ℕ) (here : ℕ)
     → IsWalked Step ids index area own own.id label labels now stack here_stack here
-    → AreRooms Step ids rooms → HoldsRooms rooms index → IsSound index → IsRoomAt rooms own
+    → AreRooms Step ids rooms → HoldsRooms rooms index → IsSoundIndex index → IsRoomAt rooms own
     → ((tile : ℕ) → has_tile area tile ≡ meets_tile (widened own.bounds (margin index)) tile) → ((tile : ℕ) → here ≤ tile → has_tile area tile ≡ false)
     → IsVisitedWhole Step ids own.id label labels now stack here_stack
 walk_done Step ids rooms index area own label labels now stack here_stack here w are holds sound o tiles none = record {

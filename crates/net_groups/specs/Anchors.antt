@@ -11,7 +11,7 @@ use Rattle.board_items.specs.declared.item.Item.{Item}
 use Rattle.board_items.specs.Boards.{PlainBoard}
 use Rattle.net_groups.specs.Groups.{items_of, HasCopper}
 use Rattle.ratsnest.specs.declared.anchor.Anchor.{Anchor}
-use Rattle.ratsnest.specs.NestOf.{Rise}
+use Rattle.ratsnest.specs.NestOf.{AnchorsRise}
 
 -- where a line ends
 abbrev pub core_end : Core → Option Point
@@ -47,7 +47,7 @@ pub record IsAnchor (items : List (ℕ × Item)) (groups : List (List ℕ)) (anc
 
 -- all anchors of the members of the groups, by rising id and number
 pub record AreAnchorsOf (items : List (ℕ × Item)) (groups : List (List ℕ)) (anchors : List Anchor) : Type 0 where
-  pub rise : Rise anchors
+  pub rise : AnchorsRise anchors
   pub only : (anchor : Anchor) → Contains anchors anchor → IsAnchor items groups anchor
   pub every : (anchor : Anchor) → IsAnchor items groups anchor → Contains anchors anchor
 

@@ -9,18 +9,18 @@ use Rattle.net_groups.specs.Groups.{AreGroups, IsOnBoard}
 use Rattle.net_groups.specs.Anchors.{AreAnchors}
 
 -- its groups, where links may end, and the links
-pub record NetPart : Type 0 where
+pub record PlainNetPart : Type 0 where
   pub net : ℕ
   pub groups : List (List ℕ)
   pub anchors : List Anchor
   pub links : List Link
 
 -- a net is open where its copper is in two pieces or more
-abbrev pub is_open : NetPart → Bool
+abbrev pub is_open : PlainNetPart → Bool
 is_open part = nat_le 2 (length part.groups)
 
 -- what is found of the net of this number: the groups of its items, the anchors of these, and their nest
-pub record IsPartOf (board : PlainBoard) (net : ℕ) (part : NetPart) : Type 0 where
+pub record IsNetPart (board : PlainBoard) (net : ℕ) (part : PlainNetPart) : Type 0 where
   pub number : part.net ≡ net
   pub groups : AreGroups board net part.groups
   pub anchors : AreAnchors board net part.groups part.anchors
@@ -31,11 +31,11 @@ abbrev pub real_nets : PlainBoard → List ℕ
 real_nets board = filter (λ net. not (nat_eq net 0)) (map (λ entry. entry.0) board.nets)
 
 -- a part for each net, in their order
-abbrev pub AreParts : PlainBoard → List NetPart → Type 0
-AreParts board parts = AllZip (IsPartOf board) (real_nets board) parts
+abbrev pub AreParts : PlainBoard → List PlainNetPart → Type 0
+AreParts board parts = AllZip (IsNetPart board) (real_nets board) parts
 
 -- all that the lines of a net ask for
-pub record IsWritable (board : PlainBoard) (part : NetPart) : Type 0 where
+pub record IsWritable (board : PlainBoard) (part : PlainNetPart) : Type 0 where
   pub declared : IsSome (name_of board part.net)
   pub filled : All (λ group. 0 < length group) part.groups
   pub members : All (All (IsOnBoard board)) part.groups

@@ -3,7 +3,7 @@ use Rattle.std.specs.Prelude.{◌≡◌, ℕ, ◌==◌, ◌*◌, ◌≤◌, ◌�
 use Rattle.board_items.specs.declared.item.Item.{Item}
 use Rattle.board_items.specs.Boards.{item_at}
 use Rattle.ratsnest.specs.declared.anchor.Anchor.{Anchor}
-use Rattle.ratsnest.specs.NestOf.{Rise}
+use Rattle.ratsnest.specs.NestOf.{AnchorsRise}
 use Rattle.net_groups.specs.Anchors.{HasAnchor}
 
 -- the number that stands beside the id
@@ -24,7 +24,7 @@ pub record AreNumbered (groups : List (List ℕ)) (numbers : ℕ → Option ℕ)
 
 -- the anchors of one item
 pub record AreOwn (item : Item) (id group : ℕ) (anchors : List Anchor) : Type 0 where
-  pub rise : Rise anchors
+  pub rise : AnchorsRise anchors
   pub few : length anchors ≤ 2
   pub only : (a : Anchor) → Contains anchors a → (a.id ≡ id) × (a.group ≡ group) × HasAnchor item a.number a.x a.y
   pub every : (a : Anchor) → a.id ≡ id → a.group ≡ group → HasAnchor item a.number a.x a.y → Contains anchors a
@@ -45,7 +45,7 @@ pub record IsAnchorAmong (items : List (ℕ × Item)) (numbers : ℕ → Option 
 
 -- all of those, in order
 pub record AreAnchorsAmong (items : List (ℕ × Item)) (numbers : ℕ → Option ℕ) (ids : List ℕ) (anchors : List Anchor) : Type 0 where
-  pub rise : Rise anchors
+  pub rise : AnchorsRise anchors
   pub few : length anchors ≤ 2 * length ids
   pub only : (a : Anchor) → Contains anchors a → IsAnchorAmong items numbers ids a
   pub every : (a : Anchor) → IsAnchorAmong items numbers ids a → Contains anchors a

@@ -2,7 +2,7 @@
 
 ghost use Rattle.std.specs.Prelude.{◌≡◌, ◌<◌, ◌^◌, ℕ, true, Option, IfOk, OnOk, All, length};
 ghost use Rattle.board_items.specs.Boards.{IsSound, ids_of_net, is_on_board};
-ghost use Rattle.ratsnest.specs.NestOf.{Rise, GroupsOccur};
+ghost use Rattle.ratsnest.specs.NestOf.{AnchorsRise, GroupsOccur};
 ghost use Rattle.net_groups.specs.Groups.{AreGroups, IsOnBoard};
 ghost use Rattle.net_groups.specs.Classes.{Rises};
 ghost use Rattle.net_groups.specs.Anchors.{AreAnchors};
@@ -94,7 +94,7 @@ pub fn anchors(
 ) -> Result<Vec<Anchor>, AllocError>
     requires { AreGroups board.now net groups.now }
     ensures anchors { IfOk result (λ anchors. AreAnchors board.now net groups.now anchors.items) }
-    ensures rise { IfOk result (λ anchors. Rise anchors.items) }
+    ensures rise { IfOk result (λ anchors. AnchorsRise anchors.items) }
     ensures occur { IfOk result (λ anchors. GroupsOccur anchors.items) }
     ensures few { IfOk result (λ anchors. length anchors.items < 2 ^ 32) }
     ensures placed { IfOk result (λ anchors. All (λ anchor. IsOnBoard board.now anchor.id) anchors.items) }

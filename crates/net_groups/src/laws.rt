@@ -6,7 +6,7 @@ ghost use Rattle.board_items.specs.Boards.{PlainBoard, IsSound};
 ghost use Rattle.ratsnest.specs.declared.anchor.Anchor.{Anchor};
 ghost use Rattle.net_groups.specs.Groups.{AreGroupsOf, items_of};
 ghost use Rattle.net_groups.specs.Anchors.{AreAnchorsOf};
-ghost use Rattle.net_groups.specs.NetParts.{NetPart, IsPartOf, AreParts, IsWritable};
+ghost use Rattle.net_groups.specs.NetParts.{PlainNetPart, IsNetPart, AreParts, IsWritable};
 
 /// The items of a net have one list of groups.
 pub fn one_list()
@@ -20,10 +20,10 @@ pub fn one_list_of_anchors()
 
 /// What is found of a net stays where its items stay.
 pub fn part_stays()
-    ensures { (old new : PlainBoard) (net : ℕ) → items_of net new.items ≡ items_of net old.items → (part : NetPart) → IsPartOf old net part → IsPartOf new net part }
+    ensures { (old new : PlainBoard) (net : ℕ) → items_of net new.items ≡ items_of net old.items → (part : PlainNetPart) → IsNetPart old net part → IsNetPart new net part }
 {}
 
 /// The parts of a board have all that the lines of its nets ask for.
 pub fn parts_are_writable()
-    ensures { (board : PlainBoard) → IsSound board → (parts : List NetPart) → AreParts board parts → All (IsWritable board) parts }
+    ensures { (board : PlainBoard) → IsSound board → (parts : List PlainNetPart) → AreParts board parts → All (IsWritable board) parts }
 {}

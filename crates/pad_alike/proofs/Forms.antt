@@ -11,8 +11,8 @@ use Rattle.part_read.specs.declared.numbers.Spot.{Spot}
 use Rattle.part_read.specs.declared.figures.Figure.{Figure}
 use Rattle.part_read.specs.declared.figures.Figure.TheVariants.{Line, Rect, Circle, Outline}
 use Rattle.part_read.specs.declared.figures.Drawing.{Drawing}
-use Rattle.part_read.specs.declared.drawings.Kind.{Kind}
-use Rattle.part_read.specs.declared.drawings.Kind.TheVariants.{Line as LineKind, Rect as RectKind, Circle as CircleKind, Outline as OutlineKind}
+use Rattle.part_read.specs.declared.drawings.GraphicKind.{GraphicKind}
+use Rattle.part_read.specs.declared.drawings.GraphicKind.TheVariants.{Line as LineKind, Rect as RectKind, Circle as CircleKind, Outline as OutlineKind}
 use Rattle.list_read.specs.Answers.{◌>>=◌, needed}
 use Rattle.list_read.specs.Heads.{place, is_value, is_text, has_head}
 use Rattle.list_read.specs.Elements.{element}
@@ -128,7 +128,7 @@ kind_plain t u h =
     ∙ ap (λ (b : Bool). by_heads (has_head (codes "gr_line") t) (has_head (codes "gr_rect") t) b (has_head (codes "gr_poly") u)) (sym (heads_alike None t u (codes "gr_circle") h))
     ∙ ap (λ (b : Bool). by_heads (has_head (codes "gr_line") t) (has_head (codes "gr_rect") t) (has_head (codes "gr_circle") t) b) (sym (heads_alike None t u (codes "gr_poly") h))
   where
-    by_heads : Bool → Bool → Bool → Bool → Option Kind
+    by_heads : Bool → Bool → Bool → Bool → Option GraphicKind
     by_heads line rect circle outline =
         if line then Some LineKind
         else if rect then Some RectKind
@@ -136,7 +136,7 @@ kind_plain t u h =
         else if outline then Some OutlineKind
         else None
 
-drawing_plain : (kind : Kind) (t u : Tree) → Plain t u → primitive_kind t ≡ Some kind → Agrees (DrawingRead None) (drawing_of kind t) (drawing_of kind u)
+drawing_plain : (kind : GraphicKind) (t u : Tree) → Plain t u → primitive_kind t ≡ Some kind → Agrees (DrawingRead None) (drawing_of kind t) (drawing_of kind u)
 unfolding has_head
 drawing_plain kind (leaf s q c) u h e = absurd cc
 drawing_plain kind (branch s i) (leaf r p e) h k = absurd h
@@ -147,7 +147,7 @@ curves_plain t u h =
     ap (λ (b : Bool). b || has_head (codes "gr_curve") u) (sym (heads_alike None t u (codes "gr_arc") h)) ∙ ap (λ (b : Bool). has_head (codes "gr_arc") t || b) (sym (heads_alike None t u (codes "gr_curve") h))
 
 primitive_plain : (pad new t u : Tree) → Plain t u → Agrees AreRead (primitive_by pad t (primitive_kind t)) (primitive_by new u (primitive_kind u))
-primitive_plain pad new t u h = subst (λ (o : Option Kind). Agrees AreRead (primitive_by pad t (primitive_kind t)) (primitive_by new u o)) (sym (kind_plain t u h)) (by_kind (primitive_kind t) refl)
+primitive_plain pad new t u h = subst (λ (o : Option GraphicKind). Agrees AreRead (primitive_by pad t (primitive_kind t)) (primitive_by new u o)) (sym (kind_plain t u h)) (by_kind (primitive_kind t) refl)
   where
     by_curve : (b c : Bool) → c ≡ b → Agrees AreRead (if b then Err (Arc (place t)) else Ok []) (if c then Err (Arc (place u)) else Ok [])
     by_curve true c e = tt
@@ -157,7 +157,7 @@ primitive_plain pad new t u h = subst (λ (o : Option Kind). Agrees AreRead (pri
     rings : (x y : Drawing) → DrawingRead None x y → not (is_ring y) ≡ not (is_ring x)
     rings x y k = ap (λ (z : Drawing). not (is_ring z)) k.is ∙ ap not (ring_same None x.figure k.figure x.width x.filled k.figures)
 
-    by_kind : (o : Option Kind) → primitive_kind t ≡ o → Agrees AreRead (primitive_by pad t o) (primitive_by new u o)
+    by_kind : (o : Option GraphicKind) → primitive_kind t ≡ o → Agrees AreRead (primitive_by pad t o) (primitive_by new u o)
     by_kind None e = by_curve (has_head (codes "gr_arc") t || has_head (codes "gr_curve") t) (has_head (codes "gr_arc") u || has_head (codes "gr_curve") u) (curves_plain t u h)
     by_kind (Some kind) e =
         agrees_bind (DrawingRead None) AreRead (drawing_of kind t) (drawing_of kind u) _ _ (drawing_plain kind t u h e)

@@ -4,7 +4,7 @@ use Rattle.std.proofs.lemmas.Bool.{ltb-false}
 use Rattle.exact_dec.specs.declared.DecError.{DecError}
 use Rattle.exact_dec.specs.declared.DecError.TheVariants.{TooWide}
 use Rattle.exact_dec.specs.Reading.{is_long, is_far, is_no_half}
-use Rattle.exact_dec.specs.Decimal.{Parts, times, value}
+use Rattle.exact_dec.specs.Decimal.{Spelling, times, value}
 use Rattle.exact_dec.specs.Computed.{near, ratio_near_answer, answer_of, parts_of}
 use Rattle.board_errors.specs.declared.errors.BoardError.{BoardError}
 use Rattle.sexpr_read.specs.Tree.{Tree, content}
@@ -22,7 +22,7 @@ by_tests false false false n m h e =
     let s : unsigned_abs n ≡ unsigned_abs m = ap unsigned_abs same in
     omega (arith, k, s)
 
-by_parts : (text : List ℕ) (size : ℤ) (p : Option Parts) (m : ℤ) → answer_of text size near is_no_half p ≡ Ok m → unsigned_abs m ≤ 1000000000000
+by_parts : (text : List ℕ) (size : ℤ) (p : Option Spelling) (m : ℤ) → answer_of text size near is_no_half p ≡ Ok m → unsigned_abs m ≤ 1000000000000
 by_parts text size None m h = absurd cc
 by_parts text size (Some p) m h = by_tests (is_long text p) (is_far (near (times size (value p)))) (is_no_half (value p)) (near (times size (value p))) m h refl
 

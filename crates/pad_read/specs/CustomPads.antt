@@ -4,8 +4,8 @@ use Rattle.std.specs.List.{list_all}
 use Rattle.sexpr_read.specs.Tree.{Tree, parts}
 use Rattle.board_errors.specs.declared.errors.BoardError.{BoardError}
 use Rattle.board_errors.specs.declared.errors.BoardError.TheVariants.{PadShape, Arc, Ring}
-use Rattle.part_read.specs.declared.drawings.Kind.{Kind}
-use Rattle.part_read.specs.declared.drawings.Kind.TheVariants.{Line, Rect, Circle, Outline}
+use Rattle.part_read.specs.declared.drawings.GraphicKind.{GraphicKind}
+use Rattle.part_read.specs.declared.drawings.GraphicKind.TheVariants.{Line, Rect, Circle, Outline}
 use Rattle.part_read.specs.declared.figures.Drawing.{Drawing}
 use Rattle.list_read.specs.Answers.{◌>>=◌, check}
 use Rattle.list_read.specs.Heads.{place, is_text, has_head}
@@ -33,7 +33,7 @@ anchor_of s pad =
 
 -- ---- the primitives
 
-abbrev pub primitive_kind : Tree → Option Kind
+abbrev pub primitive_kind : Tree → Option GraphicKind
 primitive_kind t =
     if has_head (codes "gr_line") t then Some Line
     else if has_head (codes "gr_rect") t then Some Rect
@@ -42,7 +42,7 @@ primitive_kind t =
     else None
 
 -- an open circle is refused at the pad; arcs and curves are refused where they stand; others are passed over
-abbrev pub primitive_by : Tree → Tree → Option Kind → Result (List Drawing) BoardError
+abbrev pub primitive_by : Tree → Tree → Option GraphicKind → Result (List Drawing) BoardError
 primitive_by pad t (Some kind) = do
   drawing ← drawing_of kind t
   solid ← check (Ring (place pad)) (not (is_ring drawing))

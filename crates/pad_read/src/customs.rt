@@ -16,25 +16,25 @@ use crate::primitives::Primitives;
 use crate::sizes::{Cushion, Sizes};
 use board_items::BoardError;
 use list_read::{element, has_head, place};
-use part_read::{Drawing, Kind, drawing_of, first_atom, is_ring};
+use part_read::{Drawing, GraphicKind, drawing_of, first_atom, is_ring};
 use plain_types::one;
 use sexpr_read::Node;
 use std::alloc::{AllocError, Global};
 
-fn primitive_kind(node: Node<'_, '_>) -> Option<Kind>
+fn primitive_kind(node: Node<'_, '_>) -> Option<GraphicKind>
     ensures { result ≡ primitive_kind (tree_of node.entry) }
 {
     if has_head(node, b"gr_line") {
-        return Some(Kind::Line);
+        return Some(GraphicKind::Line);
     }
     if has_head(node, b"gr_rect") {
-        return Some(Kind::Rect);
+        return Some(GraphicKind::Rect);
     }
     if has_head(node, b"gr_circle") {
-        return Some(Kind::Circle);
+        return Some(GraphicKind::Circle);
     }
     if has_head(node, b"gr_poly") {
-        return Some(Kind::Outline);
+        return Some(GraphicKind::Outline);
     }
     None
 }
@@ -44,7 +44,7 @@ fn primitive_by(
     alloc: Global,
     pad: Node<'_, '_>,
     node: Node<'_, '_>,
-    kind: Option<Kind>,
+    kind: Option<GraphicKind>,
 ) -> Result<Vec<Drawing>, BoardError>
     ensures drawings { GivesItems result (primitive_by (tree_of pad.entry) (tree_of node.entry) kind) }
     ensures drawable { IfOk result (λ drawings. All IsDrawable drawings.items) }

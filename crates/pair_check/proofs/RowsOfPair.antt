@@ -13,7 +13,7 @@ use Rattle.rule_pick.specs.declared.kinds.Source.TheVariants.{Default}
 use Rattle.rule_pick.specs.FactsOf.{AreFactsOf}
 use Rattle.rule_pick.proofs.OneFacts.{one_facts}
 use Rattle.kind_subjects.specs.declared.layer.RowLayer.{RowLayer}
-use Rattle.pair_check.specs.PlainRow.{PlainRow, AreOrdered, AreInOrder}
+use Rattle.pair_check.specs.PlainRow.{PlainRow, AreOrdered, IdsAreInOrder}
 use Rattle.kind_subjects.specs.Layers.{IsFirst}
 use Rattle.kind_subjects.specs.Compared.{is_compared}
 use Rattle.kind_subjects.specs.Facing.{MeetAt}
@@ -27,10 +27,10 @@ use Rattle.pair_check.proofs.OneRow.{AreAlike, broken_once}
 
 -- ---- kinds of two
 
-pub meeting_in_order : (kind : Kind) (first second : ℕ) → family kind ≡ Meets → first < second → AreInOrder kind first second
+pub meeting_in_order : (kind : Kind) (first second : ℕ) → family kind ≡ Meets → first < second → IdsAreInOrder kind first second
 meeting_in_order kind first second e lt = subst (λ (f : Family). AreOrdered f first second) (sym e) lt
 
-pub near_in_order : (kind : Kind) (first second : ℕ) → family kind ≡ Keeps → first < second → AreInOrder kind first second
+pub near_in_order : (kind : Kind) (first second : ℕ) → family kind ≡ Keeps → first < second → IdsAreInOrder kind first second
 near_in_order kind first second e lt = subst (λ (f : Family). AreOrdered f first second) (sym e) lt
 
 module _ (d : Deciders) (pair : Pair) where

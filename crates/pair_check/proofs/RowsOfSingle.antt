@@ -14,7 +14,7 @@ use Rattle.kind_subjects.specs.declared.subject.Subject.TheVariants.{Whole}
 use Rattle.kind_subjects.specs.declared.layer.RowLayer.{RowLayer}
 use Rattle.kind_subjects.specs.Subjects.{subject_of}
 use Rattle.kind_subjects.specs.KindLayers.{IsSeenOn, IsLayerOf}
-use Rattle.pair_check.specs.PlainRow.{PlainRow, AreOrdered, AreInOrder}
+use Rattle.pair_check.specs.PlainRow.{PlainRow, AreOrdered, IdsAreInOrder}
 use Rattle.kind_subjects.specs.Layers.{IsTried}
 use Rattle.kind_subjects.specs.SingleLayers.{IsAskedAt}
 use Rattle.pair_check.specs.Singles.{SaysLimit, SaysForbidden, BreaksAloneBy, BreaksAlone}
@@ -28,10 +28,10 @@ use Rattle.pair_check.proofs.RowsOfPair.{item_once, facts_once}
 
 -- ---- kinds of one
 
-pub limit_in_order : (kind : Kind) (id : ℕ) → family kind ≡ Limits → AreInOrder kind id id
+pub limit_in_order : (kind : Kind) (id : ℕ) → family kind ≡ Limits → IdsAreInOrder kind id id
 limit_in_order kind id e = subst (λ (f : Family). AreOrdered f id id) (sym e) refl
 
-pub ban_in_order : (kind : Kind) (id : ℕ) → family kind ≡ Forbids → AreInOrder kind id id
+pub ban_in_order : (kind : Kind) (id : ℕ) → family kind ≡ Forbids → IdsAreInOrder kind id id
 ban_in_order kind id e = subst (λ (f : Family). AreOrdered f id id) (sym e) refl
 
 whole_of : (kind : Kind) → family kind ≡ Forbids → subject_of kind ≡ Whole

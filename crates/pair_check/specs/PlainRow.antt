@@ -10,7 +10,7 @@ use Rattle.cond_lang.specs.declared.rule.Severity.TheVariants.{Error, Warning, I
 use Rattle.rule_pick.specs.declared.kinds.Source.{Source}
 use Rattle.kind_subjects.specs.declared.layer.RowLayer.{RowLayer}
 use Rattle.kind_subjects.specs.KindLayers.{IsLayerOf}
-use Rattle.kind_subjects.specs.Lengths.{IsWithin}
+use Rattle.kind_subjects.specs.Lengths.{IsNearZero}
 
 -- the ids of the two items, or twice that of the one; what is broken, on which layer, the value that is asked for, the length that
 -- there is, whether it is over the greatest value rather than below the least, what asks for it, and how much it weighs. Lengths are
@@ -33,8 +33,8 @@ AreOrdered Keeps first second = first < second
 AreOrdered Limits first second = second ≡ first
 AreOrdered Forbids first second = second ≡ first
 
-abbrev pub AreInOrder : Kind → ℕ → ℕ → Type 0
-AreInOrder kind first second = AreOrdered (family kind) first second
+abbrev pub IdsAreInOrder : Kind → ℕ → ℕ → Type 0
+IdsAreInOrder kind first second = AreOrdered (family kind) first second
 
 -- only errors and warnings make rows
 abbrev pub Counts : Severity → Type 0
@@ -45,8 +45,8 @@ Counts Exclusion = ⊥
 
 -- what holds of each row
 pub record HasRanges (row : PlainRow) : Type 0 where
-  pub ordered : AreInOrder row.kind row.first row.second
+  pub ordered : IdsAreInOrder row.kind row.first row.second
   pub layer : IsLayerOf row.kind row.layer
   pub value : IsLength row.value
-  pub gap : IsWithin row.gap
+  pub gap : IsNearZero row.gap
   pub severity : Counts row.severity

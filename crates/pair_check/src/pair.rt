@@ -12,7 +12,7 @@ ghost use Rattle.kind_subjects.specs.Compared.{is_compared};
 ghost use Rattle.pair_check.specs.Pairs.{IsGivenPlace, IsNearAt};
 ghost use Rattle.pair_check.specs.Asked.{AsksNothing, IsNoteOf};
 ghost use Rattle.pair_check.specs.Rows.{deciders, Stands, AreRowsWhere, AreRowsOfPair};
-ghost use Rattle.pair_check.specs.Views.{checked_by, IsWhole};
+ghost use Rattle.pair_check.specs.Views.{checked_by, IsWholeView};
 ghost use Rattle.pair_check.specs.Stages.{pair_of, IsNear, IsOfPair, IsOfKind, AreRowsBelow};
 
 use crate::asked::{ANYTHING, Asked};
@@ -306,7 +306,7 @@ pub fn test_two(
     other: Single<'_>,
     rows: &mut PairRows,
 )
-    requires view { IsWhole view.now }
+    requires view { IsWholeView view.now }
     requires asked { IsNoteOf (deciders (checked_by view.now)) asked }
     requires ordered { first < second }
     requires first { Stands (checked_by view.now) first one.item.now one.facts.now }
@@ -335,7 +335,7 @@ pub fn test_pair<L: Ledger>(
     second: u32,
     steps: &mut Steps<L>,
 ) -> PairRows
-    requires view { IsWhole view.now }
+    requires view { IsWholeView view.now }
     requires ordered { first < second }
     requires first { IsSome (item_at (checked_by view.now).board.items first) }
     requires second { IsSome (item_at (checked_by view.now).board.items second) }

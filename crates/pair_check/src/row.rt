@@ -3,8 +3,8 @@
 ghost use Rattle.std.specs.Prelude.{◌≡◌, ◌↔◌, IsTrue};
 ghost use Rattle.plain_types.specs.Lengths.{IsLength};
 ghost use Rattle.kind_subjects.specs.KindLayers.{IsLayerOf};
-ghost use Rattle.kind_subjects.specs.Lengths.{IsWithin};
-ghost use Rattle.pair_check.specs.PlainRow.{AreInOrder, Counts};
+ghost use Rattle.kind_subjects.specs.Lengths.{IsNearZero};
+ghost use Rattle.pair_check.specs.PlainRow.{IdsAreInOrder, Counts};
 
 use board_items::Nm;
 use cond_lang::{Kind, Severity};
@@ -53,7 +53,7 @@ impl Row {
     /// The lesser id of the two items, or the id of the one.
     pub fn first(&self) -> u32
         ensures value { result ≡ self.now.first }
-        ensures ordered { AreInOrder self.now.kind result self.now.second }
+        ensures ordered { IdsAreInOrder self.now.kind result self.now.second }
     {
         self.first
     }
@@ -61,7 +61,7 @@ impl Row {
     /// The greater id; of a single item the same as the first.
     pub fn second(&self) -> u32
         ensures value { result ≡ self.now.second }
-        ensures ordered { AreInOrder self.now.kind self.now.first result }
+        ensures ordered { IdsAreInOrder self.now.kind self.now.first result }
     {
         self.second
     }
@@ -93,7 +93,7 @@ impl Row {
     /// items meet.
     pub fn gap(&self) -> Nm
         ensures value { result ≡ self.now.gap }
-        ensures range { IsWithin result }
+        ensures range { IsNearZero result }
     {
         self.gap
     }

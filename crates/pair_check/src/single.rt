@@ -7,14 +7,14 @@ ghost use Rattle.board_items.specs.Boards.{item_at};
 ghost use Rattle.cond_lang.specs.declared.kind.Family.{Family};
 ghost use Rattle.cond_lang.specs.Kinds.{family, kind_number};
 ghost use Rattle.rule_pick.specs.Picks.{pick_of};
-ghost use Rattle.kind_subjects.specs.Lengths.{IsWithin, length_of};
+ghost use Rattle.kind_subjects.specs.Lengths.{IsNearZero, length_of};
 ghost use Rattle.pair_check.specs.PlainRow.{PlainRow};
 ghost use Rattle.kind_subjects.specs.declared.layer.RowLayer.{RowLayer};
 ghost use Rattle.kind_subjects.specs.Layers.{IsTried, IsFirst, HoldsNowhere};
 ghost use Rattle.kind_subjects.specs.SingleLayers.{IsAskedAt, IsMeasuredAt};
 ghost use Rattle.pair_check.specs.Singles.{BreaksLimit, bans_what, bans_item, Forbids, IsOffAt, IsForbiddenAt};
 ghost use Rattle.pair_check.specs.Rows.{deciders, Stands, AreRowsWhere, AreRowsOfItem};
-ghost use Rattle.pair_check.specs.Views.{checked_by, IsWhole};
+ghost use Rattle.pair_check.specs.Views.{checked_by, IsWholeView};
 ghost use Rattle.pair_check.specs.Stages.{IsOff, IsForbidden, IsOfSingle, IsOfKind, AreRowsBelow};
 
 use crate::asked::some_asks;
@@ -33,7 +33,7 @@ use std::alloc::Global;
 
 /// The item of the id, with its facts, if the board has it. It takes no memory.
 pub fn single_at<'a>(view: &CheckView<'a>, id: u32) -> Option<Single<'a>>
-    requires { IsWhole view.now }
+    requires { IsWholeView view.now }
     ensures { MatchOption result (item_at (checked_by view.now).board.items id ≡ None) (λ s. Stands (checked_by view.now) id s.item.now s.facts.now) }
 {
     let item = view.board.get(id)?;
@@ -43,7 +43,7 @@ pub fn single_at<'a>(view: &CheckView<'a>, id: u32) -> Option<Single<'a>>
 
 // The limit that the measured length breaks.
 fn broken_limit(kind: Kind, n: Nm, picked: Picked) -> Option<Limit>
-    requires { IsWithin n }
+    requires { IsNearZero n }
     ensures broken { MatchOption result ((over : Bool) (limit : ℤ) → ¬ (BreaksLimit kind n (pick_of picked) over limit)) (λ l. BreaksLimit kind n (pick_of picked) l.over l.nm) }
     ensures range { IfSome result (λ l. IsLength l.nm) }
 {
@@ -72,7 +72,7 @@ fn broken_limit(kind: Kind, n: Nm, picked: Picked) -> Option<Limit>
 fn off_at(view: &CheckView, kind: Kind, single: Single<'_>, n: Nm, layer: RowLayer) -> Option<Off>
     requires few { length view.now.rules.now < 4294967295 }
     requires limit { family kind ≡ Family.Limits }
-    requires within { IsWithin n }
+    requires within { IsNearZero n }
     requires tried { IsTried view.now.board.now.copper layer }
     ensures broken { MatchOption result (¬ (IsOffAt (deciders (checked_by view.now)) kind single.entry.item.now single.entry.facts.now n layer))
         (λ off. (off.layer ≡ layer) × IsMeasuredAt kind single.entry.item.now layer × IsOff (deciders (checked_by view.now)) kind single.entry.facts.now n off) }
@@ -104,7 +104,7 @@ fn off_at(view: &CheckView, kind: Kind, single: Single<'_>, n: Nm, layer: RowLay
 fn first_off(view: &CheckView, kind: Kind, single: Single<'_>, n: Nm) -> Option<Off>
     requires few { length view.now.rules.now < 4294967295 }
     requires limit { family kind ≡ Family.Limits }
-    requires within { IsWithin n }
+    requires within { IsNearZero n }
     ensures broken { MatchOption result (HoldsNowhere view.now.board.now.copper (IsOffAt (deciders (checked_by view.now)) kind single.entry.item.now single.entry.facts.now n))
         (λ off. IsOff (deciders (checked_by view.now)) kind single.entry.facts.now n off × IsFirst view.now.board.now.copper (IsOffAt (deciders (checked_by view.now)) kind single.entry.item.now single.entry.facts.now n) off.layer) }
     ensures range { IfSome result (λ off. IsLength off.limit.nm) }
@@ -315,7 +315,7 @@ fn rows_of(alloc: Global, view: &CheckView, id: u32, single: Single<'_>) -> Pair
 /// item is asked on the layers of its copper, a footprint on that of its side, and an item without copper on none; edges,
 /// areas and notes are not asked. Lengths are in nanometres.
 pub fn test_item(alloc: Global, view: &CheckView, id: u32) -> PairRows
-    requires view { IsWhole view.now }
+    requires view { IsWholeView view.now }
     requires item { IsSome (item_at (checked_by view.now).board.items id) }
     ensures { AreRowsOfItem (checked_by view.now) id result }
 {

@@ -21,8 +21,8 @@ use Rattle.part_read.specs.declared.radii.Radius.{Radius}
 use Rattle.part_read.specs.declared.figures.Figure.{Figure}
 use Rattle.part_read.specs.declared.figures.Figure.TheVariants.{Line, Rect, Circle, Outline}
 use Rattle.part_read.specs.declared.figures.Drawing.{Drawing}
-use Rattle.part_read.specs.declared.drawings.Kind.{Kind}
-use Rattle.part_read.specs.declared.drawings.Kind.TheVariants.{Line as LineKind, Rect as RectKind, Circle as CircleKind, Outline as OutlineKind}
+use Rattle.part_read.specs.declared.drawings.GraphicKind.{GraphicKind}
+use Rattle.part_read.specs.declared.drawings.GraphicKind.TheVariants.{Line as LineKind, Rect as RectKind, Circle as CircleKind, Outline as OutlineKind}
 use Rattle.part_read.specs.declared.graphics.Ground.{Ground}
 use Rattle.part_read.specs.declared.graphics.Ground.TheVariants.{Copper, Outlines, Front, Back, Elsewhere}
 use Rattle.list_read.specs.Answers.{◌>>=◌, needed, check}
@@ -111,7 +111,7 @@ outline_started tree d h =
     let f = both_ok (fill_of true tree) _ d b.1.1 in
     moved_start (same_ok f.1.1) (corners_started tree a.0 a.1.0)
 
-drawing_started : (kind : Kind) (tree : Tree) (d : Drawing) → drawing_of kind tree ≡ Ok d → IsStarted d.figure
+drawing_started : (kind : GraphicKind) (tree : Tree) (d : Drawing) → drawing_of kind tree ≡ Ok d → IsStarted d.figure
 drawing_started LineKind tree d h = line_started tree d h
 drawing_started RectKind tree d h = rect_started tree d h
 drawing_started CircleKind tree d h = circle_started tree d h
@@ -194,7 +194,7 @@ no_more copper (p ∷ ps) h = by (is_within p.layers copper) (list_all (λ part.
     by true b h k = k h
     by false b h k = absurd cc
 
-copper_ready : (board : PlainBoard) (unit : ℕ) (stance : Stance) (kind : Kind) (layer : ℕ) (tree : Tree) (item : Item) → is_some (name_of board 0) ≡ true → IsTrue (has_layer board.copper layer)
+copper_ready : (board : PlainBoard) (unit : ℕ) (stance : Stance) (kind : GraphicKind) (layer : ℕ) (tree : Tree) (item : Item) → is_some (name_of board 0) ≡ true → IsTrue (has_layer board.copper layer)
     → copper_graphic board unit stance kind layer tree ≡ Ok item → IsReady board unit item
 unfolding copper_graphic
 copper_ready board unit stance kind layer tree item z on h =
@@ -214,7 +214,7 @@ edge_drawn : (stance : Stance) (d : Drawing) (ps : List Part) (b : Bool) → is_
 edge_drawn stance d ps true k h = h
 edge_drawn stance d ps false k h = absurd cc
 
-edge_ready : (board : PlainBoard) (unit : ℕ) (stance : Stance) (kind : Kind) (tree : Tree) (item : Item) → is_some (name_of board 0) ≡ true → edge_graphic unit stance kind tree ≡ Ok item → IsReady board unit item
+edge_ready : (board : PlainBoard) (unit : ℕ) (stance : Stance) (kind : GraphicKind) (tree : Tree) (item : Item) → is_some (name_of board 0) ≡ true → edge_graphic unit stance kind tree ≡ Ok item → IsReady board unit item
 unfolding edge_graphic
 edge_ready board unit stance kind tree item z h =
     let a = both_ok (drawing_of kind tree) _ item h in
@@ -235,7 +235,7 @@ no_items board unit items e = subst (λ (is : List Item). All (IsReady board uni
 this_item : (board : PlainBoard) (unit : ℕ) (item : Item) (items : List Item) → item ∷ [] ≡ items → IsReady board unit item → All (IsReady board unit) items
 this_item board unit item items e h = subst (λ (is : List Item). All (IsReady board unit) is) e (All-cons (IsReady board unit) item [] h (All-nil (IsReady board unit)))
 
-pub graphic_ready : (board : PlainBoard) (unit : ℕ) (stance : Stance) (kind : Kind) (tree : Tree) (lies : Ground) (items : List Item) → is_some (name_of board 0) ≡ true → IsOn board.copper lies
+pub graphic_ready : (board : PlainBoard) (unit : ℕ) (stance : Stance) (kind : GraphicKind) (tree : Tree) (lies : Ground) (items : List Item) → is_some (name_of board 0) ≡ true → IsOn board.copper lies
     → graphic_by board unit stance kind tree lies ≡ Ok items → All (IsReady board unit) items
 graphic_ready board unit stance kind tree (Copper layer) items z on h =
     let a = both_ok (copper_graphic board unit stance kind layer tree) _ items h in

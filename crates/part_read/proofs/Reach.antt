@@ -8,7 +8,7 @@ use Rattle.std.proofs.lemmas.Bool.{ltb-false}
 use Rattle.exact_dec.specs.declared.DecError.{DecError}
 use Rattle.exact_dec.specs.declared.DecError.TheVariants.{TooWide}
 use Rattle.exact_dec.specs.Reading.{is_long, is_far, no_more}
-use Rattle.exact_dec.specs.Decimal.{Parts, Fraction, cut, times, value}
+use Rattle.exact_dec.specs.Decimal.{Spelling, Fraction, cut, times, value}
 use Rattle.exact_dec.specs.Computed.{mm_cut_answer, answer_of, parts_of}
 use Rattle.board_errors.specs.declared.errors.BoardError.{BoardError}
 use Rattle.sexpr_read.specs.Tree.{Tree, content}
@@ -29,7 +29,7 @@ by_tests false false false n m h e =
     let s : unsigned_abs n ≡ unsigned_abs m = ap unsigned_abs same in
     omega (arith, k, s)
 
-by_parts : (text : List ℕ) (unit : ℤ) (rounded : Fraction → ℤ) (beyond : Fraction → Bool) (p : Option Parts) (m : ℤ) → answer_of text unit rounded beyond p ≡ Ok m → unsigned_abs m ≤ 1000000000000
+by_parts : (text : List ℕ) (unit : ℤ) (rounded : Fraction → ℤ) (beyond : Fraction → Bool) (p : Option Spelling) (m : ℤ) → answer_of text unit rounded beyond p ≡ Ok m → unsigned_abs m ≤ 1000000000000
 by_parts text unit rounded beyond None m h = absurd cc
 by_parts text unit rounded beyond (Some p) m h = by_tests (is_long text p) (is_far (rounded (times unit (value p)))) (beyond (value p)) (rounded (times unit (value p))) m h refl
 

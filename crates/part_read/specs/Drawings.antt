@@ -8,8 +8,8 @@ use Rattle.board_errors.specs.declared.errors.BoardError.TheVariants.{Missing, A
 use Rattle.part_read.specs.declared.numbers.Spot.{Spot}
 use Rattle.part_read.specs.declared.figures.Figure.TheVariants.{Line, Rect, Circle, Outline}
 use Rattle.part_read.specs.declared.figures.Drawing.{Drawing}
-use Rattle.part_read.specs.declared.drawings.Kind.{Kind}
-use Rattle.part_read.specs.declared.drawings.Kind.TheVariants.{Line as LineKind, Rect as RectKind, Circle as CircleKind, Outline as OutlineKind}
+use Rattle.part_read.specs.declared.drawings.GraphicKind.{GraphicKind}
+use Rattle.part_read.specs.declared.drawings.GraphicKind.TheVariants.{Line as LineKind, Rect as RectKind, Circle as CircleKind, Outline as OutlineKind}
 use Rattle.list_read.specs.Answers.{◌>>=◌, check}
 use Rattle.list_read.specs.Heads.{place, is_text, has_head}
 use Rattle.list_read.specs.Elements.{element}
@@ -95,7 +95,7 @@ outline_drawing tree = do
   filled ← fill_of true tree
   Ok (record { figure = Outline corners; width = width; filled = filled })
 
-abbrev pub drawing_of : Kind → Tree → Result Drawing BoardError
+abbrev pub drawing_of : GraphicKind → Tree → Result Drawing BoardError
 drawing_of LineKind tree = line_drawing tree
 drawing_of RectKind tree = rect_drawing tree
 drawing_of CircleKind tree = circle_drawing tree

@@ -11,7 +11,7 @@ use Rattle.board_items.specs.declared.item.Item.{Item}
 use Rattle.copper_layers.specs.Layers.{single_layer}
 use Rattle.board_items.specs.Boards.{PlainBoard}
 use Rattle.part_read.specs.declared.stances.Stance.{Stance}
-use Rattle.part_read.specs.declared.drawings.Kind.{Kind}
+use Rattle.part_read.specs.declared.drawings.GraphicKind.{GraphicKind}
 use Rattle.part_read.specs.declared.graphics.Ground.{Ground}
 use Rattle.part_read.specs.declared.graphics.Ground.TheVariants.{Copper, Outlines, Front, Back, Elsewhere}
 use Rattle.list_read.specs.Answers.{◌>>=◌, needed, check}
@@ -49,7 +49,7 @@ ground_of copper tree = ground_among copper (element (codes "layer") tree)
 -- ---- items
 
 -- a graphic on a copper layer: its net is read last of its elements; an open circle is refused
-unfoldable pub copper_graphic : PlainBoard → ℕ → Stance → Kind → ℕ → Tree → Result Item BoardError
+unfoldable pub copper_graphic : PlainBoard → ℕ → Stance → GraphicKind → ℕ → Tree → Result Item BoardError
 copper_graphic board unit stance kind layer tree = do
   drawing ← drawing_of kind tree
   net ← net_of board tree
@@ -58,7 +58,7 @@ copper_graphic board unit stance kind layer tree = do
   Ok (plain_item (name_in tree) unit net (stood stance (first_spot drawing.figure)) copper Graphic refl)
 
 -- a graphic on Edge.Cuts, of which the lines alone count; a circle is refused
-unfoldable pub edge_graphic : ℕ → Stance → Kind → Tree → Result Item BoardError
+unfoldable pub edge_graphic : ℕ → Stance → GraphicKind → Tree → Result Item BoardError
 edge_graphic unit stance kind tree = do
   drawing ← drawing_of kind tree
   round ← check (Ring (place tree)) (not (is_circle drawing.figure))
@@ -74,7 +74,7 @@ note_of name unit about layer = plain_item name unit 0 (record { x = pos 0; y = 
 abbrev pub one_item : Result Item BoardError → Result (List Item) BoardError
 one_item answer = answer >>= λ item. Ok (item ∷ [])
 
-abbrev pub graphic_by : PlainBoard → ℕ → Stance → Kind → Tree → Ground → Result (List Item) BoardError
+abbrev pub graphic_by : PlainBoard → ℕ → Stance → GraphicKind → Tree → Ground → Result (List Item) BoardError
 graphic_by board unit stance kind tree (Copper layer) = one_item (copper_graphic board unit stance kind layer tree)
 graphic_by board unit stance kind tree Outlines = one_item (edge_graphic unit stance kind tree)
 graphic_by board unit stance kind tree lies = Ok []

@@ -24,7 +24,7 @@ use std::alloc::{AllocError, Global};
 
 /// What a graphic is, by its head.
 #[derive(Clone, Copy, Debug, PartialEq, Eq, Drop)]
-pub enum Kind {
+pub enum GraphicKind {
     Line,
     Rect,
     Circle,
@@ -226,14 +226,18 @@ fn outline_drawing(alloc: Global, node: Node<'_, '_>) -> Result<Drawing, BoardEr
 }
 
 /// What a graphic of this kind draws.
-pub fn drawing_of(alloc: Global, kind: Kind, node: Node<'_, '_>) -> Result<Drawing, BoardError>
+pub fn drawing_of(
+    alloc: Global,
+    kind: GraphicKind,
+    node: Node<'_, '_>,
+) -> Result<Drawing, BoardError>
     ensures drawing { Gives result (drawing_of kind (tree_of node.entry)) }
     ensures drawable { IfOk result IsDrawable }
 {
     match kind {
-        Kind::Line => line_drawing(node),
-        Kind::Rect => rect_drawing(node),
-        Kind::Circle => circle_drawing(node),
-        Kind::Outline => outline_drawing(alloc, node),
+        GraphicKind::Line => line_drawing(node),
+        GraphicKind::Rect => rect_drawing(node),
+        GraphicKind::Circle => circle_drawing(node),
+        GraphicKind::Outline => outline_drawing(alloc, node),
     }
 }

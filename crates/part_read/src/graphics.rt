@@ -14,7 +14,7 @@ ghost use Rattle.part_read.specs.PlainItems.{is_measured, plain_item};
 ghost use Rattle.part_read.specs.Graphics.{ground_by, ground_of, copper_graphic, edge_graphic, note_of, graphic_by, curve_by, text_by};
 
 use crate::atoms::first_atom;
-use crate::drawings::{Kind, drawing_of};
+use crate::drawings::{GraphicKind, drawing_of};
 use crate::figures::{draw, draw_edge, first_spot, is_circle, is_ring};
 use crate::layers::drawn_on;
 use crate::names::name_in;
@@ -111,7 +111,7 @@ fn copper_graphic(
     board: &Board,
     unit: u32,
     stance: Stance,
-    kind: Kind,
+    kind: GraphicKind,
     layer: u32,
     node: Node<'_, '_>,
 ) -> Result<Item, BoardError>
@@ -145,7 +145,7 @@ fn edge_graphic(
     alloc: Global,
     unit: u32,
     stance: Stance,
-    kind: Kind,
+    kind: GraphicKind,
     node: Node<'_, '_>,
 ) -> Result<Item, BoardError>
     requires quarter { stance.quarter < 4 }
@@ -222,7 +222,7 @@ fn graphic_by(
     board: &Board,
     unit: u32,
     stance: Stance,
-    kind: Kind,
+    kind: GraphicKind,
     node: Node<'_, '_>,
     lies: Ground,
 ) -> Result<Vec<Item>, BoardError>
@@ -282,7 +282,7 @@ pub fn read_graphic(
     board: &Board,
     unit: u32,
     stance: Stance,
-    kind: Kind,
+    kind: GraphicKind,
     node: Node<'_, '_>,
     lies: Ground,
 ) -> Result<Vec<Item>, BoardError>

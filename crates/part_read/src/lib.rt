@@ -20,7 +20,7 @@ mod stances;
 pub use atoms::{bad_number, first_atom, missing, second_atom};
 pub use circles::radius_between;
 pub use corners::Corners;
-pub use drawings::{Kind, corners_of, drawing_of, fill_of, spot_in, spots_in, width_of};
+pub use drawings::{GraphicKind, corners_of, drawing_of, fill_of, spot_in, spots_in, width_of};
 pub use figures::{
     Drawing, Figure, box_core, box_corners, draw, draw_edge, draw_into, first_spot, is_circle,
     is_ring,

@@ -10,8 +10,8 @@ use Rattle.board_items.specs.declared.item.About.TheVariants.{Text, FootZone}
 use Rattle.board_items.specs.Boards.{PlainBoard}
 use Rattle.part_read.specs.declared.numbers.Spot.{Spot}
 use Rattle.part_read.specs.declared.stances.Stance.{Stance}
-use Rattle.part_read.specs.declared.drawings.Kind.{Kind}
-use Rattle.part_read.specs.declared.drawings.Kind.TheVariants.{Line, Rect, Circle, Outline}
+use Rattle.part_read.specs.declared.drawings.GraphicKind.{GraphicKind}
+use Rattle.part_read.specs.declared.drawings.GraphicKind.TheVariants.{Line, Rect, Circle, Outline}
 use Rattle.part_read.specs.declared.graphics.Ground.{Ground}
 use Rattle.part_read.specs.declared.graphics.Ground.TheVariants.{Copper, Outlines, Front, Back, Elsewhere}
 use Rattle.list_read.specs.Answers.{◌>>=◌, needed, check}
@@ -25,13 +25,13 @@ use Rattle.part_read.specs.Graphics.{ground_of, graphic_by, curve_by, text_by, n
 use Rattle.pad_read.specs.declared.head.Head.{Head}
 use Rattle.pad_read.specs.Postures.{posture_of, quarters_of, clearance_of}
 use Rattle.pad_read.specs.PadOf.{pad_of}
-use Rattle.footprint_read.specs.declared.sides.Side.{Side}
+use Rattle.footprint_read.specs.declared.sides.CourtSide.{CourtSide}
 use Rattle.footprint_read.specs.declared.contents.Contents.{Contents}
 use Rattle.footprint_read.specs.declared.contents.Given.{Given}
 use Rattle.footprint_read.specs.declared.courts.Court.{Court}
 use Rattle.footprint_read.specs.FootHead.{side_by, side_of, says, second_text, reference_by, reference_of, head_of}
 use Rattle.footprint_read.specs.Courtyards.{with_line, with_rect, with_circle, with_spots, has_arc, with_outline, with_graphic}
-use Rattle.footprint_read.specs.FootprintOf.{given_at, with_items, adding, with_drawn, with_arc, drawn_kind, is_curve, is_writing, with_other, with_child_by, with_child, with_children, empty, body_of, court_notes, all_given, has_room_after, with_room, is_placed, finished, contents_of, SaysInside, SaysWith, Says}
+use Rattle.footprint_read.specs.FootprintOf.{given_at, with_items, adding, with_drawn, with_arc, drawn_kind, is_curve, is_writing, with_other, with_child_by, with_child, with_children, empty, body_of, court_notes, all_given, has_room_after, with_room, is_placed, finished, contents_of, SaysInside, SaysWithHead, FootprintSays}
 use Rattle.pcb_read.specs.Near.{IsNear}
 use Rattle.pcb_read.specs.Short.{IsShort, AllShort}
 use Rattle.pcb_read.proofs.Nearness.{Near, ShortIf, near_same, step, with_tree, by_test, near_needed, needed_short, near_check, near_place, parts_short, find_short, near_element, of_atom, near_spot_of, near_copper, near_spots}
@@ -74,31 +74,31 @@ near_head copper t h =
 
 -- ---- courtyards
 
-near_with_line : (stance : Stance) (side : Side) (t : Tree) → IsShort t → Near (with_line stance side t)
+near_with_line : (stance : Stance) (side : CourtSide) (t : Tree) → IsShort t → Near (with_line stance side t)
 unfolding with_line
 near_with_line stance side t h =
     step (spot_of (codes "start") t) _ (near_spot_of (codes "start") t h) (λ a. step (spot_of (codes "end") t) _ (near_spot_of (codes "end") t h) (λ b. tt))
 
-near_with_rect : (side : Side) (t : Tree) → IsShort t → Near (with_rect side t)
+near_with_rect : (side : CourtSide) (t : Tree) → IsShort t → Near (with_rect side t)
 unfolding with_rect
 near_with_rect side t h =
     step (spot_of (codes "start") t) _ (near_spot_of (codes "start") t h) (λ a. step (spot_of (codes "end") t) _ (near_spot_of (codes "end") t h) (λ b. tt))
 
-near_with_circle : (side : Side) (t : Tree) → IsShort t → Near (with_circle side t)
+near_with_circle : (side : CourtSide) (t : Tree) → IsShort t → Near (with_circle side t)
 unfolding with_circle
 near_with_circle side t h =
     step (spot_of (codes "center") t) _ (near_spot_of (codes "center") t h) (λ a. step (spot_of (codes "end") t) _ (near_spot_of (codes "end") t h) (λ b. tt))
 
-near_with_spots : (side : Side) (list : Tree) (curved : Bool) (spots : List Spot) → IsShort list → Near (with_spots side list curved spots)
+near_with_spots : (side : CourtSide) (list : Tree) (curved : Bool) (spots : List Spot) → IsShort list → Near (with_spots side list curved spots)
 near_with_spots side list curved spots h = by_test curved _ _ tt (by_test (nat_le 3 (length spots)) _ _ tt (near_place list h))
 
-near_with_outline : (side : Side) (t : Tree) → IsShort t → Near (with_outline side t)
+near_with_outline : (side : CourtSide) (t : Tree) → IsShort t → Near (with_outline side t)
 unfolding with_outline
 near_with_outline side t h =
     with_tree (needed (Missing (place t)) (element (codes "pts") t)) _ (needed_short (Missing (place t)) (element (codes "pts") t) (near_place t h) (near_element (codes "pts") t h)) (λ list s.
     step (spots_among true (parts list)) _ (near_spots true (parts list) (parts_short list s)) (λ spots. near_with_spots side list (has_arc list) spots s))
 
-near_court : (stance : Stance) (kind : Kind) (side : Side) (t : Tree) → IsShort t → Near (with_graphic stance kind side t)
+near_court : (stance : Stance) (kind : GraphicKind) (side : CourtSide) (t : Tree) → IsShort t → Near (with_graphic stance kind side t)
 near_court stance Line side t h = near_with_line stance side t h
 near_court stance Rect side t h = near_with_rect side t h
 near_court stance Circle side t h = near_with_circle side t h
@@ -136,7 +136,7 @@ near_items c t items h k = both_near c.given (given_at (place t) items) h (at_ne
 near_adding : (c : Contents) (t : Tree) (answer : Result (List Item) BoardError) → AllNear c.given → IsShort t → Near answer → NearGiven (adding c t answer)
 near_adding c t answer h k m = giving answer _ m (λ items. near_items c t items h k)
 
-near_drawn : (board : PlainBoard) (unit : ℕ) (head : Head) (c : Contents) (kind : Kind) (t : Tree) (lies : Ground) → AllNear c.given → IsShort t → NearGiven (with_drawn board unit head c kind t lies)
+near_drawn : (board : PlainBoard) (unit : ℕ) (head : Head) (c : Contents) (kind : GraphicKind) (t : Tree) (lies : Ground) → AllNear c.given → IsShort t → NearGiven (with_drawn board unit head c kind t lies)
 near_drawn board unit head c kind t Front h k = giving (with_graphic head.stance kind c.front t) _ (near_court head.stance kind c.front t k) (λ side. h)
 near_drawn board unit head c kind t Back h k = giving (with_graphic head.stance kind c.back t) _ (near_court head.stance kind c.back t k) (λ side. h)
 near_drawn board unit head c kind t (Copper layer) h k = near_adding c t (graphic_by board unit head.stance kind t (Copper layer)) h k (near_graphic board unit head.stance kind t (Copper layer) k)
@@ -156,7 +156,7 @@ near_other board unit c t h k =
     (given_if (is_writing t) _ _ (giving (ground_of board.copper t) _ (near_ground board.copper t k) (λ lies. near_adding c t (text_by unit Text t lies) h k (near_writing unit Text t lies)))
     (given_if (has_head (codes "zone") t) _ _ (near_items c t (note_of (name_in t) unit FootZone [] ∷ []) h k) h))
 
-near_child_by : (board : PlainBoard) (unit : ℕ) (head : Head) (c : Contents) (t : Tree) (o : Option Kind) → AllNear c.given → IsShort t → NearGiven (with_child_by board unit head c t o)
+near_child_by : (board : PlainBoard) (unit : ℕ) (head : Head) (c : Contents) (t : Tree) (o : Option GraphicKind) → AllNear c.given → IsShort t → NearGiven (with_child_by board unit head c t o)
 near_child_by board unit head c t (Some kind) h k = giving (ground_of board.copper t) _ (near_ground board.copper t k) (λ lies. near_drawn board unit head c kind t lies h k)
 near_child_by board unit head c t None h k = near_other board unit c t h k
 
@@ -200,10 +200,10 @@ near_inside : (board : PlainBoard) (unit : ℕ) (head : Head) (t : Tree) (r : Re
 near_inside board unit head t (Err e) answer h k says = near_same says h
 near_inside board unit head t (Ok c) answer h k says = near_same says.same (near_finished board unit head t c.given says.front says.back h k)
 
-near_with_head : (board : PlainBoard) (unit : ℕ) (t : Tree) (r : Result Head BoardError) (answer : Result (List Item) BoardError) → Near r → IsShort t → SaysWith board unit t r answer → Near answer
+near_with_head : (board : PlainBoard) (unit : ℕ) (t : Tree) (r : Result Head BoardError) (answer : Result (List Item) BoardError) → Near r → IsShort t → SaysWithHead board unit t r answer → Near answer
 near_with_head board unit t (Err e) answer h k says = near_same says h
 near_with_head board unit t (Ok head) answer h k says =
     near_inside board unit head t (contents_of board unit head t) answer (near_children board unit head empty (parts t) tt (parts_short t k)) k says
 
-pub near_footprint : (board : PlainBoard) (unit : ℕ) (t : Tree) (answer : Result (List Item) BoardError) → IsShort t → Says board unit t answer → Near answer
+pub near_footprint : (board : PlainBoard) (unit : ℕ) (t : Tree) (answer : Result (List Item) BoardError) → IsShort t → FootprintSays board unit t answer → Near answer
 near_footprint board unit t answer h says = near_with_head board unit t (head_of board.copper t) answer (near_head board.copper t h) h says

@@ -7,7 +7,7 @@ use Rattle.board_errors.specs.declared.errors.BoardError.{BoardError}
 use Rattle.board_errors.specs.declared.errors.BoardError.TheVariants.{Missing, BadNumber, OutOfBoard, Arc, Turned, PadShape, Ring}
 use Rattle.board_items.specs.Boards.{PlainBoard}
 use Rattle.part_read.specs.declared.stances.Stance.{Stance}
-use Rattle.part_read.specs.declared.drawings.Kind.{Kind}
+use Rattle.part_read.specs.declared.drawings.GraphicKind.{GraphicKind}
 use Rattle.list_read.specs.Answers.{needed, check}
 use Rattle.list_read.specs.Heads.{place, is_text, has_head}
 use Rattle.list_read.specs.Elements.{element}
@@ -123,7 +123,7 @@ near_anchor s pad h =
     in_or (circle_cushion s) _ (option_and_then (element (codes "anchor")) (element (codes "options") pad)) (inner_short (codes "anchor") (element (codes "options") pad) (near_element (codes "options") pad h))
     (λ t k. of_atom 1 t (anchor_by_word pad s) k (λ a u. near_anchor_word pad s a h))
 
-near_primitive : (pad t : Tree) (o : Option Kind) → IsShort pad → IsShort t → Near (primitive_by pad t o)
+near_primitive : (pad t : Tree) (o : Option GraphicKind) → IsShort pad → IsShort t → Near (primitive_by pad t o)
 near_primitive pad t (Some kind) h k =
     step (drawing_of kind t) _ (near_drawing kind t k) (λ d. step (check (Ring (place pad)) (not (is_ring d))) _ (near_check (Ring (place pad)) (not (is_ring d)) (near_place pad h)) (λ u. tt))
 near_primitive pad t None h k = by_test (has_head (codes "gr_arc") t || has_head (codes "gr_curve") t) (Err (Arc (place t))) (Ok []) (near_place t k) tt

@@ -10,7 +10,7 @@ use Rattle.board_items.specs.Boards.{PlainBoard}
 use Rattle.copper_layers.specs.Layers.{single_layer}
 use Rattle.part_read.specs.declared.numbers.Spot.{Spot}
 use Rattle.part_read.specs.declared.stances.Stance.{Stance}
-use Rattle.part_read.specs.declared.drawings.Kind.{Kind}
+use Rattle.part_read.specs.declared.drawings.GraphicKind.{GraphicKind}
 use Rattle.part_read.specs.declared.graphics.Ground.{Ground}
 use Rattle.part_read.specs.declared.graphics.Ground.TheVariants.{Copper, Outlines, Front, Back, Elsewhere}
 use Rattle.list_read.specs.Answers.{needed, check}
@@ -38,7 +38,7 @@ pub near_ground : (copper : LayerSet) (t : Tree) → IsShort t → Near (ground_
 unfolding ground_of
 near_ground copper t h = near_ground_among copper (element (codes "layer") t) (near_element (codes "layer") t h)
 
-near_copper_graphic : (board : PlainBoard) (unit : ℕ) (stance : Stance) (kind : Kind) (layer : ℕ) (t : Tree) → IsShort t → Near (copper_graphic board unit stance kind layer t)
+near_copper_graphic : (board : PlainBoard) (unit : ℕ) (stance : Stance) (kind : GraphicKind) (layer : ℕ) (t : Tree) → IsShort t → Near (copper_graphic board unit stance kind layer t)
 unfolding copper_graphic
 near_copper_graphic board unit stance kind layer t h =
     step (drawing_of kind t) _ (near_drawing kind t h) (λ d.
@@ -46,7 +46,7 @@ near_copper_graphic board unit stance kind layer t h =
     step (check (Ring (place t)) (not (is_ring d))) _ (near_check (Ring (place t)) (not (is_ring d)) (near_place t h)) (λ u.
     step (needed (OutOfBoard (place t)) (drawn (single_layer layer) stance d)) _ (near_needed (OutOfBoard (place t)) (drawn (single_layer layer) stance d) (near_place t h)) (λ c. tt))))
 
-near_edge_graphic : (unit : ℕ) (stance : Stance) (kind : Kind) (t : Tree) → IsShort t → Near (edge_graphic unit stance kind t)
+near_edge_graphic : (unit : ℕ) (stance : Stance) (kind : GraphicKind) (t : Tree) → IsShort t → Near (edge_graphic unit stance kind t)
 unfolding edge_graphic
 near_edge_graphic unit stance kind t h =
     step (drawing_of kind t) _ (near_drawing kind t h) (λ d.
@@ -56,7 +56,7 @@ near_edge_graphic unit stance kind t h =
 pub near_one : (answer : Result Item BoardError) → Near answer → Near (one_item answer)
 near_one answer h = step answer _ h (λ item. tt)
 
-pub near_graphic : (board : PlainBoard) (unit : ℕ) (stance : Stance) (kind : Kind) (t : Tree) (lies : Ground) → IsShort t → Near (graphic_by board unit stance kind t lies)
+pub near_graphic : (board : PlainBoard) (unit : ℕ) (stance : Stance) (kind : GraphicKind) (t : Tree) (lies : Ground) → IsShort t → Near (graphic_by board unit stance kind t lies)
 near_graphic board unit stance kind t (Copper layer) h = near_one (copper_graphic board unit stance kind layer t) (near_copper_graphic board unit stance kind layer t h)
 near_graphic board unit stance kind t Outlines h = near_one (edge_graphic unit stance kind t) (near_edge_graphic unit stance kind t h)
 near_graphic board unit stance kind t Front h = tt

@@ -12,8 +12,8 @@ use Rattle.board_items.specs.declared.item.Item.{Item}
 use Rattle.board_items.specs.Boards.{PlainBoard, name_of}
 use Rattle.copper_layers.specs.Layers.{has_layer}
 use Rattle.part_read.specs.declared.numbers.Spot.{Spot}
-use Rattle.part_read.specs.declared.drawings.Kind.{Kind}
-use Rattle.part_read.specs.declared.drawings.Kind.TheVariants.{Line, Rect, Circle, Outline}
+use Rattle.part_read.specs.declared.drawings.GraphicKind.{GraphicKind}
+use Rattle.part_read.specs.declared.drawings.GraphicKind.TheVariants.{Line, Rect, Circle, Outline}
 use Rattle.list_read.specs.Answers.{◌>>=◌, needed, check}
 use Rattle.list_read.specs.Heads.{place, has_head}
 use Rattle.list_read.specs.Elements.{element}
@@ -288,7 +288,7 @@ near_outline t h =
     step (width_of t) _ (near_width t h) (λ w.
     step (fill_of true t) _ (near_fill true t h) (λ f. tt)))
 
-pub near_drawing : (kind : Kind) (t : Tree) → IsShort t → Near (drawing_of kind t)
+pub near_drawing : (kind : GraphicKind) (t : Tree) → IsShort t → Near (drawing_of kind t)
 near_drawing Line t h = near_line t h
 near_drawing Rect t h = near_rect t h
 near_drawing Circle t h = near_circle t h

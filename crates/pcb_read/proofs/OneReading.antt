@@ -14,8 +14,8 @@ use Rattle.pcb_read.specs.declared.sorts.Sort.TheVariants.{Track, Via, Arc, Grap
 use Rattle.pcb_read.specs.Sorts.{sort_of}
 use Rattle.pcb_read.specs.ItemsOf.{SaysItems}
 use Rattle.pcb_read.specs.BoardOf.{Reading, with_items, with_board, SaysWith, SaysPartBy, SaysParts, header_in, unread, board_in, SaysAfter, SaysBoard}
-use Rattle.pcb_read.specs.BoardText.{SaysAfter as TextSaysAfter}
-use Rattle.pcb_read.specs.ItemText.{further, alone, SaysBy, SaysAlone, SaysAfter as ItemSaysAfter, SaysText, SaysItem}
+use Rattle.pcb_read.specs.BoardText.{TextSaysAfter}
+use Rattle.pcb_read.specs.ItemText.{further, alone, SaysBy, SaysAlone, ItemSaysAfter, SaysText, SaysItem}
 
 one_items : (board : PlainBoard) (unit : ℕ) (tree : Tree) (sort : Sort) (a b : Result (List Item) BoardError) → SaysItems board unit tree sort a → SaysItems board unit tree sort b → a ≡ b
 one_items board unit tree Track a b h k = h ∙ sym k

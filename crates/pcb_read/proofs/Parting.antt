@@ -13,7 +13,7 @@ use Rattle.pcb_read.specs.declared.sorts.Sort.{Sort}
 use Rattle.pcb_read.specs.Sorts.{sort_of}
 use Rattle.pcb_read.specs.Answers.{LeavesSome}
 use Rattle.pcb_read.specs.BoardOf.{Reading, SaysWith, SaysPartBy, SaysPart, SaysBoard}
-use Rattle.pcb_read.specs.BoardText.{SaysAfter, Says}
+use Rattle.pcb_read.specs.BoardText.{TextSaysAfter, BoardSays}
 use Rattle.pcb_read.specs.Spans.{with_span, SaysSpans, GivesBoardWith}
 
 pub part_says : (reading : Reading) (tree : Tree) (sort : Sort) (new : PlainBoard) (answer : Result (Unit {0}) BoardError) → sort_of tree ≡ Some sort
@@ -24,12 +24,12 @@ part_says reading tree sort new (Err e) is (inr h) = inr (subst (λ (s : Option 
 
 -- ---- whole boards
 
-says_tree : (text : List ℕ) (tree : Tree) (answer : Result PlainBoard BoardError) → refusal_of_one text ≡ None → Spells text tree → SaysBoard tree answer → Says text answer
-says_tree text tree answer none spelled h = subst (λ (refused : Option TextError). SaysAfter text refused answer) (sym none) (tree, spelled, h)
+says_tree : (text : List ℕ) (tree : Tree) (answer : Result PlainBoard BoardError) → refusal_of_one text ≡ None → Spells text tree → SaysBoard tree answer → BoardSays text answer
+says_tree text tree answer none spelled h = subst (λ (refused : Option TextError). TextSaysAfter text refused answer) (sym none) (tree, spelled, h)
 
 -- what the tree of a text gives is all that the text says
-pub only_board : {A : Type 0} → (text : List ℕ) (tree : Tree) (result : Result (PlainBoard × A) BoardError) (answer : Result PlainBoard BoardError) → ((a b : Result PlainBoard BoardError) → Says text a → Says text b → a ≡ b)
-    → refusal_of_one text ≡ None → Spells text tree → GivesBoardWith result (SaysBoard tree) → Says text answer
+pub only_board : {A : Type 0} → (text : List ℕ) (tree : Tree) (result : Result (PlainBoard × A) BoardError) (answer : Result PlainBoard BoardError) → ((a b : Result PlainBoard BoardError) → BoardSays text a → BoardSays text b → a ≡ b)
+    → refusal_of_one text ≡ None → Spells text tree → GivesBoardWith result (SaysBoard tree) → BoardSays text answer
     → MatchResult result (λ read. answer ≡ Ok read.0) (λ e. (e ≡ OutOfMemory) ⊎ (answer ≡ Err e))
 only_board text tree (Ok read) answer one none spelled given h = one answer (Ok read.0) h (says_tree text tree (Ok read.0) none spelled given)
 only_board text tree (Err e) answer one none spelled (inl gone) h = inl gone

@@ -10,10 +10,10 @@ use Rattle.board_items.specs.Boards.{PlainBoard}
 use Rattle.pcb_read.specs.BoardOf.{SaysBoard}
 
 -- a text that is no list is refused as such, and any other says what its tree says
-abbrev pub SaysAfter : List ℕ → Option TextError → Result PlainBoard BoardError → Type 0
-SaysAfter text (Some e) answer = answer ≡ Err (Text e)
-SaysAfter text None answer = (tree : Tree) × Spells text tree × SaysBoard tree answer
+abbrev pub TextSaysAfter : List ℕ → Option TextError → Result PlainBoard BoardError → Type 0
+TextSaysAfter text (Some e) answer = answer ≡ Err (Text e)
+TextSaysAfter text None answer = (tree : Tree) × Spells text tree × SaysBoard tree answer
 
 -- the text says this: a board, or a refusal
-abbrev pub Says : List ℕ → Result PlainBoard BoardError → Type 0
-Says text answer = SaysAfter text (refusal_of_one text) answer
+abbrev pub BoardSays : List ℕ → Result PlainBoard BoardError → Type 0
+BoardSays text answer = TextSaysAfter text (refusal_of_one text) answer

@@ -68,13 +68,13 @@ abbrev pub SaysAlone : PlainBoard → ℕ → Result Tree BoardError → Result 
 SaysAlone board unit (Err e) answer = answer ≡ Err e
 SaysAlone board unit (Ok tree) answer = SaysList board unit tree answer
 
-abbrev pub SaysAfter : PlainBoard → ℕ → List ℕ → Option TextError → Result (List Item) BoardError → Type 0
-SaysAfter board unit text (Some e) answer = answer ≡ Err (Text e)
-SaysAfter board unit text None answer = (forms : Tree) × SpellsAll text forms × SaysAlone board unit (alone (parts forms)) answer
+abbrev pub ItemSaysAfter : PlainBoard → ℕ → List ℕ → Option TextError → Result (List Item) BoardError → Type 0
+ItemSaysAfter board unit text (Some e) answer = answer ≡ Err (Text e)
+ItemSaysAfter board unit text None answer = (forms : Tree) × SpellsAll text forms × SaysAlone board unit (alone (parts forms)) answer
 
 -- what a text says that stands alone
 abbrev pub SaysText : PlainBoard → ℕ → List ℕ → Result (List Item) BoardError → Type 0
-SaysText board unit text answer = SaysAfter board unit text (refusal_of_all text) answer
+SaysText board unit text answer = ItemSaysAfter board unit text (refusal_of_all text) answer
 
 -- what it says at a place of a longer text: its items in this unit, or a refusal
 abbrev pub SaysItem : PlainBoard → ℕ → List ℕ → ℕ → Result (List Item) BoardError → Type 0

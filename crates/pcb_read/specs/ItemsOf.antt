@@ -12,7 +12,7 @@ use Rattle.list_read.specs.Answers.{◌>>=◌, check}
 use Rattle.list_read.specs.Heads.{place}
 use Rattle.part_read.specs.Graphics.{ground_of, one_item, graphic_by, curve_by, text_by}
 use Rattle.zone_read.specs.ZoneOf.{as_it_is, zone_of}
-use Rattle.footprint_read.specs.FootprintOf.{Says as FootprintSays}
+use Rattle.footprint_read.specs.FootprintOf.{FootprintSays}
 use Rattle.pcb_read.specs.declared.sorts.Sort.{Sort}
 use Rattle.pcb_read.specs.declared.sorts.Sort.TheVariants.{Track, Via, Arc, Graphic, Curve, Text, Zone, Footprint}
 use Rattle.pcb_read.specs.Tracks.{track_of, via_of}

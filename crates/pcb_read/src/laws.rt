@@ -4,14 +4,14 @@ ghost use Rattle.std.specs.Prelude.{◌≡◌, ℕ, List, Result};
 ghost use Rattle.board_errors.specs.declared.errors.BoardError.{BoardError};
 ghost use Rattle.board_items.specs.Boards.{PlainBoard};
 ghost use Rattle.board_items.specs.declared.item.Item.{Item};
-ghost use Rattle.pcb_read.specs.BoardText.{Says};
+ghost use Rattle.pcb_read.specs.BoardText.{BoardSays};
 ghost use Rattle.pcb_read.specs.ItemText.{SaysItem};
 
 use sexpr_read::laws::one_tree;
 
 /// No text says two things.
 pub fn one_reading()
-    ensures { (text : List ℕ) (a b : Result PlainBoard BoardError) → Says text a → Says text b → a ≡ b }
+    ensures { (text : List ℕ) (a b : Result PlainBoard BoardError) → BoardSays text a → BoardSays text b → a ≡ b }
 {
     one_tree();
 }

@@ -7,7 +7,7 @@
 ghost use Rattle.std.specs.Prelude.{◌≡◌, ◌≤◌, ◌⊎◌, length, MatchResult, IfOk, Result, Ok, Err};
 ghost use Rattle.board_errors.specs.declared.errors.BoardError.{BoardError};
 ghost use Rattle.board_items.specs.Boards.{PlainBoard};
-ghost use Rattle.pcb_read.specs.BoardText.{Says};
+ghost use Rattle.pcb_read.specs.BoardText.{BoardSays};
 ghost use Rattle.sexpr_read.specs.Views.{root_of};
 ghost use Rattle.pcb_read.specs.BoardOf.{SaysBoard};
 ghost use Rattle.pcb_read.specs.Spans.{HasSpans, AreSpans, GivesBoardWith};
@@ -39,8 +39,8 @@ use std::alloc::Global;
 /// tree (`specs/BoardOf`) has them; want of memory alone is free.
 pub fn read_board(alloc: Global, text: &[u8]) -> Result<Board, BoardError>
     requires { length text.now ≤ 33_554_432 }
-    ensures says { MatchResult result (λ board. Says text.now (Ok board)) (λ e. (e ≡ BoardError.OutOfMemory) ⊎ Says text.now (Err e)) }
-    ensures only { (answer : Result PlainBoard BoardError) → Says text.now answer → MatchResult result (λ board. answer ≡ Ok board) (λ e. (e ≡ BoardError.OutOfMemory) ⊎ (answer ≡ Err e)) }
+    ensures says { MatchResult result (λ board. BoardSays text.now (Ok board)) (λ e. (e ≡ BoardError.OutOfMemory) ⊎ BoardSays text.now (Err e)) }
+    ensures only { (answer : Result PlainBoard BoardError) → BoardSays text.now answer → MatchResult result (λ board. answer ≡ Ok board) (λ e. (e ≡ BoardError.OutOfMemory) ⊎ (answer ≡ Err e)) }
 {
     match read_with_spans(alloc, text) {
         Ok((board, _spans)) => Ok(board),
@@ -52,8 +52,8 @@ pub fn read_board(alloc: Global, text: &[u8]) -> Result<Board, BoardError>
 /// there is one entry for each unit. Lists that give no item have none.
 pub fn read_with_spans(alloc: Global, text: &[u8]) -> Result<(Board, Spans), BoardError>
     requires { length text.now ≤ 33_554_432 }
-    ensures says { MatchResult result (λ read. Says text.now (Ok read.0)) (λ e. (e ≡ BoardError.OutOfMemory) ⊎ Says text.now (Err e)) }
-    ensures only { (answer : Result PlainBoard BoardError) → Says text.now answer → MatchResult result (λ read. answer ≡ Ok read.0) (λ e. (e ≡ BoardError.OutOfMemory) ⊎ (answer ≡ Err e)) }
+    ensures says { MatchResult result (λ read. BoardSays text.now (Ok read.0)) (λ e. (e ≡ BoardError.OutOfMemory) ⊎ BoardSays text.now (Err e)) }
+    ensures only { (answer : Result PlainBoard BoardError) → BoardSays text.now answer → MatchResult result (λ read. answer ≡ Ok read.0) (λ e. (e ≡ BoardError.OutOfMemory) ⊎ (answer ≡ Err e)) }
     ensures spans { IfOk result (λ read. HasSpans text.now read.1) }
     ensures each { IfOk result (λ read. length read.1 ≡ read.0.next_unit) }
 {

@@ -18,7 +18,7 @@ use crate::tracks::{track_of, via_of};
 use board_items::{About, Board, BoardError, Item};
 use footprint_read::read_footprint;
 use list_read::place;
-use part_read::{Kind, Spot, Stance, curve_by, ground_of, read_graphic, read_text};
+use part_read::{GraphicKind, Spot, Stance, curve_by, ground_of, read_graphic, read_text};
 use plain_types::one;
 use sexpr_read::Node;
 use std::alloc::{AllocError, Global};
@@ -84,7 +84,7 @@ fn graphic_items(
     alloc: Global,
     board: &Board,
     unit: u32,
-    kind: Kind,
+    kind: GraphicKind,
     node: Node<'_, '_>,
 ) -> Result<Vec<Item>, BoardError>
     ensures items { GivesItems result (in_room board.now unit (tree_of node.entry) (on_ground board.now (tree_of node.entry) (graphic_by board.now unit as_it_is kind (tree_of node.entry)))) }

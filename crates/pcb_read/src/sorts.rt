@@ -5,7 +5,7 @@ ghost use Rattle.sexpr_read.specs.Views.{tree_of};
 ghost use Rattle.pcb_read.specs.Sorts.{is_curve, is_writing, drawn_sort, sort_by, sort_of};
 
 use board_items::About;
-use part_read::Kind;
+use part_read::GraphicKind;
 use sexpr_read::Node;
 
 /// What a list says by its head.
@@ -16,7 +16,7 @@ pub enum Sort {
     /// An arc of a track.
     Arc,
     /// Lines, or an area.
-    Graphic(Kind),
+    Graphic(GraphicKind),
     /// An arc or a curve that is no track.
     Curve,
     /// A text or a dimension.
@@ -41,13 +41,13 @@ fn drawn_sort(head: Node<'_, '_>) -> Option<Sort>
     ensures { result ≡ drawn_sort (tree_of head.entry) }
 {
     if head.is(b"gr_line") {
-        Some(Sort::Graphic(Kind::Line))
+        Some(Sort::Graphic(GraphicKind::Line))
     } else if head.is(b"gr_rect") {
-        Some(Sort::Graphic(Kind::Rect))
+        Some(Sort::Graphic(GraphicKind::Rect))
     } else if head.is(b"gr_circle") {
-        Some(Sort::Graphic(Kind::Circle))
+        Some(Sort::Graphic(GraphicKind::Circle))
     } else if head.is(b"gr_poly") {
-        Some(Sort::Graphic(Kind::Outline))
+        Some(Sort::Graphic(GraphicKind::Outline))
     } else if is_curve(head) {
         Some(Sort::Curve)
     } else if is_writing(head) {

@@ -3,7 +3,7 @@
 ghost use Rattle.std.specs.Prelude.{◌≡◌, ◌<◌, IsTrue, All, OnOk, IfOk, map};
 ghost use Rattle.cond_lang.specs.Rules.{plain_rule};
 ghost use Rattle.pair_check.specs.Rows.{HasItems, HasSource};
-ghost use Rattle.pair_check.specs.Views.{IsWhole};
+ghost use Rattle.pair_check.specs.Views.{IsWholeView};
 
 use board_items::Board;
 use row_check::{CheckView, Row, Steps, test_item, test_pair};
@@ -64,7 +64,7 @@ fn push_pair<L: Ledger>(
     rows: &mut Vec<Row>,
     steps: &mut Steps<L>,
 ) -> Result<(), AllocError>
-    requires view { IsWhole view.now }
+    requires view { IsWholeView view.now }
     requires items { All (HasItems view.now.board.now) rows.old.items }
     requires sources { All (HasSource (map plain_rule view.now.rules.now)) rows.old.items }
     ensures items { OnOk result (All (HasItems view.now.board.now) rows.new.items) }
@@ -85,7 +85,7 @@ fn push_pairs<L: Ledger>(
     rows: &mut Vec<Row>,
     steps: &mut Steps<L>,
 ) -> Result<(), AllocError>
-    requires view { IsWhole view.now }
+    requires view { IsWholeView view.now }
     requires items { All (HasItems view.now.board.now) rows.old.items }
     requires sources { All (HasSource (map plain_rule view.now.rules.now)) rows.old.items }
     ensures items { OnOk result (All (HasItems view.now.board.now) rows.new.items) }
@@ -104,7 +104,7 @@ fn push_item(
     id: u32,
     rows: &mut Vec<Row>,
 ) -> Result<(), AllocError>
-    requires view { IsWhole view.now }
+    requires view { IsWholeView view.now }
     requires items { All (HasItems view.now.board.now) rows.old.items }
     requires sources { All (HasSource (map plain_rule view.now.rules.now)) rows.old.items }
     ensures items { OnOk result (All (HasItems view.now.board.now) rows.new.items) }
@@ -125,7 +125,7 @@ fn counted<L: Ledger>(
     requires name { blank.name ≡ L.name }
     requires parts { blank.parts ≡ L.parts }
     requires some { 0 < blank.parts }
-    requires view { IsWhole view.now }
+    requires view { IsWholeView view.now }
     ensures items { IfOk result (λ rows. All (HasItems view.now.board.now) rows.items) }
     ensures sources { IfOk result (λ rows. All (HasSource (map plain_rule view.now.rules.now)) rows.items) }
 {
@@ -140,7 +140,7 @@ fn counted<L: Ledger>(
 
 /// The rows of all items and of all pairs, in their order: each item's own rows, and then those with each later item.
 pub(crate) fn rows_of_all_pairs(alloc: Global, view: &CheckView<'_>) -> Result<Vec<Row>, AllocError>
-    requires { IsWhole view.now }
+    requires { IsWholeView view.now }
     ensures items { IfOk result (λ rows. All (HasItems view.now.board.now) rows.items) }
     ensures sources { IfOk result (λ rows. All (HasSource (map plain_rule view.now.rules.now)) rows.items) }
 {

@@ -5,7 +5,7 @@
 #![tactic(auto)]
 
 ghost use Rattle.std.specs.Prelude.{◌≤◌, length};
-ghost use Rattle.pair_check.specs.Views.{IsWhole};
+ghost use Rattle.pair_check.specs.Views.{IsWholeView};
 
 mod all_pairs;
 
@@ -56,7 +56,7 @@ fn all_differ(rows: &[Row]) -> bool {
 
 /// The rows of the view as a report has them, over all items and all pairs. No row comes twice.
 fn written(alloc: Global, view: &CheckView<'_>) -> Option<Vec<u8>>
-    requires { IsWhole view.now }
+    requires { IsWholeView view.now }
 {
     let rows = match rows_of_all_pairs(alloc, view) {
         Ok(rows) => rows,

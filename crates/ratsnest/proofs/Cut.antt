@@ -8,7 +8,7 @@ use Rattle.std.proofs.lemmas.List.Sorted.{Contains-permutation, All-permutation}
 use Rattle.ratsnest.specs.declared.anchor.Anchor.{Anchor}
 use Rattle.ratsnest.specs.declared.link.Link.{Link}
 use Rattle.ratsnest.specs.declared.spot.Spot.{Spot}
-use Rattle.ratsnest.specs.NestOf.{anchor_at, group_at, group_count, Rise, GroupsOccur, IsLink, InNest, Precedes}
+use Rattle.ratsnest.specs.NestOf.{anchor_at, group_at, group_count, AnchorsRise, GroupsOccur, IsLink, InNest, Precedes}
 use Rattle.ratsnest.specs.Grow.{rank, link_at, rank_at}
 use Rattle.ratsnest.specs.Forest.{link_between, spot_at, no_spot, no_link, best_at, label_at, label_of, IsSpotOf, AreSpots, AreBestTo, IsUsable, IsIdle, IsJoining, AreOne}
 use Rattle.ratsnest.proofs.Spots.{between_at, group_is}
@@ -40,7 +40,7 @@ spots_moved anchors spots moved len each p =
           (c.0, c.1, ap (λ (z : Spot). z.place) (get_or_default moved c.0 no_spot (spot_at spots j) c.1 ∙ c.2) ∙ (each j hj).place);
     }
 
-module _ (anchors : List Anchor) (rise : Rise anchors) (few : length anchors < 4294967296) (labels : List ℕ) where
+module _ (anchors : List Anchor) (rise : AnchorsRise anchors) (few : length anchors < 4294967296) (labels : List ℕ) where
   module _ (c i j : ℕ) (hi : i < length anchors) (hj : j < length anchors)
       (inside : label_at labels (group_at anchors i) ≡ c) (outside : label_at labels (group_at anchors j) ≢ c)
       (least : (a b : ℕ) → a < length anchors → b < length anchors → label_at labels (group_at anchors a) ≡ c → label_at labels (group_at anchors b) ≢ c →

@@ -8,9 +8,9 @@ use Rattle.std.proofs.lemmas.List.Folds.{sum_by-replicate}
 use Rattle.ratsnest.specs.declared.anchor.Anchor.{Anchor}
 use Rattle.ratsnest.specs.declared.link.Link.{Link}
 use Rattle.ratsnest.specs.Mem.{Mem, Climbs}
-use Rattle.ratsnest.specs.NestOf.{group_at, group_count, Rise, GroupsOccur, IsLink, InNest, Precedes}
+use Rattle.ratsnest.specs.NestOf.{group_at, group_count, AnchorsRise, GroupsOccur, IsLink, InNest, Precedes}
 use Rattle.ratsnest.specs.declared.waiting.Waiting.{Waiting}
-use Rattle.ratsnest.specs.Grow.{rank, link_at, rank_at, is_reached, StandsFor, IsFirst, AreFirst, IsReach, IsHeld, IsGrown, AreChosen}
+use Rattle.ratsnest.specs.Grow.{rank, link_at, rank_at, is_reached, StandsFor, IsFromFirst, AreFirst, IsReach, IsHeld, IsGrown, AreChosen}
 use Rattle.ratsnest.proofs.Stands.{no_less_to}
 use Rattle.ratsnest.proofs.Waits.{IsPlaced, Near, group_is, set_reached, set_reached_back, held_after, whole_after}
 use Rattle.ratsnest.proofs.Theory.{chain_keeps}
@@ -61,7 +61,7 @@ module _ {anchors : List Anchor} {reached : List Bool} {waiting : List Waiting} 
       (w : Waiting) → Contains waiting w → Near anchors (set reached group true) w
   near group keep g w c = let n : Near anchors reached w = (held_at g w c).near in (n.0, n.1, keep (group_at anchors n.0) n.2, n.3)
 
-module _ (anchors : List Anchor) (rise : Rise anchors) (few : length anchors < 4294967296) where
+module _ (anchors : List Anchor) (rise : AnchorsRise anchors) (few : length anchors < 4294967296) where
   module _ (reached : List Bool) (i j : ℕ) (hi : i < length anchors) (hj : j < length anchors)
       (inside : is_reached anchors reached i ≡ true) (outside : is_reached anchors reached j ≡ false)
       (least : (a b : ℕ) → a < length anchors → b < length anchors → is_reached anchors reached a ≡ true → is_reached anchors reached b ≡ false →
@@ -231,8 +231,8 @@ module _ (anchors : List Anchor) where
         | inl o ↦ absurd (true≢false (sym o ∙ none_reached m q))
         | inr e ↦ e
       ] in
-      let first_of : (w : Waiting) → Contains old w → (w.place < length anchors) × IsFirst anchors w.place w =
-      λ w c. All-contains (λ (w : Waiting). (w.place < length anchors) × IsFirst anchors w.place w) old w first.each c in
+      let first_of : (w : Waiting) → Contains old w → (w.place < length anchors) × IsFromFirst anchors w.place w =
+      λ w c. All-contains (λ (w : Waiting). (w.place < length anchors) × IsFromFirst anchors w.place w) old w first.each c in
       let placed : (w : Waiting) → Contains old w → IsPlaced anchors (replicate m false) w =
       λ w c. ((first_of w c).0, (first_of w c).1.anchor, none_reached m (group_at anchors w.place)) in
       let near : (w : Waiting) → Contains old w → Near anchors (set (replicate m false) (group_at anchors 0) true) w =

@@ -7,7 +7,7 @@ use mathlib.Core.List.{reverse-cons}
 use Rattle.ratsnest.specs.declared.anchor.Anchor.{Anchor}
 use Rattle.ratsnest.specs.declared.link.Link.{Link}
 use Rattle.ratsnest.specs.Mem.{Drops}
-use Rattle.ratsnest.specs.NestOf.{group_at, group_count, Rise, IsLink, IsNest}
+use Rattle.ratsnest.specs.NestOf.{group_at, group_count, AnchorsRise, IsLink, IsNest}
 use Rattle.ratsnest.specs.Grow.{rank, AreAllLinks, AreOwnLabels}
 use Rattle.ratsnest.proofs.Theory
 use Rattle.ratsnest.proofs.Whole.{from, to, IsListed, greedy_is_nest, nest_from, Climbs-reverse, Drops-reverse, Mem-reverse}
@@ -69,7 +69,7 @@ joined_none anchors links labels own = record {
   nest_is = ap reverse (sym (Theory.greedy_none (from anchors) (to anchors)));
 }
 
-pub joined_all : (anchors : List Anchor) → Rise anchors → length anchors < 4294967296 → (links : List Link) → AreAllLinks anchors links →
+pub joined_all : (anchors : List Anchor) → AnchorsRise anchors → length anchors < 4294967296 → (links : List Link) → AreAllLinks anchors links →
     (i : ℕ) → length links ≤ i → (labels : List ℕ) (nest : List Link) → IsJoined anchors links i labels nest → IsNest anchors nest
 joined_all anchors rise few links all i le labels nest h =
     let es : List Link = reverse links in

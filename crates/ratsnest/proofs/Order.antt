@@ -3,7 +3,7 @@ use Rattle.std.proofs.Common.{◌≡◌, ◌≢◌, ℕ, ◌<◌, ◌⊎◌, min
 use Rattle.std.proofs.lemmas.Bool.{cases_order, cases_lt}
 use Rattle.ratsnest.specs.declared.anchor.Anchor.{Anchor}
 use Rattle.ratsnest.specs.declared.link.Link.{Link}
-use Rattle.ratsnest.specs.NestOf.{anchor_at, group_at, IsBefore, Rise, IsLink, Precedes}
+use Rattle.ratsnest.specs.NestOf.{anchor_at, group_at, IsBefore, AnchorsRise, IsLink, Precedes}
 use Rattle.ratsnest.specs.Grow.{rank, link_at, rank_at}
 
 pub link_at_first : (anchors : List Anchor) (i j : ℕ) → (link_at anchors i j).first ≡ min i j
@@ -52,7 +52,7 @@ IsLink-at anchors i j hi hj ne =
 pub same_rank : (n : ℕ) → n < 4294967296 → (l m : Link) → l.first < n → l.second < n → m.first < n → m.second < n → rank l ≡ rank m → l ≡ m
 same_rank n h l m a b c d e = same_link l m (omega arith) (omega arith) (omega arith)
 
-before_place : (anchors : List Anchor) → Rise anchors → (i j : ℕ) → i < length anchors → j < length anchors → IsBefore (anchor_at anchors i) (anchor_at anchors j) → i < j
+before_place : (anchors : List Anchor) → AnchorsRise anchors → (i j : ℕ) → i < length anchors → j < length anchors → IsBefore (anchor_at anchors i) (anchor_at anchors j) → i < j
 before_place anchors rise i j hi hj b =
     elim (cases_order i j) [
       | inr (inl lt) ↦ lt
@@ -60,7 +60,7 @@ before_place anchors rise i j hi hj b =
       | inr (inr gt) ↦ let c : IsBefore (anchor_at anchors j) (anchor_at anchors i) = rise j i gt hi in absurd (omega arith)
     ]
 
-same_place : (anchors : List Anchor) → Rise anchors → (i j : ℕ) → i < length anchors → j < length anchors →
+same_place : (anchors : List Anchor) → AnchorsRise anchors → (i j : ℕ) → i < length anchors → j < length anchors →
     (anchor_at anchors i).id ≡ (anchor_at anchors j).id → (anchor_at anchors i).number ≡ (anchor_at anchors j).number → i ≡ j
 same_place anchors rise i j hi hj p q =
     elim (cases_order i j) [
@@ -69,7 +69,7 @@ same_place anchors rise i j hi hj p q =
       | inr (inr gt) ↦ let c : IsBefore (anchor_at anchors j) (anchor_at anchors i) = rise j i gt hi in absurd (omega arith)
     ]
 
-module _ (anchors : List Anchor) (rise : Rise anchors) (few : length anchors < 4294967296) where
+module _ (anchors : List Anchor) (rise : AnchorsRise anchors) (few : length anchors < 4294967296) where
   pub precedes_rank : (l m : Link) → IsLink anchors l → IsLink anchors m → Precedes anchors l m → rank l < rank m
   precedes_rank l m kl km p =
       let lo : l.first < l.second = kl.in_order in

@@ -6,7 +6,7 @@ use Rattle.std.proofs.lemmas.List.Elements.{All-push, All-weaker, All-contains, 
 use Rattle.ratsnest.specs.declared.anchor.Anchor.{Anchor}
 use Rattle.ratsnest.specs.declared.waiting.Waiting.{Waiting}
 use Rattle.ratsnest.specs.NestOf.{anchor_at, group_at, square_of, square_between}
-use Rattle.ratsnest.specs.Grow.{link_at, rank_at, StandsFor, IsFirst, IsLed, AreFirst}
+use Rattle.ratsnest.specs.Grow.{link_at, rank_at, StandsFor, IsFromFirst, IsLed, AreFirst}
 
 gap_back : (a b : ℤ) → unsigned_abs (b -ℤ a) ≡ unsigned_abs (a -ℤ b)
 gap_back a b = omega (arith, ints)
@@ -56,16 +56,16 @@ module _ (anchors : List Anchor) where
   first_none = record { each = λ k d h. absurd (omega arith); whole = λ j h. absurd (omega arith) }
 
   module _ (n : ℕ) (waiting : List Waiting) (are : AreFirst anchors n waiting) where
-    each_next : All (λ (w : Waiting). (w.place < n + 1) × IsFirst anchors w.place w) waiting
+    each_next : All (λ (w : Waiting). (w.place < n + 1) × IsFromFirst anchors w.place w) waiting
     each_next =
-        All-weaker (λ (w : Waiting). (w.place < n) × IsFirst anchors w.place w) (λ (w : Waiting). (w.place < n + 1) × IsFirst anchors w.place w)
+        All-weaker (λ (w : Waiting). (w.place < n) × IsFromFirst anchors w.place w) (λ (w : Waiting). (w.place < n + 1) × IsFromFirst anchors w.place w)
         (λ w h. (omega (arith, h.0), h.1)) waiting are.each
 
     pub first_led : IsLed waiting (anchor_at anchors n) → AreFirst anchors (n + 1) waiting
     unfolding group_at
     first_led led =
-        let lead : (led.lead.place < n) × IsFirst anchors led.lead.place led.lead =
-        All-contains (λ (w : Waiting). (w.place < n) × IsFirst anchors w.place w) waiting led.lead are.each led.there in
+        let lead : (led.lead.place < n) × IsFromFirst anchors led.lead.place led.lead =
+        All-contains (λ (w : Waiting). (w.place < n) × IsFromFirst anchors w.place w) waiting led.lead are.each led.there in
         let at : led.lead.anchor ≡ anchor_at anchors led.lead.place = lead.1.anchor in
         record {
           each = each_next;
@@ -85,11 +85,11 @@ module _ (anchors : List Anchor) where
           ];
         }
 
-    pub first_more : (w : Waiting) → IsFirst anchors n w → AreFirst anchors (n + 1) (waiting ++ w ∷ [])
+    pub first_more : (w : Waiting) → IsFromFirst anchors n w → AreFirst anchors (n + 1) (waiting ++ w ∷ [])
     first_more w first = record {
       each =
-          All-push (λ (w : Waiting). (w.place < n + 1) × IsFirst anchors w.place w) waiting w each_next
-          (omega (arith, first.place), subst (λ z. IsFirst anchors z w) (sym first.place) first);
+          All-push (λ (w : Waiting). (w.place < n + 1) × IsFromFirst anchors w.place w) waiting w each_next
+          (omega (arith, first.place), subst (λ z. IsFromFirst anchors z w) (sym first.place) first);
       whole = λ j h. elim (cases_lt j n) [
         | inl l ↦ let was = are.whole j l in (was.0, Contains-append_left waiting (w ∷ []) was.0 was.1, was.2)
         | inr g ↦

@@ -9,7 +9,7 @@ use mathlib.Core.List.{reverse-cons}
 use Rattle.ratsnest.specs.declared.anchor.Anchor.{Anchor}
 use Rattle.ratsnest.specs.declared.link.Link.{Link}
 use Rattle.ratsnest.specs.Mem.{Mem, Sub, AllAbove, Climbs, Under, Drops}
-use Rattle.ratsnest.specs.NestOf.{group_at, Rise, IsLink, InNest, IsNest, HasPlaces, IsLeast, JoinAll, Precedes, total}
+use Rattle.ratsnest.specs.NestOf.{group_at, AnchorsRise, IsLink, InNest, IsNest, HasPlaces, IsLeast, JoinAll, Precedes, total}
 use Rattle.ratsnest.specs.Grow.{rank, link_at, AreChosen}
 use Rattle.ratsnest.proofs.Members.{Sub-mem, Sub-from_mem, Under-mem, Mem-from_contains, Contains-from_mem, Mem-append_left, Mem-append_right, Mem-append_cases, falling_of, Drops-push, Mem-get_or}
 use Rattle.ratsnest.proofs.Theory
@@ -121,7 +121,7 @@ from anchors l = group_at anchors l.first
 abbrev pub to : List Anchor → Link → ℕ
 to anchors l = group_at anchors l.second
 
-module _ (anchors : List Anchor) (rise : Rise anchors) (few : length anchors < 4294967296) (es : List Link) (listed : IsListed anchors es) where
+module _ (anchors : List Anchor) (rise : AnchorsRise anchors) (few : length anchors < 4294967296) (es : List Link) (listed : IsListed anchors es) where
   -- the two ways to say that a link is in the nest
   in_nest_from : (l : Link) → InNest anchors l → Theory.InNest (from anchors) (to anchors) rank es l
   in_nest_from l n = (
@@ -203,7 +203,7 @@ Climbs-at key (x ∷ xs) c (suc i) (suc j) d h k = Climbs-at key xs c.1 i j d (o
 total_is : (anchors : List Anchor) (xs : List Link) → Theory.total (from anchors) (to anchors) (λ (l : Link). l.square) xs ≡ sum_by (λ (l : Link). l.square) xs
 total_is anchors xs = is_sum_by (Theory.total (from anchors) (to anchors) (λ (l : Link). l.square)) (λ (l : Link). l.square) refl (λ _ _. refl) xs
 
-pub nest_from : (anchors : List Anchor) → Rise anchors → length anchors < 4294967296 → (links : List Link) → Climbs rank links →
+pub nest_from : (anchors : List Anchor) → AnchorsRise anchors → length anchors < 4294967296 → (links : List Link) → Climbs rank links →
     ((l : Link) → Mem l links → InNest anchors l) → ((l : Link) → InNest anchors l → Mem l links) → IsNest anchors links
 nest_from anchors rise few links climbs sound whole = record {
   ascending = λ i j d h k.
@@ -234,7 +234,7 @@ Climbs-reverse key (x ∷ xs) c =
     subst (Climbs key) (sym (reverse-cons x xs)) (Climbs-push key (reverse xs) x (Climbs-reverse key xs c.1)
     (λ z m. Under-mem key (key x) xs c.0 z ((Mem-reverse xs z).0 m)))
 
-module _ (anchors : List Anchor) (rise : Rise anchors) (few : length anchors < 4294967296) (links : List Link) (chosen : AreChosen anchors links) where
+module _ (anchors : List Anchor) (rise : AnchorsRise anchors) (few : length anchors < 4294967296) (links : List Link) (chosen : AreChosen anchors links) where
   module _ (es : List Link) (listed : IsListed anchors es) where
     chosen_keep : (ls : List Link) → ((l : Link) → Mem l ls → IsLink anchors l) → Theory.Keeps (from anchors) (to anchors) (Theory.labels (from anchors) (to anchors) links) ls
     chosen_keep ls k =
@@ -273,7 +273,7 @@ Climbs-from_at key (x ∷ xs) h = (
   Climbs-from_at key xs (λ i j d a b. h (suc i) (suc j) d (omega arith) (omega arith)),
 )
 
-nest_climbs : (anchors : List Anchor) → Rise anchors → length anchors < 4294967296 → (links : List Link) → IsNest anchors links → Climbs rank links
+nest_climbs : (anchors : List Anchor) → AnchorsRise anchors → length anchors < 4294967296 → (links : List Link) → IsNest anchors links → Climbs rank links
 nest_climbs anchors rise few links n =
     Climbs-from_at rank links (λ i j d h k.
     precedes_rank anchors rise few (get_or links i d) (get_or links j d)
@@ -282,7 +282,7 @@ nest_climbs anchors rise few links n =
     (n.ascending i j d h k))
 
 -- there is one nest
-pub one_nest : (anchors : List Anchor) → Rise anchors → length anchors < 4294967296 → (xs ys : List Link) → IsNest anchors xs → IsNest anchors ys → xs ≡ ys
+pub one_nest : (anchors : List Anchor) → AnchorsRise anchors → length anchors < 4294967296 → (xs ys : List Link) → IsNest anchors xs → IsNest anchors ys → xs ≡ ys
 one_nest anchors rise few xs ys a b =
     let go : (us vs : List Link) → IsNest anchors us → IsNest anchors vs → Sub (reverse us) (reverse vs) =
     λ us vs p q. Sub-from_mem (reverse us) (reverse vs) (λ l m.
@@ -293,7 +293,7 @@ one_nest anchors rise few xs ys a b =
     sym (reverse-reverse xs) ∙ ap reverse e ∙ reverse-reverse ys
 
 -- ---- the least total
-module _ (anchors : List Anchor) (rise : Rise anchors) (few : length anchors < 4294967296) (es : List Link) (listed : IsListed anchors es) where
+module _ (anchors : List Anchor) (rise : AnchorsRise anchors) (few : length anchors < 4294967296) (es : List Link) (listed : IsListed anchors es) where
   greedy_nest : IsNest anchors (reverse (Theory.greedy (from anchors) (to anchors) es))
   greedy_nest =
       nest_from anchors rise few (reverse (Theory.greedy (from anchors) (to anchors) es))
@@ -323,7 +323,7 @@ module _ (anchors : List Anchor) (rise : Rise anchors) (few : length anchors < 4
       let sums : total links ≡ total (reverse (Theory.greedy (from anchors) (to anchors) es)) = ap total e in
       omega (arith, greedy_lightest ls k j, total_is anchors (Theory.greedy (from anchors) (to anchors) es))
 
-pub nest_least : (anchors : List Anchor) → Rise anchors → length anchors < 4294967296 → (links : List Link) → IsNest anchors links → IsLeast anchors links
+pub nest_least : (anchors : List Anchor) → AnchorsRise anchors → length anchors < 4294967296 → (links : List Link) → IsNest anchors links → IsLeast anchors links
 nest_least anchors rise few = let all : (es : List Link) × IsListed anchors es = listed anchors few in nest_lightest anchors rise few all.0 all.1
 
 -- the ends of its links are places of anchors

@@ -23,7 +23,7 @@ unfoldable pub link_between : Waiting → Waiting → Link
 link_between m w = record { square = square_of m.anchor w.anchor; first = min m.place w.place; second = max m.place w.place }
 
 -- an anchor waits with its link from the first one
-pub record IsFirst (anchors : List Anchor) (j : ℕ) (w : Waiting) : Type 0 where
+pub record IsFromFirst (anchors : List Anchor) (j : ℕ) (w : Waiting) : Type 0 where
   pub place : w.place ≡ j
   pub anchor : w.anchor ≡ anchor_at anchors j
   pub link : w.link ≡ link_at anchors 0 j
@@ -45,7 +45,7 @@ pub record IsLed (waiting : List Waiting) (anchor : Anchor) : Type 0 where
 
 -- of the first n anchors some wait with their links from the first one, and for each one stands that does
 pub record AreFirst (anchors : List Anchor) (n : ℕ) (waiting : List Waiting) : Type 0 where
-  pub each : All (λ (w : Waiting). (w.place < n) × IsFirst anchors w.place w) waiting
+  pub each : All (λ (w : Waiting). (w.place < n) × IsFromFirst anchors w.place w) waiting
   pub whole : (j : ℕ) → j < n → (w : Waiting) × Contains waiting w × StandsFor anchors w.place j
 
 -- what waited keeps the link that it had, or that from m, whichever is less

@@ -36,8 +36,8 @@ abbrev pub IsBefore : Anchor → Anchor → Type 0
 IsBefore a b = (a.id < b.id) ⊎ ((a.id ≡ b.id) × (a.number < b.number))
 
 -- the anchors rise by id, then by number
-abbrev pub Rise : List Anchor → Type 0
-Rise anchors = (i j : ℕ) → i < j → j < length anchors → IsBefore (anchor_at anchors i) (anchor_at anchors j)
+abbrev pub AnchorsRise : List Anchor → Type 0
+AnchorsRise anchors = (i j : ℕ) → i < j → j < length anchors → IsBefore (anchor_at anchors i) (anchor_at anchors j)
 
 -- each number below the count is the group of some anchor
 abbrev pub GroupsOccur : List Anchor → Type 0

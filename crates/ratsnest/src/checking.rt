@@ -3,7 +3,7 @@
 
 ghost use Rattle.std.specs.Prelude.{◌≡◌, ◌<◌, ◌^◌, ◌↔◌, ℕ, IsTrue, length, OnOk, slice_index, IfOk, [], if◌then◌else◌, ◌==◌};
 ghost use Rattle.ratsnest.specs.declared.link.Link.{Link};
-ghost use Rattle.ratsnest.specs.NestOf.{Rise, IsNest, IsLink};
+ghost use Rattle.ratsnest.specs.NestOf.{AnchorsRise, IsNest, IsLink};
 ghost use Rattle.ratsnest.specs.Grow.{rank, AreAllLinks, AreOwnLabels};
 ghost use Rattle.ratsnest.specs.Mem.{Mem, Climbs};
 
@@ -60,7 +60,7 @@ fn join(
     labels: &mut [usize],
     nest: &mut Vec<Link>,
 ) -> Result<(), AllocError>
-    requires rise { Rise anchors.now }
+    requires rise { AnchorsRise anchors.now }
     requires few { length anchors.now < 2 ^ 32 }
     requires links { AreAllLinks anchors.now links.now }
     requires labels { AreOwnLabels anchors.now labels.old }
@@ -90,7 +90,7 @@ fn own_labels(alloc: Global, count: usize) -> Result<Vec<usize>, AllocError>
 }
 
 fn by_chains(alloc: Global, anchors: &[Anchor]) -> Result<Vec<Link>, AllocError>
-    requires rise { Rise anchors.now }
+    requires rise { AnchorsRise anchors.now }
     requires few { length anchors.now < 2 ^ 32 }
     ensures { IfOk result (λ v. IsNest anchors.now v.items) }
 {
@@ -107,7 +107,7 @@ fn by_chains(alloc: Global, anchors: &[Anchor]) -> Result<Vec<Link>, AllocError>
 ///
 /// It makes all links of the anchors, so it takes the square of their number in memory.
 pub fn check_nest(alloc: Global, anchors: &[Anchor], nest: &Nest) -> Result<bool, AllocError>
-    requires rise { Rise anchors.now }
+    requires rise { AnchorsRise anchors.now }
     requires few { length anchors.now < 2 ^ 32 }
     ensures { IfOk result (λ yes. IsTrue yes ↔ IsNest anchors.now nest.now.links) }
 {

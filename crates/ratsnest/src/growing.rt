@@ -5,7 +5,7 @@
 
 ghost use Rattle.std.specs.Prelude.{◌≡◌, ◌<◌, ◌≤◌, ◌^◌, ◌+◌, ◌-◌, ◌≢◌, ℕ, length, OnOk, slice_index_or, ◌⊎◌, false, IfOk, All, replicate, []};
 ghost use Rattle.ratsnest.specs.declared.link.Link.{Link};
-ghost use Rattle.ratsnest.specs.NestOf.{group_at, group_count, Rise, GroupsOccur, IsNest, HasPlaces, IsLeast, JoinAll};
+ghost use Rattle.ratsnest.specs.NestOf.{group_at, group_count, AnchorsRise, GroupsOccur, IsNest, HasPlaces, IsLeast, JoinAll};
 ghost use Rattle.ratsnest.specs.Grow.{rank, AreChosen, AreFirst, IsGrown};
 ghost use Rattle.ratsnest.specs.declared.waiting.Waiting.{Waiting};
 ghost use Rattle.ratsnest.specs.Mem.{Mem, Climbs};
@@ -63,7 +63,7 @@ fn take_in(
     joined: &mut Vec<Waiting>,
     links: &mut Vec<Link>,
 ) -> Result<(), AllocError>
-    requires rise { Rise anchors.now }
+    requires rise { AnchorsRise anchors.now }
     requires few { length anchors.now < 2 ^ 32 }
     requires grown { IsGrown anchors.now reached.old waiting.old.items links.old.items }
     requires some { 0 < length waiting.old.items }
@@ -85,7 +85,7 @@ fn grow_on(
     joined: &mut Vec<Waiting>,
     links: &mut Vec<Link>,
 ) -> Result<(), AllocError>
-    requires rise { Rise anchors.now }
+    requires rise { AnchorsRise anchors.now }
     requires occur { GroupsOccur anchors.now }
     requires few { length anchors.now < 2 ^ 32 }
     requires grown { IsGrown anchors.now reached.old waiting.old.items links.old.items }
@@ -119,7 +119,7 @@ fn start(
 // The links of the nest.
 #[tactic(auto, using(crate::proofs::Grown::chosen_few, crate::proofs::Grown::some_anchor))]
 fn grow(alloc: Global, anchors: &[Anchor]) -> Result<Vec<Link>, AllocError>
-    requires rise { Rise anchors.now }
+    requires rise { AnchorsRise anchors.now }
     requires occur { GroupsOccur anchors.now }
     requires few { length anchors.now < 2 ^ 32 }
     ensures { IfOk result (λ links. AreChosen anchors.now links.items) }
@@ -139,7 +139,7 @@ fn grow(alloc: Global, anchors: &[Anchor]) -> Result<Vec<Link>, AllocError>
 
 // The links of the nest, found by growing one group or in rounds, whichever is faster for so many anchors.
 fn choose(alloc: Global, anchors: &[Anchor]) -> Result<Vec<Link>, AllocError>
-    requires rise { Rise anchors.now }
+    requires rise { AnchorsRise anchors.now }
     requires occur { GroupsOccur anchors.now }
     requires few { length anchors.now < 2 ^ 32 }
     ensures { IfOk result (λ links. AreChosen anchors.now links.items) }
@@ -159,7 +159,7 @@ fn choose(alloc: Global, anchors: &[Anchor]) -> Result<Vec<Link>, AllocError>
 /// Few anchors are each measured against all of other groups. Of more, each is asked in a few rounds for its least link in a tree
 /// of areas: where they lie apart, that takes about as long as a few sorts.
 pub fn nest(alloc: Global, anchors: &[Anchor]) -> Result<Nest, AllocError>
-    requires rise { Rise anchors.now }
+    requires rise { AnchorsRise anchors.now }
     requires occur { GroupsOccur anchors.now }
     requires few { length anchors.now < 2 ^ 32 }
     ensures nest { IfOk result (λ nest. IsNest anchors.now nest.links) }

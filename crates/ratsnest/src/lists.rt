@@ -1,7 +1,7 @@
 //! Lists of anchors that a nest may be asked of.
 
 ghost use Rattle.std.specs.Prelude.{◌≡◌, ◌<◌, ℕ, length, IsTrue, ◌↔◌};
-ghost use Rattle.ratsnest.specs.NestOf.{anchor_at, group_at, IsBefore, Rise, GroupsOccur};
+ghost use Rattle.ratsnest.specs.NestOf.{anchor_at, group_at, IsBefore, AnchorsRise, GroupsOccur};
 
 use crate::anchor::Anchor;
 use crate::places::{count_groups, group_of};
@@ -23,7 +23,7 @@ fn stand_in_order(anchors: &[Anchor], i: usize, j: usize) -> bool
 
 // Whether each anchor stands before the next one.
 fn do_rise(anchors: &[Anchor]) -> bool
-    ensures { IsTrue result ↔ Rise anchors.now }
+    ensures { IsTrue result ↔ AnchorsRise anchors.now }
 {
     for place in 1..anchors.len() {
         if !stand_in_order(anchors, place - 1, place) {
@@ -59,7 +59,7 @@ fn do_groups_occur(anchors: &[Anchor]) -> bool
 /// Whether the anchors rise by id and number, and each group from 0 to the greatest occurs: then they have a nest. It takes no
 /// memory, and looks at each anchor once for each group.
 pub fn have_nest(anchors: &[Anchor]) -> bool
-    ensures { IsTrue result ↔ (Rise anchors.now × GroupsOccur anchors.now) }
+    ensures { IsTrue result ↔ (AnchorsRise anchors.now × GroupsOccur anchors.now) }
 {
     do_rise(anchors) && do_groups_occur(anchors)
 }

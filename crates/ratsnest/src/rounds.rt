@@ -4,7 +4,7 @@
 
 ghost use Rattle.std.specs.Prelude.{◌≡◌, ◌<◌, ◌≤◌, ◌^◌, ◌-◌, ℕ, true, false, length, OnOk, IfOk, []};
 ghost use Rattle.ratsnest.specs.declared.link.Link.{Link};
-ghost use Rattle.ratsnest.specs.NestOf.{group_count, Rise, GroupsOccur};
+ghost use Rattle.ratsnest.specs.NestOf.{group_count, AnchorsRise, GroupsOccur};
 ghost use Rattle.ratsnest.specs.Grow.{rank, AreChosen};
 ghost use Rattle.ratsnest.specs.Forest.{AreSpots, AreNodes, AreKept, IsForest, AreOne};
 ghost use Rattle.ratsnest.specs.Mem.{Mem, Climbs};
@@ -26,7 +26,7 @@ fn take_round(
     members: &mut [Members],
     links: &mut Vec<Link>,
 ) -> Result<bool, AllocError>
-    requires rise { Rise anchors.now }
+    requires rise { AnchorsRise anchors.now }
     requires occur { GroupsOccur anchors.now }
     requires few { length anchors.now < 2 ^ 32 }
     requires spots { AreSpots anchors.now tree.now.spots.items }
@@ -54,7 +54,7 @@ fn take_rounds(
     members: &mut [Members],
     links: &mut Vec<Link>,
 ) -> Result<(), AllocError>
-    requires rise { Rise anchors.now }
+    requires rise { AnchorsRise anchors.now }
     requires occur { GroupsOccur anchors.now }
     requires few { length anchors.now < 2 ^ 32 }
     requires spots { AreSpots anchors.now tree.now.spots.items }
@@ -89,7 +89,7 @@ fn join_from(
     labels: &mut [usize],
     members: &mut [Members],
 ) -> Result<Vec<Link>, AllocError>
-    requires rise { Rise anchors.now }
+    requires rise { AnchorsRise anchors.now }
     requires occur { GroupsOccur anchors.now }
     requires few { length anchors.now < 2 ^ 32 }
     requires some { 0 < group_count anchors.now }
@@ -106,7 +106,7 @@ fn join_from(
 
 /// The links of the nest. It takes memory linear in the number of anchors.
 pub(crate) fn join_groups(alloc: Global, anchors: &[Anchor]) -> Result<Vec<Link>, AllocError>
-    requires rise { Rise anchors.now }
+    requires rise { AnchorsRise anchors.now }
     requires occur { GroupsOccur anchors.now }
     requires few { length anchors.now < 2 ^ 32 }
     ensures { IfOk result (λ links. AreChosen anchors.now links.items) }

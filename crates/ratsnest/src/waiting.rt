@@ -3,7 +3,7 @@
 ghost use Rattle.std.specs.Prelude.{◌≡◌, ◌≢◌, ◌<◌, ◌≤◌, ◌^◌, ◌++◌, IsTrue, ℕ, length, OnOk, IfOk, All, [], slice_index_or};
 ghost use Rattle.std.specs.List.Sorted.{IsPermutation};
 ghost use Rattle.ratsnest.specs.declared.waiting.Waiting.{Waiting};
-ghost use Rattle.ratsnest.specs.Grow.{rank, link_between, IsDrawn, IsDrawnToAll, IsDoubled, IsTold, IsReach, IsFirst, IsLed, AreFirst};
+ghost use Rattle.ratsnest.specs.Grow.{rank, link_between, IsDrawn, IsDrawnToAll, IsDoubled, IsTold, IsReach, IsFromFirst, IsLed, AreFirst};
 
 use crate::anchor::Anchor;
 use crate::link::Link;
@@ -176,7 +176,7 @@ fn is_led(waiting: &[Waiting], anchor: Anchor) -> bool
 fn first_of(anchors: &[Anchor], j: usize) -> Waiting
     requires few { length anchors.now < 2 ^ 32 }
     requires j { j < length anchors.now }
-    ensures { IsFirst anchors.now j result }
+    ensures { IsFromFirst anchors.now j result }
 {
     Waiting {
         anchor: anchors[j],

@@ -11,7 +11,7 @@ use Rattle.std.proofs.lemmas.Str.Parse.{IsNumeralModel, numerals_by_weight, tell
 use Rattle.std.proofs.lemmas.Str.{IsUtf8-append, IsUtf8-nil}
 use Rattle.exact_dec.specs.Decimal.{number}
 use Rattle.exact_dec.specs.Written.{minus_sign, six_digits, mm_text}
-use Rattle.sexpr_read.specs.declared.bytes.Class.TheVariants.{Plain}
+use Rattle.sexpr_read.specs.declared.bytes.ByteClass.TheVariants.{Plain}
 use Rattle.sexpr_read.specs.Bytes.{class_of, is_word, is_itself}
 use Rattle.tree_text.specs.Pieces.{AreOfWord, IsInside, IsContentOf}
 use Rattle.tree_text.specs.Pieces.IsInside.{empty, itself}

@@ -3,7 +3,7 @@ use Rattle.std.proofs.Common.{◌≡◌, refl, ap, subst, sym, ◌∙◌, ℕ, z
 use Rattle.std.specs.List.{AllZip, flat_map}
 use Rattle.std.specs.List.Sorted.{IsStrictlyIncreasing}
 use Rattle.std.proofs.lemmas.List.{take_more, take_all, flat_map_more}
-use Rattle.box_index.specs.Tiles.{PlainIndex, IsSound}
+use Rattle.box_index.specs.Tiles.{PlainIndex, IsSoundIndex}
 use Rattle.pair_check.specs.PlainRow.{PlainRow}
 use Rattle.pair_check.specs.Rows.{Checked}
 use Rattle.row_check.specs.Tiles.{IsIndexOf, AreRowsOfTile}
@@ -13,7 +13,7 @@ use Rattle.row_check.proofs.RowLists.{nothing, no_rows}
 use Rattle.row_check.proofs.Sorting.{once_from_rows}
 use Rattle.row_check.proofs.WholeRows.{one_tile_more}
 
-module _ (c : Checked) (index : PlainIndex) (sound : IsSound index) (is : IsIndexOf c index) (tiles changed : List ℕ) (up : IsStrictlyIncreasing tiles) (batches : List (List PlainRow))
+module _ (c : Checked) (index : PlainIndex) (sound : IsSoundIndex index) (is : IsIndexOf c index) (tiles changed : List ℕ) (up : IsStrictlyIncreasing tiles) (batches : List (List PlainRow))
     (each : AllZip (λ tile batch. AreRowsOfTile c index tile changed batch) tiles batches) where
   joined_to : ℕ → List PlainRow
   joined_to k = flat_map (λ (batch : List PlainRow). batch) (take k batches)

@@ -14,7 +14,7 @@ use Rattle.cond_lang.specs.Kinds.{kind_number}
 use Rattle.pair_check.specs.PlainRow.{PlainRow}
 use Rattle.pair_check.specs.Rows.{Before, AreRowsWhere}
 use Rattle.row_check.specs.declared.order.Place.{Place}
-use Rattle.row_check.specs.Whole.{Apart, AreOnceWhere, AreInOrder, place_of}
+use Rattle.row_check.specs.Whole.{StandApart, AreOnceWhere, AreInOrder, place_of}
 
 -- two rows stand at one place
 pub record Same (r s : PlainRow) : Type 0 where
@@ -22,33 +22,33 @@ pub record Same (r s : PlainRow) : Type 0 where
   pub second : r.second ≡ s.second
   pub kind : kind_number r.kind ≡ kind_number s.kind
 
-pub apart_or_same : (r s : PlainRow) → Apart r s ⊎ Same r s
+pub apart_or_same : (r s : PlainRow) → StandApart r s ⊎ Same r s
 apart_or_same r s = by_first (cases_order r.first s.first)
   where
-    by_kind : r.first ≡ s.first → r.second ≡ s.second → (kind_number r.kind ≡ kind_number s.kind) ⊎ ((kind_number r.kind < kind_number s.kind) ⊎ (kind_number s.kind < kind_number r.kind)) → Apart r s ⊎ Same r s
+    by_kind : r.first ≡ s.first → r.second ≡ s.second → (kind_number r.kind ≡ kind_number s.kind) ⊎ ((kind_number r.kind < kind_number s.kind) ⊎ (kind_number s.kind < kind_number r.kind)) → StandApart r s ⊎ Same r s
     by_kind e f (inl g) = inr (record { first = e; second = f; kind = g })
     by_kind e f (inr (inl h)) = inl (inl (inr (inr (e, f, h))))
     by_kind e f (inr (inr h)) = inl (inr (inr (inr (sym e, sym f, h))))
 
-    by_second : r.first ≡ s.first → (r.second ≡ s.second) ⊎ ((r.second < s.second) ⊎ (s.second < r.second)) → Apart r s ⊎ Same r s
+    by_second : r.first ≡ s.first → (r.second ≡ s.second) ⊎ ((r.second < s.second) ⊎ (s.second < r.second)) → StandApart r s ⊎ Same r s
     by_second e (inl f) = by_kind e f (cases_order (kind_number r.kind) (kind_number s.kind))
     by_second e (inr (inl h)) = inl (inl (inr (inl (e, h))))
     by_second e (inr (inr h)) = inl (inr (inr (inl (sym e, h))))
 
-    by_first : (r.first ≡ s.first) ⊎ ((r.first < s.first) ⊎ (s.first < r.first)) → Apart r s ⊎ Same r s
+    by_first : (r.first ≡ s.first) ⊎ ((r.first < s.first) ⊎ (s.first < r.first)) → StandApart r s ⊎ Same r s
     by_first (inl e) = by_second e (cases_order r.second s.second)
     by_first (inr (inl h)) = inl (inl (inl h))
     by_first (inr (inr h)) = inl (inr (inl h))
 
 -- rows that are not at one place
-pub apart_from : (r s : PlainRow) → (r.first ≡ s.first → r.second ≡ s.second → ⊥) → Apart r s
+pub apart_from : (r s : PlainRow) → (r.first ≡ s.first → r.second ≡ s.second → ⊥) → StandApart r s
 apart_from r s differ = by_case (apart_or_same r s)
   where
-    by_case : Apart r s ⊎ Same r s → Apart r s
+    by_case : StandApart r s ⊎ Same r s → StandApart r s
     by_case (inl h) = h
     by_case (inr h) = absurd (differ h.first h.second)
 
-apart_back : (r s : PlainRow) → Apart r s → Apart s r
+apart_back : (r s : PlainRow) → StandApart r s → StandApart s r
 apart_back r s (inl h) = inr h
 apart_back r s (inr h) = inl h
 
@@ -58,7 +58,7 @@ once_from_rows P rows r = record { apart = λ i j d lt long. inl (r.ordered i j 
 pub rows_from_once : (P : PlainRow → Type 0) (rows : List PlainRow) → AreInOrder rows → AreOnceWhere P rows → AreRowsWhere P rows
 rows_from_once P rows order r = record { ordered = λ i j d lt long. by_side (get_or rows i d) (get_or rows j d) (order i j d lt long) (r.apart i j d lt long); only = r.only; all = r.all }
   where
-    by_side : (a b : PlainRow) → ¬ (Before b a) → Apart a b → Before a b
+    by_side : (a b : PlainRow) → ¬ (Before b a) → StandApart a b → Before a b
     by_side a b not_back (inl h) = h
     by_side a b not_back (inr h) = absurd (not_back h)
 
@@ -103,15 +103,15 @@ moved_place f g a b n sw la lb p lp = by_a (eq_or p a)
 images_differ : (a b i j s t : ℕ) → (i ≡ j → ⊥) → (i ≡ a → s ≡ b) → (i ≡ b → s ≡ a) → ((i ≡ a → ⊥) → (i ≡ b → ⊥) → s ≡ i) → (j ≡ a → t ≡ b) → (j ≡ b → t ≡ a) → ((j ≡ a → ⊥) → (j ≡ b → ⊥) → t ≡ j) → s ≡ t → ⊥
 images_differ a b i j s t ne p q r x y z e = grind arith
 
-apart_either : (rows : List PlainRow) (s t : ℕ) (d : PlainRow) → AllPairs Apart rows → (s ≡ t → ⊥) → s < length rows → t < length rows → Apart (get_or rows s d) (get_or rows t d)
+apart_either : (rows : List PlainRow) (s t : ℕ) (d : PlainRow) → AllPairs StandApart rows → (s ≡ t → ⊥) → s < length rows → t < length rows → StandApart (get_or rows s d) (get_or rows t d)
 apart_either rows s t d h ne ls lt = by_order (cases_order s t)
   where
-    by_order : (s ≡ t) ⊎ ((s < t) ⊎ (t < s)) → Apart (get_or rows s d) (get_or rows t d)
+    by_order : (s ≡ t) ⊎ ((s < t) ⊎ (t < s)) → StandApart (get_or rows s d) (get_or rows t d)
     by_order (inl e) = absurd (ne e)
     by_order (inr (inl l)) = h s t d l lt
     by_order (inr (inr l)) = apart_back (get_or rows t d) (get_or rows s d) (h t s d l ls)
 
-apart_swap : (rows : List PlainRow) (a b : ℕ) → a < length rows → b < length rows → AllPairs Apart rows → AllPairs Apart (swap rows a b)
+apart_swap : (rows : List PlainRow) (a b : ℕ) → a < length rows → b < length rows → AllPairs StandApart rows → AllPairs StandApart (swap rows a b)
 apart_swap rows a b la lb h i j d ij lj =
     let n = length rows in
     let long = length-swap rows a b in
@@ -119,11 +119,11 @@ apart_swap rows a b la lb h i j d ij lj =
     let u = moved_place (λ k. get_or rows k d) (λ k. get_or (swap rows a b) k d) a b n sw la lb i (omega arith) in
     let v = moved_place (λ k. get_or rows k d) (λ k. get_or (swap rows a b) k d) a b n sw la lb j (omega arith) in
     let apart = apart_either rows u.0 v.0 d h (images_differ a b i j u.0 v.0 (λ e. omega arith) u.3 u.4 u.5 v.3 v.4 v.5) u.1 v.1 in
-    subst (λ (x : PlainRow). Apart x (get_or (swap rows a b) j d)) (sym u.2) (subst (λ (y : PlainRow). Apart (get_or rows u.0 d) y) (sym v.2) apart)
+    subst (λ (x : PlainRow). StandApart x (get_or (swap rows a b) j d)) (sym u.2) (subst (λ (y : PlainRow). StandApart (get_or rows u.0 d) y) (sym v.2) apart)
 
 pub once_permutation : (P : PlainRow → Type 0) (xs ys : List PlainRow) → IsPermutation xs ys → AreOnceWhere P xs → AreOnceWhere P ys
 once_permutation P xs ys p r = record {
-  apart = IsPermutation-keeps xs (AllPairs Apart) r.apart (λ l a b la lb h. apart_swap l a b la lb h) ys p;
+  apart = IsPermutation-keeps xs (AllPairs StandApart) r.apart (λ l a b la lb h. apart_swap l a b la lb h) ys p;
   only = All-permutation P xs ys p r.only;
   all = λ row h. Contains-permutation xs ys row p (r.all row h);
 }

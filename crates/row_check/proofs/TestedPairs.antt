@@ -8,7 +8,7 @@ use Rattle.std.proofs.lemmas.List.Elements.{All-head, All-tail, filter-append, f
 use Rattle.geo_seg.specs.declared.boxes.Bounds.{Bounds}
 use Rattle.geo_seg.specs.Boxes.{FitsWithin, widened, are_near}
 use Rattle.box_index.specs.declared.entry.Entry.{Entry}
-use Rattle.box_index.specs.Tiles.{PlainIndex, IsSound, margin, is_in, near_of, owner_of, meets_tile}
+use Rattle.box_index.specs.Tiles.{PlainIndex, IsSoundIndex, margin, is_in, near_of, owner_of, meets_tile}
 use Rattle.box_index.proofs.TileLemmas.{near_sides, owner_first, owner_second}
 use Rattle.box_index.proofs.EntryLists.{filter_none}
 use Rattle.row_check.specs.Tiles.{pairs_of, is_changed, is_asked, do_meet, most_steps}
@@ -119,7 +119,7 @@ Fits e = FitsWithin (pos 2000000000) e.bounds
 wide_from : (reach : ℤ) → pos 0 ≤ℤ reach → pos 0 ≤ℤ (reach +ℤ reach)
 wide_from reach h = omega (arith, ints)
 
-picks : (index : PlainIndex) (tile : ℕ) (changed : Entry → Bool) → IsSound index → Picks Fits (is_in index tile) (test_of changed (is_owned index tile))
+picks : (index : PlainIndex) (tile : ℕ) (changed : Entry → Bool) → IsSoundIndex index → Picks Fits (is_in index tile) (test_of changed (is_owned index tile))
 picks index tile changed s =
     let wide = wide_from index.reach s.reach_from in record {
       first = λ a b f h.
@@ -134,7 +134,7 @@ picks index tile changed s =
           subst (λ (t : ℕ). meets_tile (widened b.bounds (margin index)) t ≡ true) o (owner_second (margin index) a.bounds b.bounds wide f.wide f.high (near_sides (margin index) a.bounds b.bounds n));
     }
 
-pub tested_all : (index : PlainIndex) (tile : ℕ) (changed : List ℕ) → IsSound index → tested (touches changed) (is_owned index tile) (near_of index tile) ≡ filter (test_of (touches changed) (is_owned index tile)) (pairs_of index.entries)
+pub tested_all : (index : PlainIndex) (tile : ℕ) (changed : List ℕ) → IsSoundIndex index → tested (touches changed) (is_owned index tile) (near_of index tile) ≡ filter (test_of (touches changed) (is_owned index tile)) (pairs_of index.entries)
 tested_all index tile changed s =
     tested_is (touches changed) (is_owned index tile) (near_of index tile)
     ∙ pairs_kept Fits (is_in index tile) (test_of (touches changed) (is_owned index tile)) (picks index tile (touches changed) s) index.entries s.fit
@@ -154,7 +154,7 @@ asked_met true true false t h e = e
 asked_met true false o t h e = cc
 asked_met false n o t h e = cc
 
-pub steps_are : (index : PlainIndex) (tile : ℕ) (changed : List ℕ) → IsSound index → length (tested (touches changed) (is_owned index tile) (near_of index tile)) ≤ most_steps index tile changed
+pub steps_are : (index : PlainIndex) (tile : ℕ) (changed : List ℕ) → IsSoundIndex index → length (tested (touches changed) (is_owned index tile) (near_of index tile)) ≤ most_steps index tile changed
 steps_are index tile changed s =
     let most = more_pass (test_of (touches changed) (is_owned index tile)) (λ p. is_asked index tile changed p && do_meet (margin index) p.0.bounds p.1.bounds) (pairs_of index.entries)
     (λ p. asked_met (is_changed changed p.0.id || is_changed changed p.1.id) (are_near (margin index) p.0.bounds p.1.bounds) (owner_of (margin index) p.0.bounds p.1.bounds == tile) (do_meet (margin index) p.0.bounds p.1.bounds)

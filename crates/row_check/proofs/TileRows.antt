@@ -10,7 +10,7 @@ use Rattle.board_items.specs.Boards.{PlainBoard, item_at}
 use Rattle.board_items.specs.Parts.{parts_of}
 use Rattle.board_items.specs.Extents.{AreBoundsOf}
 use Rattle.box_index.specs.declared.entry.Entry.{Entry}
-use Rattle.box_index.specs.Tiles.{PlainIndex, IsSound, IsRising, AnswersForNone, margin, owner_of}
+use Rattle.box_index.specs.Tiles.{PlainIndex, IsSoundIndex, IsRising, AnswersForNone, margin, owner_of}
 use Rattle.box_index.proofs.EntryLists.{pairs_first, pairs_rest}
 use Rattle.box_index.proofs.Buckets.{contains_filter}
 use Rattle.pair_check.specs.PlainRow.{PlainRow}
@@ -109,7 +109,7 @@ its_bounds board e id item is same at =
     let one : is.item ≡ item = some_once (sym is.stands ∙ ap (item_at board.items) same ∙ at) in
     subst (λ (i : Item). AreBoundsOf (parts_of i) (Some e.bounds)) one is.own
 
-module _ (c : Checked) (index : PlainIndex) (sound : IsSound index) (is : IsIndexOf c index) where
+module _ (c : Checked) (index : PlainIndex) (sound : IsSoundIndex index) (is : IsIndexOf c index) where
   -- the entries of what is broken are near
   pub entries_near : (row : PlainRow) → IsRowOfTwo c row → (a b : Entry) → Contains index.entries a → Contains index.entries b → a.id ≡ row.first → b.id ≡ row.second → are_near (margin index) a.bounds b.bounds ≡ true
   entries_near row two a b ca cb ea eb =

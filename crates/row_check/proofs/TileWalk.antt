@@ -14,7 +14,7 @@ use Rattle.geo_seg.specs.Boxes.{FitsWithin}
 use Rattle.board_items.specs.declared.item.Item.{Item}
 use Rattle.board_items.specs.Boards.{PlainBoard, item_at}
 use Rattle.box_index.specs.declared.entry.Entry.{Entry}
-use Rattle.box_index.specs.Tiles.{PlainIndex, IsSound, IsRising, is_in, near_of}
+use Rattle.box_index.specs.Tiles.{PlainIndex, IsSoundIndex, IsRising, is_in, near_of}
 use Rattle.box_index.proofs.EntryLists.{pairs_first, pairs_rest}
 use Rattle.pair_check.specs.PlainRow.{PlainRow}
 use Rattle.pair_check.specs.Rows.{Checked}
@@ -153,7 +153,7 @@ module _ (c : Checked) (index : PlainIndex) (tile : ℕ) (changed : List ℕ) wh
         let same = ap length whole_now in
         omega arith
 
-  module _ (near : List Entry) (sound : IsSound index) (is : IsIndexOf c index) (e : near ≡ near_of index tile) where
+  module _ (near : List Entry) (sound : IsSoundIndex index) (is : IsIndexOf c index) (e : near ≡ near_of index tile) where
     entries_on : All (IsOn c.board) index.entries
     entries_on = λ k d l. on_board c.board (get_or index.entries k d) (is.items.only (get_or index.entries k d) (Contains-get_or index.entries k d l))
 

@@ -12,7 +12,7 @@ use Rattle.geo_seg.specs.declared.boxes.Bounds.{Bounds}
 use Rattle.board_items.specs.declared.item.Item.{Item}
 use Rattle.board_items.specs.Boards.{PlainBoard, Rise, item_at}
 use Rattle.box_index.specs.declared.entry.Entry.{Entry}
-use Rattle.box_index.specs.Tiles.{PlainIndex, IsSound, IsRising, margin, owner_of, lane, is_in, near_of, is_held, is_met_by, numbers_below, dirty_of, tile_count}
+use Rattle.box_index.specs.Tiles.{PlainIndex, IsSoundIndex, IsRising, margin, owner_of, lane, is_in, near_of, is_held, is_met_by, numbers_below, dirty_of, tile_count}
 use Rattle.box_index.proofs.TileLemmas.{lane-within}
 use Rattle.box_index.proofs.EntryLists.{pairs_first, pairs_rest}
 use Rattle.box_index.proofs.Buckets.{contains_filter, complete}
@@ -21,7 +21,7 @@ use Rattle.pair_check.specs.Rows.{Checked, IsRowOfTwo, IsRowOfOne, IsRow, AreRow
 use Rattle.board_index.proofs.Numbers.{all_rise, has_number}
 use Rattle.row_check.specs.Tiles.{IsIndexOf, IsAskedIn, AreRowsOfTile}
 use Rattle.row_check.specs.Walks.{HasMore}
-use Rattle.row_check.specs.Whole.{Apart, AreOnceWhere, AreEnough, AreSingles, IsAskedInOne, IsOfTiles, IsOfChanged, ids_of}
+use Rattle.row_check.specs.Whole.{StandApart, AreOnceWhere, AreEnough, AreSingles, IsAskedInOne, IsOfTiles, IsOfChanged, ids_of}
 use Rattle.row_check.proofs.RowLists.{here, behind, nothing, cons_case, pairs_append, across, alike}
 use Rattle.row_check.proofs.PairLists.{pairs_take}
 use Rattle.row_check.proofs.TileRows.{entries_near}
@@ -29,10 +29,10 @@ use Rattle.row_check.proofs.NearPairs.{broken_has_parts}
 use Rattle.row_check.proofs.Sorting.{apart_from, once_from_rows}
 
 -- ---- lists
-pub once_append : (P Q R : PlainRow → Type 0) (xs ys : List PlainRow) → ((r s : PlainRow) → P r → Q s → Apart r s) → ((row : PlainRow) → P row → R row) → ((row : PlainRow) → Q row → R row) → ((row : PlainRow) → R row → P row ⊎ Q row)
+pub once_append : (P Q R : PlainRow → Type 0) (xs ys : List PlainRow) → ((r s : PlainRow) → P r → Q s → StandApart r s) → ((row : PlainRow) → P row → R row) → ((row : PlainRow) → Q row → R row) → ((row : PlainRow) → R row → P row ⊎ Q row)
     → AreOnceWhere P xs → AreOnceWhere Q ys → AreOnceWhere R (xs ++ ys)
 once_append P Q R xs ys apart on_p on_q back p q = record {
-  apart = pairs_append Apart xs ys p.apart q.apart (All-weaker P (λ r. All (Apart r) ys) (λ r h. All-weaker Q (Apart r) (λ s k. apart r s h k) ys q.only) xs p.only);
+  apart = pairs_append StandApart xs ys p.apart q.apart (All-weaker P (λ r. All (StandApart r) ys) (λ r h. All-weaker Q (StandApart r) (λ s k. apart r s h k) ys q.only) xs p.only);
   only = All-append R xs ys (All-weaker P R on_p xs p.only) (All-weaker Q R on_q ys q.only);
   all = λ row h. by_side row (back row h);
 }
@@ -41,7 +41,7 @@ once_append P Q R xs ys apart on_p on_q back p q = record {
     by_side row (inl h) = Contains-append_left xs ys row (p.all row h)
     by_side row (inr h) = Contains-append_right xs ys row (q.all row h)
 
-once_joined : (P Q R : PlainRow → Type 0) (xs ys : List PlainRow) → ((r s : PlainRow) → P r → Q s → Apart r s) → ((row : PlainRow) → P row → R row) → ((row : PlainRow) → Q row → R row) → ((row : PlainRow) → R row → P row ⊎ Q row)
+once_joined : (P Q R : PlainRow → Type 0) (xs ys : List PlainRow) → ((r s : PlainRow) → P r → Q s → StandApart r s) → ((row : PlainRow) → P row → R row) → ((row : PlainRow) → Q row → R row) → ((row : PlainRow) → R row → P row ⊎ Q row)
     → AreOnceWhere P xs → AreRowsWhere Q ys → AreOnceWhere R (xs ++ ys)
 once_joined P Q R xs ys apart on_p on_q back p q = once_append P Q R xs ys apart on_p on_q back p (once_from_rows Q ys q)
 
@@ -108,7 +108,7 @@ one_entry (x ∷ xs) r a b ca cb e = by_case (λ ka kb. one_entry xs (pairs_rest
     by_case again (inr k) (inl h) = let l = later b a h k in absurd (omega arith)
     by_case again (inr k) (inr m) = again k m
 
-one_owner : (index : PlainIndex) (t u : ℕ) (changed : List ℕ) (i j : ℕ) → IsSound index → IsAskedIn index t changed i j → IsAskedIn index u changed i j → t ≡ u
+one_owner : (index : PlainIndex) (t u : ℕ) (changed : List ℕ) (i j : ℕ) → IsSoundIndex index → IsAskedIn index t changed i j → IsAskedIn index u changed i j → t ≡ u
 one_owner index t u changed i j sound p q =
     let a = one_entry index.entries sound.rising p.first q.first p.has_first q.has_first (p.is_first ∙ sym q.is_first) in
     let b = one_entry index.entries sound.rising p.second q.second p.has_second q.has_second (p.is_second ∙ sym q.is_second) in
@@ -120,7 +120,7 @@ tile_below x y h k = omega arith
 owner_below : (m : ℤ) (a b : Bounds) → owner_of m a b < tile_count
 owner_below m a b = tile_below (lane (int_max (a.left -ℤ m) b.left)) (lane (int_max (a.top -ℤ m) b.top)) (lane-within (int_max (a.left -ℤ m) b.left)) (lane-within (int_max (a.top -ℤ m) b.top))
 
-module _ (c : Checked) (index : PlainIndex) (sound : IsSound index) (is : IsIndexOf c index) where
+module _ (c : Checked) (index : PlainIndex) (sound : IsSoundIndex index) (is : IsIndexOf c index) where
   -- one tile more
   module _ (tiles changed : List ℕ) (up : IsStrictlyIncreasing tiles) (k : ℕ) (l : k < length tiles) where
     abbrev P : PlainRow → Type 0
@@ -132,7 +132,7 @@ module _ (c : Checked) (index : PlainIndex) (sound : IsSound index) (is : IsInde
     abbrev R : PlainRow → Type 0
     R row = IsOfTiles c index (take k tiles ++ get_or tiles k 0 ∷ []) changed row
 
-    tiles_apart : (r s : PlainRow) → P r → Q s → Apart r s
+    tiles_apart : (r s : PlainRow) → P r → Q s → StandApart r s
     tiles_apart r s p q = apart_from r s (λ e f.
         let asked = subst (λ i. IsAskedIn index p.1.tile changed i s.second) e (subst (λ j. IsAskedIn index p.1.tile changed r.first j) f p.1.asked) in
         let same = one_owner index p.1.tile (get_or tiles k 0) changed s.first s.second sound asked q.1 in

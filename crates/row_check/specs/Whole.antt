@@ -12,12 +12,12 @@ use Rattle.row_check.specs.declared.order.Place.{Place}
 use Rattle.row_check.specs.Tiles.{IsAskedIn}
 
 -- one of them comes before the other
-abbrev pub Apart : PlainRow → PlainRow → Type 0
-Apart r s = Before r s ⊎ Before s r
+abbrev pub StandApart : PlainRow → PlainRow → Type 0
+StandApart r s = Before r s ⊎ Before s r
 
 -- each of the rows that pass, once, and nothing else, in any order
 pub record AreOnceWhere (Passes : PlainRow → Type 0) (rows : List PlainRow) : Type 0 where
-  pub apart : AllPairs Apart rows
+  pub apart : AllPairs StandApart rows
   pub only : All Passes rows
   pub all : (row : PlainRow) → Passes row → Contains rows row
 

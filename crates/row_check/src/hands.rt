@@ -2,7 +2,7 @@
 
 ghost use Rattle.std.specs.Prelude.{◌≡◌, None, All, IfOk, MatchOption};
 ghost use Rattle.board_items.specs.Boards.{item_at};
-ghost use Rattle.pair_check.specs.Views.{checked_by, IsWhole};
+ghost use Rattle.pair_check.specs.Views.{checked_by, IsWholeView};
 ghost use Rattle.row_check.specs.Hands.{StandsAt};
 
 use box_index::Entry;
@@ -18,7 +18,7 @@ pub(crate) struct Hand<'a> {
 
 /// The item of the id, looked up.
 pub(crate) fn hand_of<'a>(view: &CheckView<'a>, id: u32) -> Option<Hand<'a>>
-    requires { IsWhole view.now }
+    requires { IsWholeView view.now }
     ensures { MatchOption result (item_at (checked_by view.now).board.items id ≡ None) (λ hand. (hand.id ≡ id) × StandsAt (checked_by view.now) hand) }
 {
     let single = single_at(view, id)?;
@@ -31,7 +31,7 @@ pub(crate) fn hands_of<'a>(
     view: &CheckView<'a>,
     entries: &[Entry],
 ) -> Result<Vec<Hand<'a>>, AllocError>
-    requires { IsWhole view.now }
+    requires { IsWholeView view.now }
     ensures { IfOk result (λ hands. All (StandsAt (checked_by view.now)) hands.items) }
 {
     let mut hands = Vec::with_capacity(alloc, entries.len())?;
@@ -52,7 +52,7 @@ pub(crate) fn hand_at<'a>(
     count: usize,
     id: u32,
 ) -> Option<Hand<'a>>
-    requires view { IsWhole view.now }
+    requires view { IsWholeView view.now }
     requires hands { All (StandsAt (checked_by view.now)) hands.now }
     ensures { MatchOption result (item_at (checked_by view.now).board.items id ≡ None) (λ hand. (hand.id ≡ id) × StandsAt (checked_by view.now) hand) }
 {

@@ -3,7 +3,7 @@
 ghost use Rattle.std.specs.Prelude.{◌≡◌, ◌⊎◌, ℕ, List, All, Contains};
 ghost use Rattle.std.specs.List.{AllZip, flat_map};
 ghost use Rattle.std.specs.List.Sorted.{IsStrictlyIncreasing, IsPermutation};
-ghost use Rattle.box_index.specs.Tiles.{PlainIndex, IsSound};
+ghost use Rattle.box_index.specs.Tiles.{PlainIndex, IsSoundIndex};
 ghost use Rattle.pair_check.specs.PlainRow.{PlainRow};
 ghost use Rattle.pair_check.specs.Rows.{Checked, IsRow, IsRowOfTwo, AreRows, HasItems, HasSource};
 ghost use Rattle.row_check.specs.Tiles.{IsIndexOf, AreRowsOfTile};
@@ -27,13 +27,13 @@ pub fn rows_have_sources()
 /// Where the tiles have all those that hold an entry that changed, one of them answers for each pair that breaks something and has
 /// an item that changed.
 pub fn enough_answer()
-    ensures { (c : Checked) (index : PlainIndex) → IsSound index → IsIndexOf c index → (changed tiles : List ℕ) → AreEnough index changed tiles
+    ensures { (c : Checked) (index : PlainIndex) → IsSoundIndex index → IsIndexOf c index → (changed tiles : List ℕ) → AreEnough index changed tiles
         → (row : PlainRow) → IsRowOfTwo c row → Contains changed row.first ⊎ Contains changed row.second → IsAskedInOne index tiles changed row.first row.second }
 {}
 
 /// The rows of tiles, put end to end, have each row once.
 pub fn tiles_once()
-    ensures { (c : Checked) (index : PlainIndex) → IsSound index → IsIndexOf c index → (tiles changed : List ℕ) → IsStrictlyIncreasing tiles
+    ensures { (c : Checked) (index : PlainIndex) → IsSoundIndex index → IsIndexOf c index → (tiles changed : List ℕ) → IsStrictlyIncreasing tiles
         → (batches : List (List PlainRow)) → AllZip (λ tile batch. AreRowsOfTile c index tile changed batch) tiles batches
         → AreOnceWhere (IsOfTiles c index tiles changed) (flat_map (λ (batch : List PlainRow). batch) batches) }
 {}

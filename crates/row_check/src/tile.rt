@@ -7,7 +7,7 @@ ghost use Rattle.box_index.specs.declared.entry.Entry.{Entry};
 ghost use Rattle.box_index.specs.Tiles.{IsRising};
 ghost use Rattle.pair_check.specs.Asked.{IsNoteOf};
 ghost use Rattle.pair_check.specs.Rows.{deciders, AreRowsOfPair};
-ghost use Rattle.pair_check.specs.Views.{checked_by, IsWhole};
+ghost use Rattle.pair_check.specs.Views.{checked_by, IsWholeView};
 ghost use Rattle.row_check.specs.Blocks.{AreBlocks, StartsOwned};
 ghost use Rattle.row_check.specs.Hands.{StandsAt};
 ghost use Rattle.row_check.specs.Tiles.{IsIndexOf, AreRowsOfTile, is_changed, most_steps};
@@ -114,7 +114,7 @@ fn push_pair<L: Ledger>(
     sheet: &mut Sheet,
     steps: &mut Steps<L>,
 ) -> Result<(), AllocError>
-    requires view { IsWhole tested.now.view.now }
+    requires view { IsWholeView tested.now.view.now }
     requires asked { IsNoteOf (deciders (checked_by tested.now.view.now)) tested.now.asked }
     requires ordered { one.id < other.id }
     requires first { StandsAt (checked_by tested.now.view.now) one }
@@ -166,7 +166,7 @@ fn push_beside<L: Ledger>(
     sheet: &mut Sheet,
     steps: &mut Steps<L>,
 ) -> Result<(), AllocError>
-    requires view { IsWhole tested.now.view.now }
+    requires view { IsWholeView tested.now.view.now }
     requires asked { IsNoteOf (deciders (checked_by tested.now.view.now)) tested.now.asked }
     requires hands { All (StandsAt (checked_by tested.now.view.now)) tested.now.hands.now }
     requires same { one.id ≡ first.now.id }
@@ -200,7 +200,7 @@ fn push_rows<L: Ledger>(
     sheet: &mut Sheet,
     steps: &mut Steps<L>,
 ) -> Result<(), AllocError>
-    requires view { IsWhole tested.now.view.now }
+    requires view { IsWholeView tested.now.view.now }
     requires asked { IsNoteOf (deciders (checked_by tested.now.view.now)) tested.now.asked }
     requires hands { All (StandsAt (checked_by tested.now.view.now)) tested.now.hands.now }
     requires rising { IsRising (first.now ∷ others.now) }
@@ -228,7 +228,7 @@ fn hands_if<'a>(
     near: &[Entry],
     count: usize,
 ) -> Result<Vec<Hand<'a>>, AllocError>
-    requires { IsWhole view.now }
+    requires { IsWholeView view.now }
     ensures { IfOk result (λ hands. All (StandsAt (checked_by view.now)) hands.items) }
 {
     if count < MANY {
@@ -250,7 +250,7 @@ pub fn test_tile<L: Ledger>(
     changed: &[u32],
     steps: &mut Steps<L>,
 ) -> Result<Vec<Row>, AllocError>
-    requires view { IsWhole view.now }
+    requires view { IsWholeView view.now }
     requires index { IsIndexOf (checked_by view.now) index.now }
     requires changed { IsStrictlyIncreasing changed.now }
     ensures rows { IfOk result (λ rows. AreRowsOfTile (checked_by view.now) index.now tile changed.now rows.items) }

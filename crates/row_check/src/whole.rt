@@ -2,9 +2,9 @@
 
 ghost use Rattle.std.specs.Prelude.{◌≡◌, ◌<◌, IfOk, OnOk};
 ghost use Rattle.std.specs.List.Sorted.{IsStrictlyIncreasing};
-ghost use Rattle.box_index.specs.Tiles.{IsSound};
+ghost use Rattle.box_index.specs.Tiles.{IsSoundIndex};
 ghost use Rattle.pair_check.specs.Rows.{AreRows, AreRowsOfItem, AreRowsWhere};
-ghost use Rattle.pair_check.specs.Views.{checked_by, IsWhole};
+ghost use Rattle.pair_check.specs.Views.{checked_by, IsWholeView};
 ghost use Rattle.row_check.specs.Tiles.{IsIndexOf, AreRowsOfTile};
 ghost use Rattle.row_check.specs.Walks.{HasMore};
 ghost use Rattle.row_check.specs.Whole.{AreOnceWhere, AreSingles, IsOfTiles, IsOfChanged, ids_of};
@@ -40,7 +40,7 @@ fn push_tile<L: Ledger>(
     rows: &mut Vec<Row>,
     steps: &mut Steps<L>,
 ) -> Result<(), AllocError>
-    requires view { IsWhole view.now }
+    requires view { IsWholeView view.now }
     requires index { IsIndexOf (checked_by view.now) index.now }
     requires changed { IsStrictlyIncreasing changed.now }
     ensures { OnOk result (HasMore (AreRowsOfTile (checked_by view.now) index.now tile changed.now) rows.old.items rows.new.items) }
@@ -59,9 +59,9 @@ fn rows_of_tiles<L: Ledger>(
     changed: &[u32],
     steps: &mut Steps<L>,
 ) -> Result<Vec<Row>, AllocError>
-    requires view { IsWhole view.now }
+    requires view { IsWholeView view.now }
     requires index { IsIndexOf (checked_by view.now) index.now }
-    requires sound { IsSound index.now }
+    requires sound { IsSoundIndex index.now }
     requires tiles { IsStrictlyIncreasing tiles.now }
     requires changed { IsStrictlyIncreasing changed.now }
     ensures { IfOk result (λ rows. AreOnceWhere (IsOfTiles (checked_by view.now) index.now tiles.now changed.now) rows.items) }
@@ -80,7 +80,7 @@ fn push_single(
     id: u32,
     rows: &mut Vec<Row>,
 ) -> Result<(), AllocError>
-    requires { IsWhole view.now }
+    requires { IsWholeView view.now }
     ensures { OnOk result (HasMore (AreRowsOfItem (checked_by view.now) id) rows.old.items rows.new.items) }
 {
     match view.board.get(id) {
@@ -101,7 +101,7 @@ pub fn push_singles(
     ids: &[u32],
     rows: &mut Vec<Row>,
 ) -> Result<(), AllocError>
-    requires view { IsWhole view.now }
+    requires view { IsWholeView view.now }
     requires rise { IsStrictlyIncreasing ids.now }
     ensures { OnOk result (HasMore (AreSingles (checked_by view.now) ids.now) rows.old.items rows.new.items) }
 {
@@ -123,9 +123,9 @@ fn rows_counted<L: Ledger>(
     requires name { blank.name ≡ L.name }
     requires parts { blank.parts ≡ L.parts }
     requires some { 0 < blank.parts }
-    requires view { IsWhole view.now }
+    requires view { IsWholeView view.now }
     requires index { IsIndexOf (checked_by view.now) index.now }
-    requires sound { IsSound index.now }
+    requires sound { IsSoundIndex index.now }
     requires tiles { IsStrictlyIncreasing tiles.now }
     requires changed { IsStrictlyIncreasing changed.now }
     ensures { IfOk result (λ rows. AreRowsWhere (IsOfChanged (checked_by view.now) index.now tiles.now changed.now) rows.items) }
@@ -149,7 +149,7 @@ pub fn rows_of_changed(
     tiles: &[u32],
     changed: &[u32],
 ) -> Result<Vec<Row>, AllocError>
-    requires view { IsWhole view.now }
+    requires view { IsWholeView view.now }
     requires index { IsIndexOf (checked_by view.now) index.now }
     requires tiles { IsStrictlyIncreasing tiles.now }
     requires changed { IsStrictlyIncreasing changed.now }
@@ -165,7 +165,7 @@ pub fn rows_of_changed(
 /// The index holds the items of the board under their bounds, and reaches as far as anything is asked for. Two items are
 /// compared in one tile, and only where their bounds, widened so, meet. Only want of memory refuses it.
 pub fn rows_of(alloc: Global, view: &CheckView, index: &TileIndex) -> Result<Vec<Row>, AllocError>
-    requires view { IsWhole view.now }
+    requires view { IsWholeView view.now }
     requires index { IsIndexOf (checked_by view.now) index.now }
     ensures { IfOk result (λ rows. AreRows (checked_by view.now) rows.items) }
 {

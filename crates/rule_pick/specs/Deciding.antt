@@ -12,7 +12,7 @@ use Rattle.cond_lang.specs.declared.rule.RuleLayer.TheVariants.{Any, Outer, Inne
 use Rattle.cond_lang.specs.declared.rule.Severity.TheVariants.{Error}
 use Rattle.cond_lang.specs.Kinds.{kind_number, has_own}
 use Rattle.cond_lang.specs.Rules.{PlainConstraint, PlainRule, no_bans}
-use Rattle.cond_lang.specs.Trees.{Tree}
+use Rattle.cond_lang.specs.Trees.{CondTree}
 use Rattle.rule_pick.specs.declared.facts.Facts.{Facts}
 use Rattle.rule_pick.specs.declared.kinds.Source.{Source}
 use Rattle.rule_pick.specs.declared.kinds.Source.TheVariants.{Default, Local, Rule}
@@ -80,12 +80,12 @@ admits (One own) None = false
 admits (One own) (Some layer) = own == layer
 
 -- the condition holds one way or the other; of a single item it is asked alone
-abbrev pub holds_either_way : Tree → Facts → Option Facts → Bool
+abbrev pub holds_either_way : CondTree → Facts → Option Facts → Bool
 holds_either_way cond a None = holds cond a None
 holds_either_way cond a (Some b) = holds cond a (Some b) || holds cond b (Some a)
 
 -- a rule without a condition holds of all items
-abbrev pub applies : Option Tree → Facts → Option Facts → Bool
+abbrev pub applies : Option CondTree → Facts → Option Facts → Bool
 applies None a b = true
 applies (Some cond) a b = holds_either_way cond a b
 
@@ -118,7 +118,7 @@ abbrev pub default_least : ℤ → Kind → Facts → Option Facts → ℤ
 default_least least kind a b = if has_own kind then class_clearance_if b (int_max a.class_clearance least) else least
 
 -- what an assertion claims, of a alone; the other kinds claim nothing
-abbrev pub claim_holds : Option Tree → Facts → Bool
+abbrev pub claim_holds : Option CondTree → Facts → Bool
 claim_holds None a = true
 claim_holds (Some claim) a = holds claim a None
 

@@ -18,7 +18,7 @@ use Rattle.cond_lang.specs.declared.terms.Op.{Op}
 use Rattle.cond_lang.specs.declared.terms.Op.TheVariants.{Same, Differs, Less, AtMost, More, AtLeast}
 use Rattle.cond_lang.specs.declared.terms.Term.{Term}
 use Rattle.cond_lang.specs.declared.terms.Term.TheVariants.{Of, Text, Length}
-use Rattle.cond_lang.specs.Trees.{Tree, Trees, any, all, negated, call, compare, none, first}
+use Rattle.cond_lang.specs.Trees.{CondTree, Trees, any, all, negated, call, compare, none, first}
 use Rattle.rule_pick.specs.declared.kinds.ItemKind.{ItemKind}
 use Rattle.rule_pick.specs.declared.kinds.ItemKind.TheVariants.{Track, Via, Pad, Graphic, Fill, Edge, Area, Body, Note}
 use Rattle.rule_pick.specs.declared.facts.Facts.{Facts}
@@ -156,7 +156,7 @@ answers side func pattern a b = answer_if func pattern (item_of side a b)
 
 abbrev mutual
   -- the condition holds of a, and of b if it is there
-  pub holds : Tree → Facts → Option Facts → Bool
+  pub holds : CondTree → Facts → Option Facts → Bool
   holds (any parts) a b = some_hold parts a b
   holds (all parts) a b = all_hold parts a b
   holds (negated inner) a b = not (holds inner a b)

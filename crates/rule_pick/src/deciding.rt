@@ -3,7 +3,7 @@
 ghost use Rattle.std.specs.Prelude.{◌≡◌, ◌<◌, map, length, false, Some, IsTrue, MatchOption};
 ghost use Rattle.std.specs.Option.{option_map, option_copied};
 ghost use Rattle.cond_lang.specs.Rules.{plain_constraint, plain_rule};
-ghost use Rattle.cond_lang.specs.Trees.{tree_of};
+ghost use Rattle.cond_lang.specs.Trees.{cond_tree_of};
 ghost use Rattle.rule_pick.specs.Deciding.{asked_by, is_outer, admits, holds_either_way, applies, matches_rule, IsDeciding, NoneMatches};
 
 use crate::facts::Facts;
@@ -50,7 +50,7 @@ fn admits(rule_layer: RuleLayer, layer: Option<u32>) -> bool
 }
 
 fn holds_either_way(cond: &Cond, a: &Facts, b: Option<&Facts>) -> bool
-    ensures { result ≡ holds_either_way (tree_of cond.now) a.now (option_copied b.entry) }
+    ensures { result ≡ holds_either_way (cond_tree_of cond.now) a.now (option_copied b.entry) }
 {
     match b {
         None => holds(cond, a, None),
@@ -59,7 +59,7 @@ fn holds_either_way(cond: &Cond, a: &Facts, b: Option<&Facts>) -> bool
 }
 
 fn applies(cond: &Option<Cond>, a: &Facts, b: Option<&Facts>) -> bool
-    ensures { result ≡ applies (option_map tree_of cond.now) a.now (option_copied b.entry) }
+    ensures { result ≡ applies (option_map cond_tree_of cond.now) a.now (option_copied b.entry) }
 {
     match cond {
         None => true,

@@ -4,7 +4,7 @@ ghost use Rattle.std.specs.Prelude.{◌≡◌, false};
 ghost use Rattle.std.specs.Option.{option_copied};
 ghost use Rattle.net_class.specs.Wild.{matches};
 ghost use Rattle.copper_layers.specs.Layers.{layer_names};
-ghost use Rattle.cond_lang.specs.Trees.{tree_of};
+ghost use Rattle.cond_lang.specs.Trees.{cond_tree_of};
 ghost use Rattle.rule_pick.specs.Meaning.{do_agree, compare_texts, compare_lengths, compare_values, compares, some_layer, exists_on_layer, some_name, answer, answers, holds};
 ghost use Rattle.rule_pick.specs.Shown.{shown};
 
@@ -119,7 +119,7 @@ fn answers(side: Side, func: Func, pattern: &[u8], a: &Facts, b: Option<&Facts>)
 /// ASCII case plays no part where texts are compared, and `*` and `?` are wildcards in a literal on the right and in the
 /// text of a function.
 pub fn holds(cond: &Cond, a: &Facts, b: Option<&Facts>) -> bool
-    ensures { result ≡ holds (tree_of cond.now) a.now (option_copied b.entry) }
+    ensures { result ≡ holds (cond_tree_of cond.now) a.now (option_copied b.entry) }
 {
     match cond {
         Cond::Any(parts) => {

@@ -14,7 +14,7 @@ use Rattle.list_read.specs.Texts.{Behind}
 use Rattle.rule_text.specs.Forms.{name_at, clauses}
 use Rattle.rule_text.specs.RulesOf.{PlainRules, is_asked, is_version, no_rules, rules_of, file_of, rule_in, all_rules}
 use Rattle.rule_text.specs.Walk.{PlainDraft, rule_by, blank, with_clauses, with_rule, with_rules}
-use Rattle.rule_text.specs.RuleText.{Says}
+use Rattle.rule_text.specs.RuleText.{RulesSays}
 use Rattle.rule_text.specs.ListText.{no_form, nothing_more, list_among, list_of, moved, Here, SaysList}
 use Rattle.rule_text.proofs.InOrder.{rules_in_order}
 use Rattle.rule_text.proofs.Shortness.{forms_few, forms_short, behind_head_few}
@@ -107,7 +107,7 @@ module _ (in_order : (text : List ℕ) (t : Tree) → SpellsAll text t → Parts
       let many = of_forms _ (parts says.0) rules (sym says.2) in
       omega (arith, few, many)
 
-  pub few_in_file : (text : List ℕ) (rules : PlainRules) → length text ≤ 33554432 → Says text (Ok rules) → length rules.rules ≤ 33554432
+  pub few_in_file : (text : List ℕ) (rules : PlainRules) → length text ≤ 33554432 → RulesSays text (Ok rules) → length rules.rules ≤ 33554432
   few_in_file text rules short says = file_after text (refusal_of_all text) rules short says
 
   list_after : (text : List ℕ) (e : Option TextError) (rules : PlainRules) → length text ≤ 33554432 → Behind Text (SpellsAll text) (λ tree told. told ≡ list_of (length text) tree) e (Ok rules) → length rules.rules ≤ 33554432

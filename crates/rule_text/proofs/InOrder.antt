@@ -9,7 +9,7 @@ use Rattle.cond_lang.specs.declared.kind.Family.TheVariants.{Meets, Keeps, Limit
 use Rattle.cond_lang.specs.declared.rule.RuleLayer.{RuleLayer}
 use Rattle.cond_lang.specs.declared.rule.Severity.{Severity}
 use Rattle.cond_lang.specs.declared.rule.Disallow.{Disallow}
-use Rattle.cond_lang.specs.Trees.{Tree as CondTree}
+use Rattle.cond_lang.specs.Trees.{CondTree}
 use Rattle.cond_lang.specs.Kinds.{family, kind_number, is_assertion}
 use Rattle.cond_lang.specs.Rules.{PlainRule, PlainConstraint}
 use Rattle.rule_text.specs.declared.error.RuleError.{RuleError}

@@ -11,7 +11,7 @@ use Rattle.cond_lang.specs.Kinds.{family, is_assertion}
 use Rattle.cond_lang.specs.declared.rule.Disallow.{Disallow}
 use Rattle.cond_lang.specs.Found.{Found, read, fault}
 use Rattle.cond_lang.specs.Conditions.{reading}
-use Rattle.cond_lang.specs.Trees.{Tree as CondTree}
+use Rattle.cond_lang.specs.Trees.{CondTree}
 use Rattle.rule_text.specs.declared.error.RuleError.{RuleError}
 use Rattle.rule_text.specs.declared.error.RuleError.TheVariants.{Version, Bad, BadNumber}
 use Rattle.list_read.specs.Answers.{◌>>=◌, needed, check}

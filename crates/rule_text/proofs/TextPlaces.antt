@@ -3,8 +3,8 @@ use Rattle.std.proofs.Common.{◌≡◌, ◌≤◌, ◌==◌, ℕ, zero, suc, Bo
 use Rattle.std.specs.Prelude.{Option, None, Some, if◌then◌else◌}
 use Rattle.std.specs.Str.{is_utf8}
 use Rattle.std.proofs.lemmas.Str.{utf8_valid_len_le}
-use Rattle.sexpr_read.specs.declared.bytes.Class.{Class}
-use Rattle.sexpr_read.specs.declared.bytes.Class.TheVariants.{Space, Open, Close, Quote, Backslash, Plain}
+use Rattle.sexpr_read.specs.declared.bytes.ByteClass.{ByteClass}
+use Rattle.sexpr_read.specs.declared.bytes.ByteClass.TheVariants.{Space, Open, Close, Quote, Backslash, Plain}
 use Rattle.sexpr_read.specs.declared.place.TextError.{TextError}
 use Rattle.sexpr_read.specs.declared.place.TextError.TheVariants.{TooDeep}
 use Rattle.sexpr_read.specs.Comments.{shown}
@@ -23,7 +23,7 @@ near_else : (x y : Option TextError) → NearIfSome x → NearIfSome y → NearI
 near_else None y h k = k
 near_else (Some e) y h k = h
 
-near_outer : (blank : Bool) (p : ℕ) (c : Class) → p ≤ 33554432 → NearIfSome (outer_fault false blank p c)
+near_outer : (blank : Bool) (p : ℕ) (c : ByteClass) → p ≤ 33554432 → NearIfSome (outer_fault false blank p c)
 near_outer blank p Close h = h
 near_outer blank p Space h = tt
 near_outer blank p Open h = tt
@@ -31,7 +31,7 @@ near_outer blank p Quote h = tt
 near_outer blank p Backslash h = tt
 near_outer blank p Plain h = tt
 
-near_inner : (depth p : ℕ) (c : Class) → p ≤ 33554432 → NearIfSome (inner_fault depth p c)
+near_inner : (depth p : ℕ) (c : ByteClass) → p ≤ 33554432 → NearIfSome (inner_fault depth p c)
 near_inner depth p Open h = near_if (depth == 64) (Some (TooDeep p)) None h tt
 near_inner depth p Close h = tt
 near_inner depth p Space h = tt
@@ -39,13 +39,13 @@ near_inner depth p Quote h = tt
 near_inner depth p Backslash h = tt
 near_inner depth p Plain h = tt
 
-near_in : (blank : Bool) (p : ℕ) (c : Class) (w : Where) → p ≤ 33554432 → NearIfSome (fault_in false blank p c w)
+near_in : (blank : Bool) (p : ℕ) (c : ByteClass) (w : Where) → p ≤ 33554432 → NearIfSome (fault_in false blank p c w)
 near_in blank p c (outside zero) h = near_outer blank p c h
 near_in blank p c (outside (suc depth)) h = near_inner (suc depth) p c h
 near_in blank p c (in_string depth) h = tt
 near_in blank p c (after_backslash depth) h = tt
 
-near_first : (sign : ℕ → Class) (n : ℕ) → n ≤ 33554432 → NearIfSome (first_fault false sign n)
+near_first : (sign : ℕ → ByteClass) (n : ℕ) → n ≤ 33554432 → NearIfSome (first_fault false sign n)
 unfolding first_fault
 near_first sign zero h = tt
 near_first sign (suc p) h =

@@ -9,7 +9,7 @@ use Rattle.cond_lang.specs.declared.kind.Kind.TheVariants.{Clearance, HoleCleara
 use Rattle.cond_lang.specs.declared.rule.Disallow.{Disallow}
 use Rattle.cond_lang.specs.Found.{Found, read, fault}
 pub use Rattle.cond_lang.specs.Rules.{no_bans as bans_nothing}
-use Rattle.cond_lang.specs.Trees.{Tree as CondTree}
+use Rattle.cond_lang.specs.Trees.{CondTree}
 use Rattle.cond_lang.specs.Conditions.{reading}
 use Rattle.rule_text.specs.declared.error.RuleError.{RuleError}
 use Rattle.rule_text.specs.declared.error.RuleError.TheVariants.{Cond, BadNumber}

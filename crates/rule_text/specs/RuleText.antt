@@ -6,5 +6,5 @@ use Rattle.rule_text.specs.declared.error.RuleError.TheVariants.{Text}
 use Rattle.rule_text.specs.RulesOf.{PlainRules, file_of}
 
 -- the text says this: rules, or a refusal
-abbrev pub Says : List ℕ → Result PlainRules RuleError → Type 0
-Says text answer = OfForms Text (λ tree told. told ≡ file_of (length text) tree) text answer
+abbrev pub RulesSays : List ℕ → Result PlainRules RuleError → Type 0
+RulesSays text answer = OfForms Text (λ tree told. told ≡ file_of (length text) tree) text answer

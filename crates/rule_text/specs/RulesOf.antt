@@ -13,7 +13,7 @@ use Rattle.cond_lang.specs.declared.rule.Severity.{Severity}
 use Rattle.cond_lang.specs.declared.rule.Severity.TheVariants.{Error, Warning, Ignore, Exclusion}
 use Rattle.cond_lang.specs.Kinds.{family, kind_number, is_assertion}
 use Rattle.cond_lang.specs.Rules.{PlainRule, PlainConstraint}
-use Rattle.cond_lang.specs.Trees.{Tree as CondTree}
+use Rattle.cond_lang.specs.Trees.{CondTree}
 use Rattle.rule_text.specs.declared.error.RuleError.{RuleError}
 use Rattle.rule_text.specs.declared.error.RuleError.TheVariants.{Version, Bad}
 use Rattle.list_read.specs.Answers.{◌>>=◌, needed, check, each_of}

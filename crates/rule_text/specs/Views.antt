@@ -3,7 +3,7 @@ use Rattle.std.specs.Prelude.{ℤ, map, Option, Some, None, Result, Ok, Err}
 use Rattle.std.specs.Option.{option_map}
 use Rattle.list_read.specs.Nodes.{GivesUnless}
 use Rattle.cond_lang.specs.Rules.{plain_rule, plain_constraint}
-use Rattle.cond_lang.specs.Trees.{tree_of as cond_tree_of}
+use Rattle.cond_lang.specs.Trees.{cond_tree_of}
 use Rattle.rule_text.specs.declared.error.RuleError.{RuleError}
 use Rattle.rule_text.specs.declared.error.RuleError.TheVariants.{OutOfMemory}
 use Rattle.rule_text.specs.declared.limits.Length.{Length}

@@ -10,7 +10,7 @@ use Rattle.cond_lang.specs.declared.rule.Severity.{Severity}
 use Rattle.cond_lang.specs.declared.rule.Severity.TheVariants.{Error}
 use Rattle.cond_lang.specs.Kinds.{kind_number}
 use Rattle.cond_lang.specs.Rules.{PlainRule, PlainConstraint}
-use Rattle.cond_lang.specs.Trees.{Tree as CondTree}
+use Rattle.cond_lang.specs.Trees.{CondTree}
 use Rattle.rule_text.specs.declared.error.RuleError.{RuleError}
 use Rattle.rule_text.specs.declared.error.RuleError.TheVariants.{Bad}
 use Rattle.list_read.specs.Answers.{◌>>=◌, check}

@@ -3,7 +3,7 @@
 ghost use Rattle.std.specs.Prelude.{◌≡◌, ◌≤◌, length};
 ghost use Rattle.sexpr_read.specs.Views.{tree_of, trees_left};
 ghost use Rattle.cond_lang.specs.Conditions.{reading};
-ghost use Rattle.cond_lang.specs.Trees.{tree_of as cond_tree_of};
+ghost use Rattle.cond_lang.specs.Trees.{cond_tree_of};
 ghost use Rattle.rule_text.specs.Forms.{clauses};
 ghost use Rattle.rule_text.specs.Limits.{cond_from, cond_in};
 ghost use Rattle.rule_text.specs.RulesOf.{claim_among};

@@ -28,11 +28,11 @@ pub enum RuleError {
 impl RuleError {
     ghost use Rattle.std.specs.Prelude.{◌≡◌};
     ghost use Rattle.plain_types.specs.Reasons.{plain_reason};
-    ghost use Rattle.rule_text.specs.Reasons.{reason_in, name_of, code_of, place_of, inner_place_of};
+    ghost use Rattle.rule_text.specs.Reasons.{rules_reason_in, name_of, code_of, rules_place_of, rules_inner_place_of};
 
     /// Its name, its number and its place.
     pub fn reason(&self) -> Reason
-        ensures { plain_reason result ≡ reason_in self.now }
+        ensures { plain_reason result ≡ rules_reason_in self.now }
     {
         match self {
             RuleError::Text(error) => error.carried_reason(),
@@ -64,14 +64,14 @@ impl RuleError {
 
     /// Its byte of the text, for a condition where that begins. Want of memory has no place.
     pub fn place(&self) -> Option<u32>
-        ensures { result ≡ place_of self.now }
+        ensures { result ≡ rules_place_of self.now }
     {
         self.reason().place
     }
 
     /// The byte in what the text of a condition stands for. Others have none.
     pub fn inner_place(&self) -> Option<u32>
-        ensures { result ≡ inner_place_of self.now }
+        ensures { result ≡ rules_inner_place_of self.now }
     {
         match self {
             RuleError::Cond { inner, .. } => inner.place(),
@@ -108,9 +108,9 @@ impl<T: Drop> From<AllocFailed<T>> for RuleError {
 
 impl fmt::Display for RuleError {
     ghost use Rattle.std.specs.Prelude.{Some};
-    ghost use Rattle.rule_text.specs.Reasons.{reason_of};
+    ghost use Rattle.rule_text.specs.Reasons.{rules_reason_of};
 
-    ghost output = { λ e. Some (reason_of e) };
+    ghost output = { λ e. Some (rules_reason_of e) };
 
     fn fmt<W: fmt::Write>(&self, f: &mut fmt::Formatter<W>) -> fmt::Result {
         let name = self.name();

@@ -4,13 +4,13 @@ ghost use Rattle.std.specs.Prelude.{◌≡◌, ℕ, List, Result};
 ghost use Rattle.rule_text.specs.declared.error.RuleError.{RuleError};
 ghost use Rattle.rule_text.specs.RulesOf.{PlainRules};
 ghost use Rattle.rule_text.specs.ListText.{Here, SaysList};
-ghost use Rattle.rule_text.specs.RuleText.{Says};
+ghost use Rattle.rule_text.specs.RuleText.{RulesSays};
 
 use sexpr_read::laws::one_tree;
 
 /// No text says two things.
 pub fn one_reading()
-    ensures { (text : List ℕ) (a b : Result PlainRules RuleError) → Says text a → Says text b → a ≡ b }
+    ensures { (text : List ℕ) (a b : Result PlainRules RuleError) → RulesSays text a → RulesSays text b → a ≡ b }
 {
     one_tree();
 }

@@ -9,7 +9,7 @@ ghost use Rattle.rule_text.specs.declared.error.RuleError.{RuleError};
 ghost use Rattle.rule_text.specs.ListText.{Here, SaysList};
 ghost use Rattle.rule_text.specs.Near.{IsNear};
 ghost use Rattle.rule_text.specs.RulesOf.{PlainRules};
-ghost use Rattle.rule_text.specs.RuleText.{Says};
+ghost use Rattle.rule_text.specs.RuleText.{RulesSays};
 ghost use Rattle.rule_text.specs.Views.{plain_rules};
 
 mod bans;
@@ -43,8 +43,8 @@ use std::alloc::Global;
 #[tactic(auto, using(crate::proofs::Shortness::forms_short, crate::proofs::Shortness::forms_few), unfolding(crate::specs::RulesOf::file_of))]
 pub fn read_rules(alloc: Global, text: &[u8]) -> Result<Rules, RuleError>
     requires { length text.now ≤ 33_554_432 }
-    ensures says { MatchResult result (λ rules. Says text.now (Ok (plain_rules rules))) (λ e. (e ≡ RuleError.OutOfMemory) ⊎ Says text.now (Err e)) }
-    ensures only { (answer : Result PlainRules RuleError) → Says text.now answer → MatchResult result (λ rules. answer ≡ Ok (plain_rules rules)) (λ e. (e ≡ RuleError.OutOfMemory) ⊎ (answer ≡ Err e)) }
+    ensures says { MatchResult result (λ rules. RulesSays text.now (Ok (plain_rules rules))) (λ e. (e ≡ RuleError.OutOfMemory) ⊎ RulesSays text.now (Err e)) }
+    ensures only { (answer : Result PlainRules RuleError) → RulesSays text.now answer → MatchResult result (λ rules. answer ≡ Ok (plain_rules rules)) (λ e. (e ≡ RuleError.OutOfMemory) ⊎ (answer ≡ Err e)) }
 {
     one_reading();
     spans_in_order();

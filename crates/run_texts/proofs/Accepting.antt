@@ -8,7 +8,7 @@ use Rattle.net_class.specs.Classes.{plain_classes}
 use Rattle.rule_text.specs.RulesOf.{no_rules}
 use Rattle.edit_script.specs.Commands.{PlainCommand}
 use Rattle.drc_state.specs.States.{State}
-use Rattle.run_words.specs.Calls.{Source, file, made, Reading, Call, check}
+use Rattle.run_words.specs.Calls.{PlainSource, file, made, Reading, PlainCall, check}
 use Rattle.run_texts.specs.declared.texts.Which.{Which}
 use Rattle.run_texts.specs.declared.texts.Which.TheVariants.{Board, Project, Rules, Script}
 use Rattle.run_texts.specs.declared.texts.Stop.{Stop}
@@ -123,17 +123,17 @@ module _ (told : Option (List (List ℕ × List ℕ))) where
   rose_later m n k h (inl r) = inl (omega arith)
   rose_later m n k h (inr r) = inr r
 
-  risen_later : (before middle now : List ℕ → ℕ) (source : Source) → ((other : List ℕ) → before other ≤ middle other) → HasRisen middle now source → HasRisen before now source
+  risen_later : (before middle now : List ℕ → ℕ) (source : PlainSource) → ((other : List ℕ) → before other ≤ middle other) → HasRisen middle now source → HasRisen before now source
   risen_later before middle now (file name) up h = rose_later (before name) (middle name) (now name) (up name) h
   risen_later before middle now (made count) up h = h
 
   module _ (before now : List ℕ → ℕ) where
-    unread_at : (call : Call) (which : Which) (source : Source) → IsReached told (texts_of call) (record { which = which; source = source }) → HasRisen before now source → ReadFails call told before now which
+    unread_at : (call : PlainCall) (which : Which) (source : PlainSource) → IsReached told (texts_of call) (record { which = which; source = source }) → HasRisen before now source → ReadFails call told before now which
     unread_at call which (file name) turn rose = record { name = name; reached = turn; rose = rose }
     unread_at call which (made count) turn rose = absurd rose
 
     -- the text whose turn came is not accepted
-    pub stops_at : (call : Call) (text : Named) (stop : Stop) → IsReached told (texts_of call) text → StopsText told before now text stop → StopsTexts told call before now stop
+    pub stops_at : (call : PlainCall) (text : Named) (stop : Stop) → IsReached told (texts_of call) text → StopsText told before now text stop → StopsTexts told call before now stop
     stops_at call text (Refused r) turn s = (
       text.source,
       subst (λ (w : Which). IsReached told (texts_of call) (record { which = w; source = text.source })) (sym s.0) turn,
@@ -155,7 +155,7 @@ module _ (told : Option (List (List ℕ × List ℕ))) where
     later middle text OutOfMemory up s = tt
 
     -- the text of an option is not accepted, those before it are
-    option_stops : (call : Call) (which : Which) (option : Option (List ℕ)) (first last : List Named) (values : List Value) (middle : List ℕ → ℕ) (stop : Stop) → texts_of call ≡ first ++ (optional which option ++ last)
+    option_stops : (call : PlainCall) (which : Which) (option : Option (List ℕ)) (first last : List Named) (values : List Value) (middle : List ℕ → ℕ) (stop : Stop) → texts_of call ≡ first ++ (optional which option ++ last)
         → AreAccepted told first values → ((other : List ℕ) → before other ≤ middle other) → StopsOption told middle now which option stop → StopsTexts told call before now stop
     option_stops call which None first last values middle stop all are up s = subst (λ (x : Stop). StopsTexts told call before now x) (sym s) tt
     option_stops call which (Some name) first last values middle stop all are up s =
@@ -163,7 +163,7 @@ module _ (told : Option (List (List ℕ × List ℕ))) where
         stops_at call text stop (subst (λ (texts : List Named). IsReached told texts text) (sym all) (reached first last values text are)) (later middle text stop up s)
 
     -- so it is where more texts follow
-    pub first_stops : (call other : Call) (more : List Named) (stop : Stop) → texts_of other ≡ texts_of call ++ more → StopsTexts told call before now stop → StopsTexts told other before now stop
+    pub first_stops : (call other : PlainCall) (more : List Named) (stop : Stop) → texts_of other ≡ texts_of call ++ more → StopsTexts told call before now stop → StopsTexts told other before now stop
     first_stops call other more (Refused r) e s =
         (s.0, subst (λ (texts : List Named). IsReached told texts (record { which = r.which; source = s.0 })) (sym e) (more_reached (texts_of call) more (record { which = r.which; source = s.0 }) s.1), s.2)
     first_stops call other more (Unread which) e s = record {
@@ -174,7 +174,7 @@ module _ (told : Option (List (List ℕ × List ℕ))) where
     first_stops call other more OutOfMemory e s = tt
 
     -- a board is accepted, and the script behind it is not
-    pub second_stops : (which : Which) (board script : List ℕ) (value : Value) (call : Call) (middle : List ℕ → ℕ) (stop : Stop) → texts_of call ≡ board_and_script which board script
+    pub second_stops : (which : Which) (board script : List ℕ) (value : Value) (call : PlainCall) (middle : List ℕ → ℕ) (stop : Stop) → texts_of call ≡ board_and_script which board script
         → SourceSays told (named Board board) (accepted value) → ((other : List ℕ) → before other ≤ middle other) → StopsText told middle now (named which script) stop → StopsTexts told call before now stop
     second_stops which board script value call middle stop e says up s =
         let turn = reached (named Board board ∷ []) [] (value ∷ []) (named which script) (says, tt) in
@@ -207,5 +207,5 @@ module _ (told : Option (List (List ℕ × List ℕ))) where
             (ap (λ (l : List Named). record { which = Board; source = reading.board } ∷ l) all)
             (board, both_accepted projects lists (given reading.project (a_project opened.classes)) (given reading.rules (a_rules opened.rules)) one two) up s
 
-    pub unread_has_fault : (call : Call) (stop : Stop) (which : Which) → StopsTexts told call before now stop → stop ≡ Unread which → ReadFails call told before now which
+    pub unread_has_fault : (call : PlainCall) (stop : Stop) (which : Which) → StopsTexts told call before now stop → stop ≡ Unread which → ReadFails call told before now which
     unread_has_fault call stop which s e = subst (λ (x : Stop). StopsTexts told call before now x) e s

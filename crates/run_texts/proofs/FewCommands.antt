@@ -12,7 +12,7 @@ use Rattle.edit_script.specs.declared.error.ScriptError.TheVariants.{Text}
 use Rattle.edit_script.specs.Commands.{PlainCommand}
 use Rattle.edit_script.specs.CommandsOf.{commands_of}
 use Rattle.edit_script.specs.Grammar.{IsCommand}
-use Rattle.edit_script.specs.ScriptText.{Says}
+use Rattle.edit_script.specs.ScriptText.{ScriptSays}
 use Rattle.rule_text.proofs.Shortness.{forms_few}
 
 module _ (in_order : (text : List ℕ) (t : Tree) → SpellsAll text t → PartsStandBetween text 0 (length text) t)
@@ -25,5 +25,5 @@ module _ (in_order : (text : List ℕ) (t : Tree) → SpellsAll text t → Parts
       let same = AllZip-long (IsCommand text) (parts says.0) commands zip in
       omega (arith, few, same)
 
-  pub few_commands : (text : List ℕ) (commands : List PlainCommand) → length text ≤ 33554432 → Says text (Ok commands) → length commands ≤ 33554432
+  pub few_commands : (text : List ℕ) (commands : List PlainCommand) → length text ≤ 33554432 → ScriptSays text (Ok commands) → length commands ≤ 33554432
   few_commands text commands short says = after text (refusal_of_all text) commands short says

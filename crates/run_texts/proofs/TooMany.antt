@@ -6,8 +6,8 @@ use Rattle.edit_script.specs.declared.error.ScriptError.{ScriptError}
 use Rattle.edit_script.specs.declared.error.ScriptError.TheVariants.{OutOfMemory}
 use Rattle.edit_script.specs.declared.command.Command.{Command}
 use Rattle.edit_script.specs.Commands.{PlainCommand, plain_command, place_of}
-use Rattle.edit_script.specs.Reasons.{name_of, code_of, place_of as script_place_of}
-use Rattle.edit_script.specs.ScriptText.{Says as ScriptSays}
+use Rattle.edit_script.specs.Reasons.{name_of, code_of, script_place_of}
+use Rattle.edit_script.specs.ScriptText.{ScriptSays}
 use Rattle.run_texts.specs.declared.texts.Which.TheVariants.{Trials}
 use Rattle.run_texts.specs.Texts.{at_place, a_script, accepted, ReaderSays, RefusesTrials}
 use Rattle.run_texts.specs.Refusing.{reason, StopsReading, stop_of}

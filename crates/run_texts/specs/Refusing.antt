@@ -2,11 +2,11 @@
 use Rattle.std.specs.Prelude.{◌≡◌, ℕ, List, [], ◌∷◌, ◌++◌, codes, decimal, Option, None, Some}
 use Rattle.std.proofs.Common.{Bor}
 use Rattle.drc_io.specs.Causes.{Rose}
-use Rattle.drc_io.specs.Files.{IsWhole}
+use Rattle.drc_io.specs.Files.{IsWholeFile}
 use Rattle.net_class.specs.Classes.{plain_classes}
 use Rattle.rule_text.specs.RulesOf.{no_rules}
 use Rattle.drc_state.specs.States.{State}
-use Rattle.run_words.specs.Calls.{Source, file, made, Reading, Call}
+use Rattle.run_words.specs.Calls.{PlainSource, file, made, Reading, PlainCall}
 use Rattle.run_texts.specs.declared.texts.Which.{Which}
 use Rattle.run_texts.specs.declared.texts.Which.TheVariants.{Board, Project, Rules}
 use Rattle.run_texts.specs.declared.texts.Refusal.{Refusal}
@@ -40,7 +40,7 @@ StopsReading which bytes (Unread it) = ⊥
 StopsReading which bytes OutOfMemory = Unit {0}
 
 -- the count of a file rose. A generated board has no file
-abbrev pub HasRisen : (List ℕ → ℕ) → (List ℕ → ℕ) → Source → Type 0
+abbrev pub HasRisen : (List ℕ → ℕ) → (List ℕ → ℕ) → PlainSource → Type 0
 HasRisen before now (file name) = Rose (before name) (now name)
 HasRisen before now (made count) = ⊥
 
@@ -63,7 +63,7 @@ StopsOption told before now which (Some name) stop = StopsText told before now (
 -- the bytes are those of the option's file; where the option is not given, they are any
 abbrev pub AreBytesOfOption : Option (List (List ℕ × List ℕ)) → Option (List ℕ) → List ℕ → Type 0
 AreBytesOfOption told None bytes = Unit {0}
-AreBytesOfOption told (Some name) bytes = IsWhole told name bytes
+AreBytesOfOption told (Some name) bytes = IsWholeFile told name bytes
 
 -- the reader of the option's text refuses its bytes so
 abbrev pub StopsReadingOption : Which → Option (List ℕ) → List ℕ → Stop → Type 0
@@ -83,9 +83,9 @@ GivesReading which (Some name) bytes plain value = ReaderSays which bytes (accep
 -- ---- all texts
 
 -- one of the texts is not accepted, those before it are
-abbrev pub StopsTexts : Option (List (List ℕ × List ℕ)) → Call → (List ℕ → ℕ) → (List ℕ → ℕ) → Stop → Type 0
+abbrev pub StopsTexts : Option (List (List ℕ × List ℕ)) → PlainCall → (List ℕ → ℕ) → (List ℕ → ℕ) → Stop → Type 0
 StopsTexts told call before now (Refused r) =
-    (source : Source) × IsReached told (texts_of call) (record { which = r.which; source = source }) × SourceSays told (record { which = r.which; source = source }) (refused (why_of r))
+    (source : PlainSource) × IsReached told (texts_of call) (record { which = r.which; source = source }) × SourceSays told (record { which = r.which; source = source }) (refused (why_of r))
 StopsTexts told call before now (Unread which) = ReadFails call told before now which
 StopsTexts told call before now OutOfMemory = Unit {0}
 

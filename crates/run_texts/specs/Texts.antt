@@ -2,32 +2,32 @@
 -- here.
 use Rattle.std.specs.Prelude.{◌≡◌, ◌⊎◌, ℕ, ◌<◌, ◌≤◌, List, [], ◌∷◌, ◌++◌, length, codes, decimal, Option, None, Some, Ok, Err, slice_get}
 use Rattle.drc_io.specs.Causes.{Rose}
-use Rattle.drc_io.specs.Files.{IsWhole}
+use Rattle.drc_io.specs.Files.{IsWholeFile}
 use Rattle.board_errors.specs.declared.errors.BoardError.{BoardError}
 use Rattle.board_errors.specs.Reasons.{board_reason_of, board_place_of}
 use Rattle.board_items.specs.Boards.{PlainBoard}
-use Rattle.pcb_read.specs.BoardText.{Says as BoardSays}
+use Rattle.pcb_read.specs.BoardText.{BoardSays}
 use Rattle.net_class.specs.declared.error.ProjectError.{ProjectError}
-use Rattle.net_class.specs.Reasons.{reason_of as project_reason_of, place_of as project_place_of}
+use Rattle.net_class.specs.Reasons.{project_reason_of, project_place_of}
 use Rattle.net_class.specs.Classes.{PlainClasses}
-use Rattle.net_class.specs.ProjectText.{Says as ProjectSays}
+use Rattle.net_class.specs.ProjectText.{ProjectSays}
 use Rattle.rule_text.specs.declared.error.RuleError.{RuleError}
-use Rattle.rule_text.specs.Reasons.{reason_of as rules_reason_of, place_of as rules_place_of, inner_place_of as rules_inner_place_of}
+use Rattle.rule_text.specs.Reasons.{rules_reason_of, rules_place_of, rules_inner_place_of}
 use Rattle.rule_text.specs.RulesOf.{PlainRules}
-use Rattle.rule_text.specs.RuleText.{Says as RulesSays}
+use Rattle.rule_text.specs.RuleText.{RulesSays}
 use Rattle.edit_script.specs.declared.error.ScriptError.{ScriptError}
-use Rattle.edit_script.specs.Reasons.{reason_of as script_reason_of, place_of as script_place_of}
+use Rattle.edit_script.specs.Reasons.{script_reason_of, script_place_of}
 use Rattle.edit_script.specs.Commands.{PlainCommand, PlainStep, place_of}
-use Rattle.edit_script.specs.ScriptText.{Says as ScriptSays, SaysSteps}
+use Rattle.edit_script.specs.ScriptText.{ScriptSays, SaysSteps}
 use Rattle.made_board.specs.MadeBoard.{made_text}
-use Rattle.run_words.specs.Calls.{Source, file, made, Call, nothing, check, undo, try, steal, write}
+use Rattle.run_words.specs.Calls.{PlainSource, file, made, PlainCall, nothing, check, undo, try, steal, write}
 use Rattle.run_texts.specs.declared.texts.Which.{Which}
 use Rattle.run_texts.specs.declared.texts.Which.TheVariants.{Board, Project, Rules, Script, Steps, Trials, Text}
 
 -- a text that the words name: which one it is, and where it comes from
 pub record Named : Type 0 where
   pub which : Which
-  pub source : Source
+  pub source : PlainSource
 
 -- the text of a file
 abbrev pub named : Which → List ℕ → Named
@@ -39,7 +39,7 @@ optional which None = []
 optional which (Some name) = named which name ∷ []
 
 -- the texts of a call, in their order
-abbrev pub texts_of : Call → List Named
+abbrev pub texts_of : PlainCall → List Named
 texts_of (nothing usage) = []
 texts_of (check r) = record { which = Board; source = r.board } ∷ (optional Project r.project ++ (optional Rules r.rules ++ optional Script r.script))
 texts_of (undo board script) = named Board board ∷ named Steps script ∷ []
@@ -81,7 +81,7 @@ abbrev pub at_place : List ℕ → ℕ → Option ℕ → List ℕ
 at_place reason at inner = reason ++ codes " at " ++ decimal at ++ inner_text inner
 
 -- a refusal that has a place, as it is written. Want of memory has none: no text is refused for it
-pub record IsWritten (reason : List ℕ) (place inner : Option ℕ) (text : List ℕ) : Type 0 where
+pub record IsRefusalText (reason : List ℕ) (place inner : Option ℕ) (text : List ℕ) : Type 0 where
   pub at : ℕ
   pub has_place : place ≡ Some at
   pub text_is : text ≡ at_place reason at inner
@@ -98,7 +98,7 @@ pub record HasTooMany (commands : List PlainCommand) (why : List ℕ) : Type 0 w
 
 -- the reader of scripts refuses the bytes so
 abbrev pub RefusesScript : List ℕ → List ℕ → Type 0
-RefusesScript bytes why = (e : ScriptError) × ScriptSays bytes (Err e) × IsWritten (script_reason_of e) (script_place_of e) None why
+RefusesScript bytes why = (e : ScriptError) × ScriptSays bytes (Err e) × IsRefusalText (script_reason_of e) (script_place_of e) None why
 
 -- the script has too many commands to be tried
 abbrev pub RefusesTrials : List ℕ → List ℕ → Type 0
@@ -108,27 +108,27 @@ RefusesTrials bytes why = (commands : List PlainCommand) × ScriptSays bytes (Ok
 abbrev pub ReaderSays : Which → List ℕ → Said → Type 0
 ReaderSays Board bytes (accepted (a_board board)) = BoardSays bytes (Ok board)
 ReaderSays Board bytes (accepted _) = ⊥
-ReaderSays Board bytes (refused why) = (e : BoardError) × BoardSays bytes (Err e) × IsWritten (board_reason_of e) (board_place_of e) None why
+ReaderSays Board bytes (refused why) = (e : BoardError) × BoardSays bytes (Err e) × IsRefusalText (board_reason_of e) (board_place_of e) None why
 ReaderSays Project bytes (accepted (a_project classes)) = ProjectSays bytes (Ok classes)
 ReaderSays Project bytes (accepted _) = ⊥
-ReaderSays Project bytes (refused why) = (e : ProjectError) × ProjectSays bytes (Err e) × IsWritten (project_reason_of e) (project_place_of e) None why
+ReaderSays Project bytes (refused why) = (e : ProjectError) × ProjectSays bytes (Err e) × IsRefusalText (project_reason_of e) (project_place_of e) None why
 ReaderSays Rules bytes (accepted (a_rules rules)) = RulesSays bytes (Ok rules)
 ReaderSays Rules bytes (accepted _) = ⊥
 ReaderSays Rules bytes (refused why) =
-    (e : RuleError) × RulesSays bytes (Err e) × IsWritten (rules_reason_of e) (rules_place_of e) (rules_inner_place_of e) why
+    (e : RuleError) × RulesSays bytes (Err e) × IsRefusalText (rules_reason_of e) (rules_place_of e) (rules_inner_place_of e) why
 ReaderSays Script bytes (accepted (a_script commands)) = ScriptSays bytes (Ok commands)
 ReaderSays Script bytes (accepted _) = ⊥
 ReaderSays Script bytes (refused why) = RefusesScript bytes why
 ReaderSays Steps bytes (accepted (some_steps steps)) = SaysSteps bytes (Ok steps)
 ReaderSays Steps bytes (accepted _) = ⊥
-ReaderSays Steps bytes (refused why) = (e : ScriptError) × SaysSteps bytes (Err e) × IsWritten (script_reason_of e) (script_place_of e) None why
+ReaderSays Steps bytes (refused why) = (e : ScriptError) × SaysSteps bytes (Err e) × IsRefusalText (script_reason_of e) (script_place_of e) None why
 ReaderSays Trials bytes (accepted (a_script commands)) = ScriptSays bytes (Ok commands) × (length commands ≤ most_trials)
 ReaderSays Trials bytes (accepted _) = ⊥
 ReaderSays Trials bytes (refused why) = RefusesScript bytes why ⊎ RefusesTrials bytes why
 -- a text that stands for its bytes, where a board is read of them; it is refused as a board is
 ReaderSays Text bytes (accepted (a_text text)) = (text ≡ bytes) × ((board : PlainBoard) × BoardSays bytes (Ok board))
 ReaderSays Text bytes (accepted _) = ⊥
-ReaderSays Text bytes (refused why) = (e : BoardError) × BoardSays bytes (Err e) × IsWritten (board_reason_of e) (board_place_of e) None why
+ReaderSays Text bytes (refused why) = (e : BoardError) × BoardSays bytes (Err e) × IsRefusalText (board_reason_of e) (board_place_of e) None why
 
 -- the most bytes of a text
 abbrev pub limit : ℕ
@@ -143,8 +143,8 @@ pub data TextSays (which : Which) (bytes : List ℕ) (said : Said) : Type 0 wher
   read : length bytes ≤ limit → ReaderSays which bytes said → TextSays which bytes said
 
 -- the bytes of a text: what the shelf tells of its file, or else any; or those of the generated board
-abbrev pub AreBytesOf : Option (List (List ℕ × List ℕ)) → Source → List ℕ → Type 0
-AreBytesOf told (file name) bytes = IsWhole told name bytes
+abbrev pub AreBytesOf : Option (List (List ℕ × List ℕ)) → PlainSource → List ℕ → Type 0
+AreBytesOf told (file name) bytes = IsWholeFile told name bytes
 AreBytesOf told (made count) bytes = bytes ≡ made_text count
 
 -- a text, wherever it comes from, says this
@@ -173,7 +173,7 @@ pub record IsReached (told : Option (List (List ℕ × List ℕ))) (texts : List
 -- ---- faults
 
 -- a text was not read: its turn came, and the count of faults of its file rose
-pub record ReadFails (call : Call) (told : Option (List (List ℕ × List ℕ))) (before now : List ℕ → ℕ) (which : Which) : Type 0 where
+pub record ReadFails (call : PlainCall) (told : Option (List (List ℕ × List ℕ))) (before now : List ℕ → ℕ) (which : Which) : Type 0 where
   pub name : List ℕ
   pub reached : IsReached told (texts_of call) (named which name)
   pub rose : Rose (before name) (now name)

@@ -1,15 +1,15 @@
 //! The texts that the words name: they are fetched and read in their order, each before the next.
 
 ghost use Rattle.std.specs.Prelude.{◌≡◌, ◌≤◌, ℕ, List, [], Option, Some, IfOk, IfErr, MatchResult, MatchOption, Ok, Err, length, map, All, option_map, slice_get};
-ghost use Rattle.drc_io.specs.Files.{IsWhole};
+ghost use Rattle.drc_io.specs.Files.{IsWholeFile};
 ghost use Rattle.net_class.specs.Classes.{plain_classes};
 ghost use Rattle.rule_text.specs.RulesOf.{no_rules};
 ghost use Rattle.rule_text.specs.Views.{plain_rules};
 ghost use Rattle.edit_script.specs.Commands.{PlainCommand, place_of, plain_command, plain_step};
-ghost use Rattle.edit_script.specs.Fits.{Fits as CommandFits, StepFits};
+ghost use Rattle.edit_script.specs.Fits.{Fits, StepFits};
 ghost use Rattle.made_board.specs.MadeBoard.{made_text};
-ghost use Rattle.run_words.specs.Calls.{Call, check};
-ghost use Rattle.run_words.specs.Views.{source_in, reading_in, SourceFits, Fits};
+ghost use Rattle.run_words.specs.Calls.{PlainCall, check};
+ghost use Rattle.run_words.specs.Views.{source_in, reading_in, SourceFits, RequestFits};
 ghost use Rattle.run_texts.specs.Views.{opened_in};
 ghost use Rattle.run_texts.specs.Texts.{named, word_of, texts_of, a_board, a_project, a_rules, a_script, some_steps, accepted, ReaderSays, AreBytesOf, SourceSays};
 ghost use Rattle.run_texts.specs.Refusing.{StopsReading, StopsText, StopsTexts, StopsOption, StopsReadingOption, AreBytesOfOption, Gives, GivesReading, AreOpened, stop_of, only_board, board_and_script};
@@ -22,7 +22,7 @@ use made_board::made_text;
 use net_class::{Classes, read_project};
 use pcb_read::read_board;
 use rule_text::{RuleList, RuleNotes, Rules, read_rules};
-use run_words::{Request, Scripted, Source};
+use run_words::{BoardSource, Request, Scripted};
 use sexpr_read::laws::spans_in_order;
 use std::alloc::Global;
 
@@ -124,7 +124,7 @@ pub fn fetch_text<F: Shelf>(
     name: &str,
     shelf: &mut F,
 ) -> Result<Vec<u8>, Stop>
-    ensures whole { IfOk result (λ text. IsWhole (F.files shelf.old) name.now text.items) }
+    ensures whole { IfOk result (λ text. IsWholeFile (F.files shelf.old) name.now text.items) }
     ensures short { IfOk result (λ text. length text.items ≤ 33_554_432) }
     ensures stop { IfErr result (StopsText (F.files shelf.old) (F.faults shelf.old) (F.faults shelf.new) (named which name.now)) }
     ensures same { F.files shelf.new ≡ F.files shelf.old }
@@ -152,7 +152,11 @@ fn generated_text(alloc: Global, count: u32) -> Result<Vec<u8>, Stop>
 }
 
 /// The text of the board, which is fetched or generated.
-fn board_text<F: Shelf>(alloc: Global, source: Source<'_>, shelf: &mut F) -> Result<Vec<u8>, Stop>
+fn board_text<F: Shelf>(
+    alloc: Global,
+    source: BoardSource<'_>,
+    shelf: &mut F,
+) -> Result<Vec<u8>, Stop>
     requires { SourceFits source }
     ensures whole { IfOk result (λ text. AreBytesOf (F.files shelf.old) (source_in source.entry) text.items) }
     ensures short { IfOk result (λ text. length text.items ≤ 33_554_432) }
@@ -161,8 +165,8 @@ fn board_text<F: Shelf>(alloc: Global, source: Source<'_>, shelf: &mut F) -> Res
     ensures counts { (other : List ℕ) → F.faults shelf.old other ≤ F.faults shelf.new other }
 {
     match source {
-        Source::File(name) => fetch_text(alloc, Which::Board, name, shelf),
-        Source::Made(count) => generated_text(alloc, count),
+        BoardSource::File(name) => fetch_text(alloc, Which::Board, name, shelf),
+        BoardSource::Made(count) => generated_text(alloc, count),
     }
 }
 
@@ -206,7 +210,7 @@ fn rules_in(alloc: Global, text: &[u8]) -> Result<Rules, Stop>
 pub fn script_in<'t>(alloc: Global, text: &'t [u8]) -> Result<Vec<Command<'t>>, Stop>
     requires { length text.now ≤ 33_554_432 }
     ensures says { MatchResult result (λ commands. ReaderSays Which.Script text.entry.now (accepted (a_script (map plain_command commands.items)))) (StopsReading Which.Script text.entry.now) }
-    ensures fit { IfOk result (λ commands. All CommandFits (map plain_command commands.items)) }
+    ensures fit { IfOk result (λ commands. All Fits (map plain_command commands.items)) }
     ensures few { IfOk result (λ commands. length commands.items ≤ 33_554_432) }
 {
     // A script has no more commands than bytes.
@@ -244,7 +248,7 @@ fn first_too_many(commands: &[Command<'_>]) -> Option<u32>
 pub fn trials_in<'t>(alloc: Global, text: &'t [u8]) -> Result<Vec<Command<'t>>, Stop>
     requires { length text.now ≤ 33_554_432 }
     ensures says { MatchResult result (λ commands. ReaderSays Which.Trials text.entry.now (accepted (a_script (map plain_command commands.items)))) (StopsReading Which.Trials text.entry.now) }
-    ensures fit { IfOk result (λ commands. All CommandFits (map plain_command commands.items)) }
+    ensures fit { IfOk result (λ commands. All Fits (map plain_command commands.items)) }
     ensures few { IfOk result (λ commands. length commands.items ≤ 15_625) }
 {
     let commands = match read_script(alloc, text) {
@@ -258,7 +262,7 @@ pub fn trials_in<'t>(alloc: Global, text: &'t [u8]) -> Result<Vec<Command<'t>>, 
 }
 
 /// Fetches or makes the board's text and reads it.
-fn board_of<F: Shelf>(alloc: Global, source: Source<'_>, shelf: &mut F) -> Result<Board, Stop>
+fn board_of<F: Shelf>(alloc: Global, source: BoardSource<'_>, shelf: &mut F) -> Result<Board, Stop>
     requires { SourceFits source }
     ensures ok { IfOk result (λ board. SourceSays (F.files shelf.old) (record { which = Which.Board; source = source_in source.entry }) (accepted (a_board board))) }
     ensures stop { IfErr result (StopsText (F.files shelf.old) (F.faults shelf.old) (F.faults shelf.new) (record { which = Which.Board; source = source_in source.entry })) }
@@ -341,7 +345,7 @@ fn rules_of<F: Shelf>(alloc: Global, name: Option<&str>, shelf: &mut F) -> Resul
 
 /// Fetches and reads the texts but for the script, each where those before it are accepted.
 pub fn texts_of<F: Shelf>(alloc: Global, request: Request<'_>, shelf: &mut F) -> Result<Texts, Stop>
-    requires { Fits request }
+    requires { RequestFits request }
     ensures ok { IfOk result (λ texts. AreOpened (F.files shelf.old) (reading_in request.entry) (opened_in texts)) }
     ensures few { IfOk result (λ texts. length texts.rules.rules ≤ 33_554_432) }
     ensures stop { IfErr result (StopsTexts (F.files shelf.old) (check (reading_in request.entry)) (F.faults shelf.old) (F.faults shelf.new)) }
@@ -393,7 +397,7 @@ pub fn commands_of<'t>(
     requires { length text.now ≤ 33_554_432 }
     ensures says { IfOk result (λ commands. GivesReading Which.Script (option_map (λ file. file.now) name.entry) text.entry.now (a_script []) (a_script (map plain_command commands.items))) }
     ensures stop { IfErr result (StopsReadingOption Which.Script (option_map (λ file. file.now) name.entry) text.entry.now) }
-    ensures fit { IfOk result (λ commands. All CommandFits (map plain_command commands.items)) }
+    ensures fit { IfOk result (λ commands. All Fits (map plain_command commands.items)) }
 {
     match name {
         Some(_) => script_in(alloc, text),
@@ -404,10 +408,10 @@ pub fn commands_of<'t>(
 /// A board alone, under the plain classes and no rules, as one worker checks it.
 pub fn board_alone(name: &str) -> Request<'_>
     ensures reading { reading_in result ≡ only_board name.entry.now }
-    ensures fits { Fits result }
+    ensures fits { RequestFits result }
 {
     Request {
-        board: Source::File(name),
+        board: BoardSource::File(name),
         project: None,
         rules: None,
         script: None,
@@ -424,9 +428,9 @@ pub fn scripted_texts<F: Shelf>(
 ) -> Result<(Texts, Vec<u8>), Stop>
     ensures ok { IfOk result (λ r. AreOpened (F.files shelf.old) (only_board files.entry.board.now) (opened_in r.0)) }
     ensures few { IfOk result (λ r. length r.0.rules.rules ≤ 33_554_432) }
-    ensures whole { IfOk result (λ r. IsWhole (F.files shelf.old) files.entry.script.now r.1.items) }
+    ensures whole { IfOk result (λ r. IsWholeFile (F.files shelf.old) files.entry.script.now r.1.items) }
     ensures short { IfOk result (λ r. length r.1.items ≤ 33_554_432) }
-    ensures stop { IfErr result (λ stop. (call : Call) → texts_of call ≡ board_and_script which files.entry.board.now files.entry.script.now → StopsTexts (F.files shelf.old) call (F.faults shelf.old) (F.faults shelf.new) stop) }
+    ensures stop { IfErr result (λ stop. (call : PlainCall) → texts_of call ≡ board_and_script which files.entry.board.now files.entry.script.now → StopsTexts (F.files shelf.old) call (F.faults shelf.old) (F.faults shelf.new) stop) }
     ensures same { F.files shelf.new ≡ F.files shelf.old }
     ensures counts { (other : List ℕ) → F.faults shelf.old other ≤ F.faults shelf.new other }
 {

@@ -34,13 +34,13 @@ drc_app = with_rule (with_rule app_with_files (option_rule (codes "workers"))) (
 -- ---- the reading
 
 -- where a board comes from: a file, or the generated board of so many
-pub data Source : Type 0 where
-  file : List ℕ → Source
-  made : ℕ → Source
+pub data PlainSource : Type 0 where
+  file : List ℕ → PlainSource
+  made : ℕ → PlainSource
 
 -- what is checked, and by how many workers
 pub record Reading : Type 0 where
-  pub board : Source
+  pub board : PlainSource
   pub project : Option (List ℕ)
   pub rules : Option (List ℕ)
   pub script : Option (List ℕ)
@@ -60,13 +60,13 @@ workers_of None = Some 1
 workers_of (Some text) = number_in 1 64 text
 
 -- exactly one of a file and a generated board
-abbrev pub source_of : Option (List ℕ) → Option (List ℕ) → Option Source
+abbrev pub source_of : Option (List ℕ) → Option (List ℕ) → Option PlainSource
 source_of (Some name) None = Some (file name)
 source_of None (Some text) = option_map made (number_in 1 90000 text)
 source_of (Some name) (Some text) = None
 source_of None None = None
 
-abbrev pub reading_with : Option Source → Option ℕ → (project rules script : Option (List ℕ)) → Option Reading
+abbrev pub reading_with : Option PlainSource → Option ℕ → (project rules script : Option (List ℕ)) → Option Reading
 reading_with (Some board) (Some workers) project rules script = Some (record { board = board; project = project; rules = rules; script = script; workers = workers })
 reading_with (Some board) None project rules script = None
 reading_with None workers project rules script = None
@@ -90,23 +90,23 @@ reading_of words = reading_if (fault_of drc_app words) (matches_of drc_app words
 -- what is asked for: nothing, and then this line says how the program is called; a check; that the steps of a script are gone through,
 -- which undo and redo commands; that each command of a script is tried alone, by so many workers; the rows alone, of which the tiles are
 -- dealt by stealing; or the text of a board after the commands of a script
-pub data Call : Type 0 where
-  nothing : (usage : List ℕ) → Call
-  check : Reading → Call
-  undo : (board script : List ℕ) → Call
-  try : (board script : List ℕ) → (workers : ℕ) → Call
-  steal : (board : List ℕ) (workers : ℕ) → Call
-  write : (board script : List ℕ) → Call
+pub data PlainCall : Type 0 where
+  nothing : (usage : List ℕ) → PlainCall
+  check : Reading → PlainCall
+  undo : (board script : List ℕ) → PlainCall
+  try : (board script : List ℕ) → (workers : ℕ) → PlainCall
+  steal : (board : List ℕ) (workers : ℕ) → PlainCall
+  write : (board script : List ℕ) → PlainCall
 
 abbrev pub usage_line : List ℕ
 usage_line = codes "usage: drc [BOARD] [--project FILE] [--rules FILE] [--script FILE] [--workers N] [--make N]\n"
 
-abbrev pub check_if : Option Reading → Call
+abbrev pub check_if : Option Reading → PlainCall
 check_if None = nothing usage_line
 check_if (Some reading) = check reading
 
 -- a check, whatever the first word is
-abbrev pub check_call : List (List ℕ) → Call
+abbrev pub check_call : List (List ℕ) → PlainCall
 check_call words = check_if (reading_of words)
 
 -- a word that names a file does not begin with a dash
@@ -120,17 +120,17 @@ two_files (board ∷ script ∷ []) = if names_file board && names_file script t
 two_files words = None
 
 -- the words behind `undo`
-abbrev pub undo_if : Option (List ℕ × List ℕ) → Call
+abbrev pub undo_if : Option (List ℕ × List ℕ) → PlainCall
 undo_if None = nothing (codes "usage: drc undo BOARD SCRIPT\n")
 undo_if (Some files) = undo files.0 files.1
 
 -- the words behind `try`: the two files, and a number of workers
-abbrev pub try_if : Option (List ℕ × List ℕ) → Option ℕ → Call
+abbrev pub try_if : Option (List ℕ × List ℕ) → Option ℕ → PlainCall
 try_if (Some files) (Some workers) = try files.0 files.1 workers
 try_if (Some files) None = nothing (codes "usage: drc try BOARD SCRIPT N\n")
 try_if None workers = nothing (codes "usage: drc try BOARD SCRIPT N\n")
 
-abbrev pub try_call : List (List ℕ) → Call
+abbrev pub try_call : List (List ℕ) → PlainCall
 try_call (board ∷ script ∷ number ∷ []) = try_if (two_files (board ∷ script ∷ [])) (number_in 1 8 number)
 try_call words = nothing (codes "usage: drc try BOARD SCRIPT N\n")
 
@@ -144,17 +144,17 @@ file_and_number high (board ∷ number ∷ []) = file_with board (number_in 1 hi
 file_and_number high words = None
 
 -- the words behind `steal`
-abbrev pub steal_if : Option (List ℕ × ℕ) → Call
+abbrev pub steal_if : Option (List ℕ × ℕ) → PlainCall
 steal_if None = nothing (codes "usage: drc steal BOARD N\n")
 steal_if (Some found) = steal found.0 found.1
 
 -- the words behind `write`
-abbrev pub write_if : Option (List ℕ × List ℕ) → Call
+abbrev pub write_if : Option (List ℕ × List ℕ) → PlainCall
 write_if None = nothing (codes "usage: drc write BOARD SCRIPT\n")
 write_if (Some files) = write files.0 files.1
 
 -- by the first word, and the words behind it
-abbrev pub call_by : List ℕ → List (List ℕ) → Call
+abbrev pub call_by : List ℕ → List (List ℕ) → PlainCall
 call_by first words =
     if bytes_eq first (codes "undo") then undo_if (two_files words)
     else if bytes_eq first (codes "try") then try_call words
@@ -162,7 +162,7 @@ call_by first words =
     else if bytes_eq first (codes "write") then write_if (two_files words)
     else check_call (first ∷ words)
 
-abbrev pub call_of : List (List ℕ) → Call
+abbrev pub call_of : List (List ℕ) → PlainCall
 call_of [] = check_call []
 call_of (first ∷ words) = call_by first words
 

@@ -6,11 +6,11 @@ use Rattle.run_words.specs.declared.calls.Call.TheVariants.{Nothing, Check, Undo
 use Rattle.run_words.specs.declared.calls.Scripted.{Scripted}
 use Rattle.run_words.specs.declared.calls.Numbered.{Numbered}
 use Rattle.run_words.specs.declared.words.Request.{Request}
-use Rattle.run_words.specs.declared.words.Source.{Source}
-use Rattle.run_words.specs.declared.words.Source.TheVariants.{File, Made}
-use Rattle.run_words.specs.Calls.{Source as PlainSource, file, made, Reading, Call as PlainCall, nothing, check, undo, try, steal, write}
+use Rattle.run_words.specs.declared.words.BoardSource.{BoardSource}
+use Rattle.run_words.specs.declared.words.BoardSource.TheVariants.{File, Made}
+use Rattle.run_words.specs.Calls.{PlainSource, file, made, Reading, PlainCall, nothing, check, undo, try, steal, write}
 
-abbrev pub source_in : Source → PlainSource
+abbrev pub source_in : BoardSource → PlainSource
 source_in (File name) = file name.now
 source_in (Made count) = made count
 
@@ -24,12 +24,12 @@ reading_in request = record {
 }
 
 -- the number of a generated board is in its range
-abbrev pub SourceFits : Source → Type 0
+abbrev pub SourceFits : BoardSource → Type 0
 SourceFits (File name) = Unit {0}
 SourceFits (Made count) = (1 ≤ count) × (count ≤ 90000)
 
 -- and so is that of the workers
-pub record Fits (request : Request) : Type 0 where
+pub record RequestFits (request : Request) : Type 0 where
   pub source : SourceFits request.board
   pub workers : (1 ≤ request.workers) × (request.workers ≤ 64)
 
@@ -51,7 +51,7 @@ call_in (Write files) = write files.board.now files.script.now
 
 abbrev pub CallFits : Call → Type 0
 CallFits (Nothing usage) = Unit {0}
-CallFits (Check request) = Fits request
+CallFits (Check request) = RequestFits request
 CallFits (Undo files) = Unit {0}
 CallFits (Try files workers) = (1 ≤ workers) × (workers ≤ 8)
 CallFits (Steal found) = (1 ≤ found.number) × (found.number ≤ 64)

@@ -8,4 +8,4 @@ mod calls;
 mod words;
 
 pub use calls::{Call, Numbered, Scripted, call_of, check_call};
-pub use words::{Request, Source};
+pub use words::{BoardSource, Request};

@@ -3,7 +3,7 @@
 ghost use Rattle.std.specs.Prelude.{◌≡◌, ◌≤◌, false, Some, None, IfOk, IfSome, option_map, codes};
 ghost use Rattle.clap.specs.Words.{app_of, rule_of, first_value, found_of};
 ghost use Rattle.run_words.specs.Calls.{option_rule, bare_app, app_with_files, drc_app, number_in, workers_of, source_of, reading_of, reading_by, words_of};
-ghost use Rattle.run_words.specs.Views.{source_in, reading_in, SourceFits, Fits};
+ghost use Rattle.run_words.specs.Views.{source_in, reading_in, SourceFits, RequestFits};
 
 use clap::error::ErrorKind;
 use clap::{Arg, ArgMatches, Command};
@@ -18,7 +18,7 @@ const MOST_MADE: u32 = 90_000;
 
 /// Where the board comes from.
 #[derive(Clone, Copy)]
-pub enum Source<'a> {
+pub enum BoardSource<'a> {
     /// The file of this name.
     File(&'a str),
     /// The generated board of so many vias and segments, from 1 to 90,000.
@@ -28,7 +28,7 @@ pub enum Source<'a> {
 /// What the words ask for: the texts, and the number of workers, from 1 to 64.
 #[derive(Clone, Copy)]
 pub struct Request<'a> {
-    pub board: Source<'a>,
+    pub board: BoardSource<'a>,
     pub project: Option<&'a str>,
     pub rules: Option<&'a str>,
     pub script: Option<&'a str>,
@@ -80,7 +80,7 @@ pub(crate) fn request_of<'a>(
     words: &'a [&'a str],
 ) -> Result<Option<Request<'a>>, AllocError>
     ensures reading { IfOk result (λ request. option_map reading_in request ≡ reading_of (words_of words.entry.now)) }
-    ensures fits { IfOk result (λ request. IfSome request Fits) }
+    ensures fits { IfOk result (λ request. IfSome request RequestFits) }
 {
     let command = command(alloc)?;
     match command.try_get_matches_from(words) {
@@ -95,7 +95,7 @@ pub(crate) fn request_of<'a>(
 /// What the matches ask for.
 fn request_in<'a>(matches: &ArgMatches<'a>) -> Option<Request<'a>>
     ensures reading { option_map reading_in result ≡ reading_by (λ name. first_value (found_of matches.now) name) }
-    ensures fits { IfSome result Fits }
+    ensures fits { IfSome result RequestFits }
 {
     let board = source_of(matches.get_str("BOARD"), matches.get_str("make"))?;
     let workers = workers_of(matches.get_str("workers"))?;
@@ -109,24 +109,24 @@ fn request_in<'a>(matches: &ArgMatches<'a>) -> Option<Request<'a>>
 }
 
 /// Exactly one of a file and a generated board.
-fn source_of<'a>(name: Option<&'a str>, count: Option<&'a str>) -> Option<Source<'a>>
+fn source_of<'a>(name: Option<&'a str>, count: Option<&'a str>) -> Option<BoardSource<'a>>
     ensures source { option_map source_in result ≡ source_of (option_map (λ text. text.now) name.entry) (option_map (λ text. text.now) count.entry) }
     ensures fits { IfSome result SourceFits }
 {
     match (name, count) {
-        (Some(name), None) => Some(Source::File(name)),
+        (Some(name), None) => Some(BoardSource::File(name)),
         (None, Some(count)) => made_of(count),
         _ => None,
     }
 }
 
 /// The generated board of a number from 1 to 90,000.
-fn made_of<'a>(count: &str) -> Option<Source<'a>>
+fn made_of<'a>(count: &str) -> Option<BoardSource<'a>>
     ensures source { option_map source_in result ≡ source_of None (Some count.now) }
     ensures fits { IfSome result SourceFits }
 {
     let count = number_in(count, MOST_MADE)?;
-    Some(Source::Made(count))
+    Some(BoardSource::Made(count))
 }
 
 /// A number of workers from 1 to 64, 1 where none is given.

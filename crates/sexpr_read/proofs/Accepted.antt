@@ -6,7 +6,7 @@ use Rattle.std.specs.Str.Lossy.{utf8_valid_len}
 use Rattle.std.proofs.lemmas.Str.{is_utf8-from_IsUtf8, IsUtf8-from_is_utf8}
 use Rattle.sexpr_read.specs.declared.place.TextError.{TextError}
 use Rattle.sexpr_read.specs.declared.place.TextError.TheVariants.{NotUtf8, OutOfMemory}
-use Rattle.sexpr_read.specs.declared.bytes.Class.{Class}
+use Rattle.sexpr_read.specs.declared.bytes.ByteClass.{ByteClass}
 use Rattle.sexpr_read.specs.Bytes.{sign_of}
 use Rattle.sexpr_read.specs.Comments.{shown}
 use Rattle.sexpr_read.specs.Tree.{Forest, none, atom, list, levels_in, Tree, leaf, branch, levels}
@@ -17,7 +17,7 @@ use Rattle.sexpr_read.proofs.Machine.{IsInner, over_gap, over_word, over_string,
 use Rattle.sexpr_read.proofs.Unique.{forest_ordered, unique_tree, unique_forms}
 use Rattle.sexpr_read.proofs.Faults.{stands_first, blank_gap, not_blank, whole_by_end}
 
-module _ (one : Bool) (text : List ℕ) (sign : ℕ → Class) where
+module _ (one : Bool) (text : List ℕ) (sign : ℕ → ByteClass) where
   pub over_forest : (f : Forest) (a b d : ℕ) → SpellsForest sign text a b f → IsInner one d → d + levels_in f ≤ 64
       → Stands one sign a (outside d) → Stands one sign b (outside d)
   over_forest none a b d h inner low here = over_gap one sign a b d h here
@@ -36,7 +36,7 @@ pub accepted : (text : List ℕ) (tree : Tree) → Spells text tree → levels t
 unfolding Spells
 accepted text (leaf s q x) h low = absurd h
 accepted text (branch s inside) (utf8, h) low =
-    let sign : ℕ → Class = sign_of text in
+    let sign : ℕ → ByteClass = sign_of text in
     let blank : is_blank_before sign s.at ≡ true = blank_gap sign s.at h.0 in
     let in_list = over_first sign s.at blank h.1 (over_gap true sign 0 s.at 0 h.0 (stands_first true sign)) in
     let at_close = over_forest true text sign inside (suc s.at) h.2.0 1 h.2.2 tt (omega arith) in_list in

@@ -1,8 +1,8 @@
 -- The cells of a forest give the forest back, and so do the cells of each tree in it.
 use Rattle.std.proofs.Common.{◌≡◌, ℕ, zero, suc, ◌+◌, ◌-◌, true, false, List, [], ◌∷◌, ◌++◌, length, refl, sym, ◌∙◌, ap, arith, length-append, append_assoc, append-nil}
 use Rattle.std.specs.Prelude.{slice_range}
-use Rattle.sexpr_read.specs.declared.arena.Kind.{Kind}
-use Rattle.sexpr_read.specs.declared.arena.Kind.TheVariants.{Word, String, List as Nested}
+use Rattle.sexpr_read.specs.declared.arena.TreeKind.{TreeKind}
+use Rattle.sexpr_read.specs.declared.arena.TreeKind.TheVariants.{Word, String, List as Nested}
 use Rattle.sexpr_read.specs.declared.arena.Cell.{Cell}
 use Rattle.sexpr_read.specs.Tree.{Forest, none, atom, list}
 use Rattle.sexpr_read.specs.Cells.{cells_of, kind_at, front, back, grown, forest_of}
@@ -48,7 +48,7 @@ of_text-back text (suc k) (atom s false c others) h = of_text-back text k others
 of_text-back text (suc k) (atom s true c others) h = of_text-back text k others h.2
 of_text-back text (suc k) (list s inside others) h = of_text-back text (k - length (cells_of inside)) others h.2
 
-of_text-grown : (text : List ℕ) (k : Kind) (c : Cell) (f : Forest) → kind_at text c.at ≡ k → IsOfText text f → IsOfText text (grown text k c f)
+of_text-grown : (text : List ℕ) (k : TreeKind) (c : Cell) (f : Forest) → kind_at text c.at ≡ k → IsOfText text f → IsOfText text (grown text k c f)
 of_text-grown text Word c f e h = (e, refl, h)
 of_text-grown text String c f e h = (e, refl, h)
 of_text-grown text Nested c f e h = (e, of_text-front text c.inside f h, of_text-back text c.inside f h)

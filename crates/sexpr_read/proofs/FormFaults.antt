@@ -1,8 +1,8 @@
 -- Among forms no text is too many, and an empty text is no fault.
 use Rattle.std.proofs.Common.{◌≡◌, ◌⊎◌, inl, inr, ℕ, zero, suc, Bool, true, false, ◌==◌, List, length, Option, Some, None, sym, subst}
 use Rattle.std.specs.Prelude.{Result, Ok, Err, IfErr, if◌then◌else◌}
-use Rattle.sexpr_read.specs.declared.bytes.Class.{Class}
-use Rattle.sexpr_read.specs.declared.bytes.Class.TheVariants.{Space, Open, Close, Quote, Backslash, Plain}
+use Rattle.sexpr_read.specs.declared.bytes.ByteClass.{ByteClass}
+use Rattle.sexpr_read.specs.declared.bytes.ByteClass.TheVariants.{Space, Open, Close, Quote, Backslash, Plain}
 use Rattle.sexpr_read.specs.declared.place.TextError.{TextError}
 use Rattle.sexpr_read.specs.declared.place.TextError.TheVariants.{OutOfMemory, TooDeep}
 use Rattle.sexpr_read.specs.Comments.{shown}
@@ -17,7 +17,7 @@ deep_fault : (b : Bool) (p : ℕ) → AreOfForms (if b then Some (TooDeep p) els
 deep_fault true p = tt
 deep_fault false p = tt
 
-place_fault : (blank : Bool) (p : ℕ) (c : Class) (w : Where) → AreOfForms (fault_in false blank p c w)
+place_fault : (blank : Bool) (p : ℕ) (c : ByteClass) (w : Where) → AreOfForms (fault_in false blank p c w)
 place_fault blank p Space (outside zero) = tt
 place_fault blank p Open (outside zero) = tt
 place_fault blank p Close (outside zero) = tt
@@ -43,18 +43,18 @@ either_fault : (a b : Option TextError) → AreOfForms a → AreOfForms b → Ar
 either_fault None b h k = k
 either_fault (Some e) b h k = h
 
-first_of_forms : (sign : ℕ → Class) (n : ℕ) → AreOfForms (first_fault false sign n)
+first_of_forms : (sign : ℕ → ByteClass) (n : ℕ) → AreOfForms (first_fault false sign n)
 unfolding first_fault
 first_of_forms sign zero = tt
 first_of_forms sign (suc n) =
     either_fault (first_fault false sign n) (fault_at false sign n) (first_of_forms sign n)
     (place_fault (is_blank_before sign n) n (sign n) (where_at sign n))
 
-whole_of_forms : (sign : ℕ → Class) (n : ℕ) → AreOfForms (whole_fault false sign n)
+whole_of_forms : (sign : ℕ → ByteClass) (n : ℕ) → AreOfForms (whole_fault false sign n)
 whole_of_forms sign n =
     either_fault (first_fault false sign n) (end_fault false sign n) (first_of_forms sign n) (last_fault (is_blank_before sign n) n (where_at sign n))
 
-of_forms : (sign : ℕ → Class) (n : ℕ) (e : TextError) → whole_fault false sign n ≡ Some e → IsOfForms e
+of_forms : (sign : ℕ → ByteClass) (n : ℕ) (e : TextError) → whole_fault false sign n ≡ Some e → IsOfForms e
 of_forms sign n e h = subst AreOfForms h (whole_of_forms sign n)
 
 pub refused_forms : {D : Type 0} (text : List ℕ) (r : Result D TextError)

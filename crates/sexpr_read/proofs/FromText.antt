@@ -1,9 +1,9 @@
 -- What the text spells is what its cells say.
 use Rattle.std.proofs.Common.{◌≡◌, sym, ◌∙◌, ℕ, suc, ◌+◌, ◌≤◌, ◌<◌, true, false, List, [], ◌∷◌, ◌++◌, length, refl, ap, arith}
-use Rattle.sexpr_read.specs.declared.arena.Kind.TheVariants.{Word, String, List as Nested}
+use Rattle.sexpr_read.specs.declared.arena.TreeKind.TheVariants.{Word, String, List as Nested}
 use Rattle.sexpr_read.specs.declared.arena.Cell.{Cell}
-use Rattle.sexpr_read.specs.declared.bytes.Class.{Class}
-use Rattle.sexpr_read.specs.declared.bytes.Class.TheVariants.{Space, Open, Close, Quote, Backslash, Plain}
+use Rattle.sexpr_read.specs.declared.bytes.ByteClass.{ByteClass}
+use Rattle.sexpr_read.specs.declared.bytes.ByteClass.TheVariants.{Space, Open, Close, Quote, Backslash, Plain}
 use Rattle.sexpr_read.specs.Bytes.{sign_of, is_word}
 use Rattle.sexpr_read.specs.Kinds.{kind_of}
 use Rattle.sexpr_read.specs.Tree.{Forest, none, atom, list}
@@ -12,7 +12,7 @@ use Rattle.sexpr_read.specs.Cells.{cells_of, forest_of, kind_at, ArePlaced}
 use Rattle.sexpr_read.proofs.CellLemmas.{IsOfText, forest_of-cells_of}
 use Rattle.sexpr_read.proofs.Unique.{IsHead, word_head, word_first, string_ordered, forest_ordered}
 
-word_kind : (c : Class) → is_word c ≡ true → kind_of c ≡ Word
+word_kind : (c : ByteClass) → is_word c ≡ true → kind_of c ≡ Word
 word_kind Plain e = refl
 word_kind Backslash e = refl
 word_kind Space e = cc
@@ -25,8 +25,8 @@ are_placed-append text [] ys h k = k
 are_placed-append text (c ∷ xs) ys h k = (h.0, h.1, are_placed-append text xs ys h.2 k)
 
 -- `sign` is what stands in the text, but where it has space
-module _ (text : List ℕ) (sign : ℕ → Class) (same : (p : ℕ) → (sign p ≡ Space → ⊥) → sign_of text p ≡ sign p) where
-  kind_from : (p : ℕ) (c : Class) → IsHead c → sign p ≡ c → kind_at text p ≡ kind_of c
+module _ (text : List ℕ) (sign : ℕ → ByteClass) (same : (p : ℕ) → (sign p ≡ Space → ⊥) → sign_of text p ≡ sign p) where
+  kind_from : (p : ℕ) (c : ByteClass) → IsHead c → sign p ≡ c → kind_at text p ≡ kind_of c
   kind_from p c head e = ap kind_of (same p (λ s. head.no_space (sym e ∙ s)) ∙ e)
 
   word_at : (a b : ℕ) → IsWord sign a b → kind_at text a ≡ Word

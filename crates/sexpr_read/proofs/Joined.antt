@@ -1,13 +1,13 @@
 -- What spells one forest and then another spells both.
 use Rattle.std.proofs.Common.{◌≡◌, inl, inr, ℕ, suc, List, max, arith}
 use Rattle.std.proofs.lemmas.Bool.{cases_lt}
-use Rattle.sexpr_read.specs.declared.bytes.Class.{Class}
-use Rattle.sexpr_read.specs.declared.bytes.Class.TheVariants.{Space}
+use Rattle.sexpr_read.specs.declared.bytes.ByteClass.{ByteClass}
+use Rattle.sexpr_read.specs.declared.bytes.ByteClass.TheVariants.{Space}
 use Rattle.sexpr_read.specs.Tree.{Forest, none, atom, list, levels_in}
 use Rattle.sexpr_read.specs.Spelling.{IsGap, SpellsForest}
 use Rattle.sexpr_read.proofs.CellLemmas.{join}
 
-module _ (sign : ℕ → Class) where
+module _ (sign : ℕ → ByteClass) where
   pub no_gap : (a : ℕ) → IsGap sign a a
   no_gap a = record { ordered = omega arith; blank = λ i low high. absurd (omega arith) }
 
@@ -23,7 +23,7 @@ module _ (sign : ℕ → Class) where
     blank = λ i low high. elim (cases_lt i b) [ inl lt ↦ g.blank i low lt | inr ge ↦ (let same : i ≡ b = omega arith in rw same e) ];
   }
 
-module _ (sign : ℕ → Class) (text : List ℕ) where
+module _ (sign : ℕ → ByteClass) (text : List ℕ) where
   pub spelled_after_gap : (f : Forest) (a b c : ℕ) → IsGap sign a b → SpellsForest sign text b c f → SpellsForest sign text a c f
   spelled_after_gap none a b c g h = gap_join sign a b c g h
   spelled_after_gap (atom s q x others) a b c g h = (gap_join sign a b s.at g h.0, h.1, h.2)

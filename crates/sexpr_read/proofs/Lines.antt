@@ -3,8 +3,8 @@ use Rattle.std.proofs.Common.{◌≡◌, ◌⊎◌, inl, inr, ℕ, suc, ◌≤�
 use Rattle.std.proofs.Math.Nat.{eq-or-lt_of_le}
 use Rattle.std.proofs.lemmas.Bool.Decides.{nat_tests}
 use Rattle.std.specs.Prelude.{slice_index_or, if◌then◌else◌}
-use Rattle.sexpr_read.specs.declared.bytes.Class.{Class}
-use Rattle.sexpr_read.specs.declared.bytes.Class.TheVariants.{Space, Open, Close, Quote, Backslash, Plain}
+use Rattle.sexpr_read.specs.declared.bytes.ByteClass.{ByteClass}
+use Rattle.sexpr_read.specs.declared.bytes.ByteClass.TheVariants.{Space, Open, Close, Quote, Backslash, Plain}
 use Rattle.sexpr_read.specs.Bytes.{class_of, sign_of, is_word, is_itself}
 use Rattle.sexpr_read.specs.Comments.{fresh, begun, quoting, escaping, comment, line_beyond, line_at, is_passed, shown, signs}
 use Rattle.sexpr_read.specs.Spelling.{IsWord, IsContent, empty, itself, escape, IsString}
@@ -68,7 +68,7 @@ pub escaping_sign : (text : List ℕ) (p : ℕ) → line_at text p ≡ escaping 
 escaping_sign text p e = shown_plain text p (rw e refl)
 
 -- comes to stand behind a sign
-bracket_after : (text : List ℕ) (p : ℕ) (c : Class) → (c ≡ Open) ⊎ (c ≡ Close) → sign_of text p ≡ c → IsPlain text p → line_at text (suc p) ≡ begun
+bracket_after : (text : List ℕ) (p : ℕ) (c : ByteClass) → (c ≡ Open) ⊎ (c ≡ Close) → sign_of text p ≡ c → IsPlain text p → line_at text (suc p) ≡ begun
 bracket_after text p c (inl o) e h = elim h.line [
   | inl l ↦ rw (line_next text p, l, e, o) refl
   | inr l ↦ rw (line_next text p, l.0, e, o) refl
@@ -90,7 +90,7 @@ after_quote text p e h = elim h.line [
   | inr l ↦ rw (line_next text p, l.0, e) refl
 ]
 
-word_begun : (text : List ℕ) (p : ℕ) (c : Class) → is_word c ≡ true → sign_of text p ≡ c → line_at text p ≡ begun → line_at text (suc p) ≡ begun
+word_begun : (text : List ℕ) (p : ℕ) (c : ByteClass) → is_word c ≡ true → sign_of text p ≡ c → line_at text p ≡ begun → line_at text (suc p) ≡ begun
 word_begun text p Plain w e l = rw (line_next text p, l, e) refl
 word_begun text p Backslash w e l = rw (line_next text p, l, e) refl
 word_begun text p Space w e l = cc
@@ -98,7 +98,7 @@ word_begun text p Open w e l = cc
 word_begun text p Close w e l = cc
 word_begun text p Quote w e l = cc
 
-word_fresh : (text : List ℕ) (p : ℕ) (c : Class) → is_word c ≡ true → sign_of text p ≡ c → line_at text p ≡ fresh
+word_fresh : (text : List ℕ) (p : ℕ) (c : ByteClass) → is_word c ≡ true → sign_of text p ≡ c → line_at text p ≡ fresh
     → is_passed (byte text p) (line_at text p) ≡ false → line_at text (suc p) ≡ begun
 word_fresh text p Plain w e l stays = let differs : (byte text p == 0x23) ≡ false = rw l at stays in rw (line_next text p, l, e, differs) refl
 word_fresh text p Backslash w e l stays = rw (line_next text p, l, e) refl
@@ -139,7 +139,7 @@ pub word_line : (one : Bool) (text : List ℕ) (a b : ℕ) → IsWord (sign_of t
     → one ≡ false → line_at text b ≡ begun
 word_line one text a b w low h e = within_word text a b w (h e low) b w.ordered (omega arith)
 
-itself_quoting : (text : List ℕ) (p : ℕ) (c : Class) → is_itself c ≡ true → sign_of text p ≡ c → line_at text p ≡ quoting → line_at text (suc p) ≡ quoting
+itself_quoting : (text : List ℕ) (p : ℕ) (c : ByteClass) → is_itself c ≡ true → sign_of text p ≡ c → line_at text p ≡ quoting → line_at text (suc p) ≡ quoting
 itself_quoting text p Plain w e l = rw (line_next text p, l, e) refl
 itself_quoting text p Space w e l = rw (line_next text p, l, e) refl
 itself_quoting text p Open w e l = rw (line_next text p, l, e) refl
@@ -198,7 +198,7 @@ pub space_begun : (one : Bool) (text : List ℕ) (p : ℕ) → IsSettled one tex
 space_begun one text p h s = λ e low. elim (h e low).line [ inl l ↦ l | inr l ↦ absurd (l.1 s) ]
 
 -- a byte of a comment but its line feed
-comment_goes_on : (b : ℕ) (c : Class) → (b == 0x0A) ≡ false → line_beyond b c comment ≡ comment
+comment_goes_on : (b : ℕ) (c : ByteClass) → (b == 0x0A) ≡ false → line_beyond b c comment ≡ comment
 comment_goes_on b Space e = rw e refl
 comment_goes_on b Open e = refl
 comment_goes_on b Close e = refl

@@ -1,7 +1,7 @@
 -- What a text spells stands in order in it.
 use Rattle.std.proofs.Common.{◌≡◌, ℕ, suc, ◌+◌, ◌-◌, ◌≤◌, ◌<◌, Bool, true, false, List, length, arith}
 use Rattle.sexpr_read.specs.declared.place.Span.{Span}
-use Rattle.sexpr_read.specs.declared.bytes.Class.{Class}
+use Rattle.sexpr_read.specs.declared.bytes.ByteClass.{ByteClass}
 use Rattle.sexpr_read.specs.Bytes.{sign_of}
 use Rattle.sexpr_read.specs.Comments.{shown}
 use Rattle.sexpr_read.specs.Tree.{Forest, none, atom, list, Tree, leaf, branch, span}
@@ -9,7 +9,7 @@ use Rattle.sexpr_read.specs.Spelling.{IsAtom, SpellsForest, Spells, SpellsAll}
 use Rattle.sexpr_read.specs.Places.{IsSlice, StandBetween, PartsStandBetween}
 use Rattle.sexpr_read.proofs.Unique.{atom_ordered, string_ordered, forest_ordered}
 
-module _ (sign : ℕ → Class) (text : List ℕ) where
+module _ (sign : ℕ → ByteClass) (text : List ℕ) where
   atom_slice : (s : Span) (q : Bool) (bytes : List ℕ) → IsAtom sign text s q bytes → IsSlice text s q bytes
   atom_slice s false bytes h = h.1
   atom_slice s true bytes h = (string_ordered sign text s.at s.end h.0, h.1)

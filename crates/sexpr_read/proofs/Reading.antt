@@ -4,14 +4,14 @@ use Rattle.std.proofs.Math.Seq.{get_or-append_seam, set-append_seam}
 use Rattle.std.specs.Prelude.{slice_set, slice_index_or}
 use Rattle.sexpr_read.specs.declared.place.Span.{Span}
 use Rattle.sexpr_read.specs.declared.arena.Cell.{Cell}
-use Rattle.sexpr_read.specs.declared.bytes.Class.TheVariants.{Open, Close}
+use Rattle.sexpr_read.specs.declared.bytes.ByteClass.TheVariants.{Open, Close}
 use Rattle.sexpr_read.specs.Comments.{signs}
 use Rattle.sexpr_read.specs.Tree.{Forest, none, atom, list, levels_in}
 use Rattle.sexpr_read.specs.Kinds.{no_cell}
 use Rattle.sexpr_read.specs.Spelling.{IsGap, IsAtom, IsWord, IsString, SpellsForest}
 use Rattle.sexpr_read.specs.Refusals.{outside}
 use Rattle.sexpr_read.specs.Cells.{cells_of}
-use Rattle.sexpr_read.specs.Runs.{Stands, outer_levels, IsRead}
+use Rattle.sexpr_read.specs.Runs.{Stands, outer_levels, TreesAreRead}
 use Rattle.sexpr_read.proofs.Machine.{IsInner, over_gap, over_word, over_string, over_open, over_close}
 use Rattle.sexpr_read.proofs.CellLemmas.{join, cells_of-join}
 use Rattle.sexpr_read.proofs.Joined.{no_gap, spelled_join, spelled_gap, levels_in-join}
@@ -232,7 +232,7 @@ no_open one text from p depth innermost cells (l ∷ outer) z linked =
 -- where no list is open all is read
 pub reading_done : (one : Bool) (text : List ℕ) (from p depth innermost : ℕ) (cells : List Cell)
     → innermost ≡ 0 → p ≤ length text → (p < length text → signs one text p ≡ Close) → Reading one text from p depth innermost cells
-    → IsRead one text from p cells
+    → TreesAreRead one text from p cells
 reading_done one text from p depth innermost cells z within ends r =
     let none_open = no_open one text from p depth innermost cells r.outer z r.linked in
     let level : depth ≡ outer_levels one = r.deep ∙ ap (λ (x : List Level). length x + outer_levels one) none_open ∙ zero-add (outer_levels one) in

@@ -1,8 +1,8 @@
 -- Lemmas on the parts of a text: what stands past its end, and content that grows at its end.
 use Rattle.std.proofs.Common.{◌≡◌, ℕ, suc, ◌≤◌, ◌∙◌, true, false, List, length, refl, ap}
 use Rattle.std.proofs.Math.ListN.{get_or-eq_default}
-use Rattle.sexpr_read.specs.declared.bytes.Class.{Class}
-use Rattle.sexpr_read.specs.declared.bytes.Class.TheVariants.{Space, Open, Close, Quote, Backslash, Plain}
+use Rattle.sexpr_read.specs.declared.bytes.ByteClass.{ByteClass}
+use Rattle.sexpr_read.specs.declared.bytes.ByteClass.TheVariants.{Space, Open, Close, Quote, Backslash, Plain}
 use Rattle.sexpr_read.specs.Bytes.{class_of, sign_of, is_word, is_itself}
 use Rattle.sexpr_read.specs.Spelling.{IsContent, empty, itself, escape}
 
@@ -14,7 +14,7 @@ past_end text p h = ap class_of (get_or-eq_default text 32 h) ∙ refl
 pub no_word_at_end : (text : List ℕ) (p : ℕ) → length text ≤ p → is_word (sign_of text p) ≡ false
 no_word_at_end text p h = rw (past_end text p h) refl
 
-pub no_word : (c : Class) → (c ≡ Backslash → ⊥) → (c ≡ Plain → ⊥) → is_word c ≡ false
+pub no_word : (c : ByteClass) → (c ≡ Backslash → ⊥) → (c ≡ Plain → ⊥) → is_word c ≡ false
 no_word Space a b = refl
 no_word Open a b = refl
 no_word Close a b = refl
@@ -22,7 +22,7 @@ no_word Quote a b = refl
 no_word Backslash a b = absurd (a refl)
 no_word Plain a b = absurd (b refl)
 
-pub is_itself_else : (c : Class) → (c ≡ Quote → ⊥) → (c ≡ Backslash → ⊥) → is_itself c ≡ true
+pub is_itself_else : (c : ByteClass) → (c ≡ Quote → ⊥) → (c ≡ Backslash → ⊥) → is_itself c ≡ true
 is_itself_else Space a b = refl
 is_itself_else Open a b = refl
 is_itself_else Close a b = refl
@@ -30,12 +30,12 @@ is_itself_else Plain a b = refl
 is_itself_else Quote a b = absurd (a refl)
 is_itself_else Backslash a b = absurd (b refl)
 
-pub and_itself : (sign : ℕ → Class) {a b : ℕ} → IsContent sign a b → is_itself (sign b) ≡ true → IsContent sign a (suc b)
+pub and_itself : (sign : ℕ → ByteClass) {a b : ℕ} → IsContent sign a b → is_itself (sign b) ≡ true → IsContent sign a (suc b)
 and_itself sign empty e = itself e empty
 and_itself sign (itself f more) e = itself f (and_itself sign more e)
 and_itself sign (escape f more) e = escape f (and_itself sign more e)
 
-pub and_escape : (sign : ℕ → Class) {a b : ℕ} → IsContent sign a b → sign b ≡ Backslash → IsContent sign a (suc (suc b))
+pub and_escape : (sign : ℕ → ByteClass) {a b : ℕ} → IsContent sign a b → sign b ≡ Backslash → IsContent sign a (suc (suc b))
 and_escape sign empty e = escape e empty
 and_escape sign (itself f more) e = itself f (and_escape sign more e)
 and_escape sign (escape f more) e = escape f (and_escape sign more e)

@@ -2,8 +2,8 @@
 use Rattle.std.proofs.Common.{◌≡◌, ℕ, zero, suc, ◌+◌, ◌-◌, ◌≤◌, List, [], ◌∷◌, ◌++◌, length, true, false, take, drop, refl, sym, ◌∙◌, ap, arith, length-append}
 use Rattle.std.specs.Prelude.{slice_range}
 use Rattle.std.proofs.Math.Seq.{take-append_seam, drop-append_seam}
-use Rattle.sexpr_read.specs.declared.arena.Kind.{Kind}
-use Rattle.sexpr_read.specs.declared.arena.Kind.TheVariants.{Word, String, List as Nested}
+use Rattle.sexpr_read.specs.declared.arena.TreeKind.{TreeKind}
+use Rattle.sexpr_read.specs.declared.arena.TreeKind.TheVariants.{Word, String, List as Nested}
 use Rattle.sexpr_read.specs.declared.arena.Cell.{Cell}
 use Rattle.sexpr_read.specs.Tree.{Forest, none, atom, list, Tree, leaf, branch, trees}
 use Rattle.sexpr_read.specs.Cells.{cells_of, kind_at, front, back, grown, forest_of, tree_at, ArePlaced}
@@ -52,7 +52,7 @@ list_splits text c cells inside others hi ho n e k whole =
       given = rw (k, inner_forest, outer_forest) whole;
     }
 
-splits_by : (text : List ℕ) (c : Cell) (cells : List Cell) (k : Kind) → kind_at text c.at ≡ k
+splits_by : (text : List ℕ) (c : Cell) (cells : List Cell) (k : TreeKind) → kind_at text c.at ≡ k
     → cells_of (grown text k c (forest_of text cells)) ≡ c ∷ cells → Splits text c cells
 unfolding forest_of
 splits_by text c cells Word k e =

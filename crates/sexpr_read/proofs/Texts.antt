@@ -8,8 +8,8 @@ use Rattle.std.proofs.lemmas.Bool.Decides.{nat_tests}
 use Rattle.std.proofs.lemmas.List.{get_or_default}
 use Rattle.std.proofs.lemmas.Str.{IsUtf8-between, IsCharBoundary-end, IsCharBoundary-before_ascii, IsCharBoundary-after_ascii}
 use Rattle.sexpr_read.specs.declared.arena.Cell.{Cell}
-use Rattle.sexpr_read.specs.declared.bytes.Class.{Class}
-use Rattle.sexpr_read.specs.declared.bytes.Class.TheVariants.{Space, Open, Close, Quote, Backslash, Plain}
+use Rattle.sexpr_read.specs.declared.bytes.ByteClass.{ByteClass}
+use Rattle.sexpr_read.specs.declared.bytes.ByteClass.TheVariants.{Space, Open, Close, Quote, Backslash, Plain}
 use Rattle.sexpr_read.specs.Bytes.{class_of, sign_of, is_word}
 use Rattle.sexpr_read.specs.Comments.{Line, fresh, begun, quoting, escaping, comment, line_beyond, line_at, is_passed, shown, signs}
 use Rattle.sexpr_read.specs.Tree.{Forest, none, atom, list, Tree, trees, unescaped}
@@ -51,7 +51,7 @@ cut_behind text p u within low =
     subst (IsCharBoundary text) next (IsCharBoundary-after_ascii text p u within (subst (λ b. b < 128) (get_or_default text p 0x20 0 within) low))
 
 -- beside a byte of no ASCII that counts as space there is space
-record HidesWhole (text : List ℕ) (sign : ℕ → Class) : Type 0 where
+record HidesWhole (text : List ℕ) (sign : ℕ → ByteClass) : Type 0 where
   after : (p : ℕ) → 128 ≤ byte text p → sign p ≡ Space → sign (suc p) ≡ Space
   before : (p : ℕ) → 128 ≤ byte text (suc p) → sign (suc p) ≡ Space → sign p ≡ Space
 
@@ -88,7 +88,7 @@ mark_from true e = refl
 mark_from false e = cc
 
 -- only a comment and its mark have a comment behind them
-passed_before : (b : ℕ) (c : Class) (l : Line) → line_beyond b c l ≡ comment → is_passed b l ≡ true
+passed_before : (b : ℕ) (c : ByteClass) (l : Line) → line_beyond b c l ≡ comment → is_passed b l ≡ true
 passed_before b Space fresh e = absurd (begun_or_fresh (b == 0x0D) e)
 passed_before b Plain fresh e = mark_from (b == 0x23) e
 passed_before b Quote fresh e = cc
@@ -118,7 +118,7 @@ hides : (one : Bool) (text : List ℕ) → HidesWhole text (signs one text)
 hides true text = record { after = λ p h e. absurd (no_high_space text p h e); before = λ p h e. absurd (no_high_space text (suc p) h e) }
 hides false text = record { after = comment_after text; before = comment_before text }
 
-open_is_plain : (c : Class) → c ≡ Open → c ≡ Plain → ⊥
+open_is_plain : (c : ByteClass) → c ≡ Open → c ≡ Plain → ⊥
 open_is_plain c e h = cc
 
 -- what stands behind a bracket may be cut off
@@ -126,8 +126,8 @@ pub cut_behind_open : (text : List ℕ) (p : ℕ) → IsUtf8 text → p < length
 cut_behind_open text p u low e = cut_behind text p u low (low_by text p (open_is_plain (sign_of text p) e))
 
 -- `sign` is what stands in the text, but where it has space
-module _ (text : List ℕ) (u : IsUtf8 text) (sign : ℕ → Class) (same : (p : ℕ) → (sign p ≡ Space → ⊥) → sign_of text p ≡ sign p) (whole : HidesWhole text sign) where
-  sign_low : (p : ℕ) (c : Class) → sign p ≡ c → (c ≡ Space → ⊥) → (c ≡ Plain → ⊥) → byte text p < 128
+module _ (text : List ℕ) (u : IsUtf8 text) (sign : ℕ → ByteClass) (same : (p : ℕ) → (sign p ≡ Space → ⊥) → sign_of text p ≡ sign p) (whole : HidesWhole text sign) where
+  sign_low : (p : ℕ) (c : ByteClass) → sign p ≡ c → (c ≡ Space → ⊥) → (c ≡ Plain → ⊥) → byte text p < 128
   sign_low p c e space plain = low_by text p (λ h. plain (sym e ∙ sym (same p (λ s. space (sym e ∙ s))) ∙ h))
 
   open_low : (p : ℕ) → sign p ≡ Open → byte text p < 128
@@ -155,7 +155,7 @@ module _ (text : List ℕ) (u : IsUtf8 text) (sign : ℕ → Class) (same : (p :
   ]
 
   -- no byte of a character stands behind a word
-  word_stops : (q : ℕ) (c : Class) → sign (suc q) ≡ c → is_word c ≡ false → is_word (sign q) ≡ true → 128 ≤ byte text (suc q) → ⊥
+  word_stops : (q : ℕ) (c : ByteClass) → sign (suc q) ≡ c → is_word c ≡ false → is_word (sign q) ≡ true → 128 ≤ byte text (suc q) → ⊥
   word_stops q Space e last word high =
       let space : is_word Space ≡ true = rw (whole.before q high e) at word in cc
   word_stops q Open e last word high = let low = open_low (suc q) e in omega arith

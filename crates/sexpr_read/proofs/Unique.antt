@@ -3,19 +3,19 @@ use Rattle.std.proofs.Common.{◌≡◌, ◌⊎◌, inl, inr, ℕ, suc, ◌+◌,
 use Rattle.std.proofs.lemmas.Bool.{cases_order}
 use Rattle.std.specs.Prelude.{slice_range}
 use Rattle.sexpr_read.specs.declared.place.Span.{Span}
-use Rattle.sexpr_read.specs.declared.bytes.Class.{Class}
-use Rattle.sexpr_read.specs.declared.bytes.Class.TheVariants.{Space, Open, Close, Quote, Backslash, Plain}
+use Rattle.sexpr_read.specs.declared.bytes.ByteClass.{ByteClass}
+use Rattle.sexpr_read.specs.declared.bytes.ByteClass.TheVariants.{Space, Open, Close, Quote, Backslash, Plain}
 use Rattle.sexpr_read.specs.Bytes.{is_word, is_itself, sign_of}
 use Rattle.sexpr_read.specs.Comments.{shown}
 use Rattle.sexpr_read.specs.Tree.{Forest, none, atom, list, Tree, leaf, branch}
 use Rattle.sexpr_read.specs.Spelling.{IsGap, IsWord, IsContent, empty, itself, escape, IsString, IsAtom, SpellsForest, Spells, SpellsAll}
 
 -- a tree may begin so
-pub record IsHead (c : Class) : Type 0 where
+pub record IsHead (c : ByteClass) : Type 0 where
   pub no_space : c ≡ Space → ⊥
   pub no_close : c ≡ Close → ⊥
 
-pub word_head : (c : Class) → is_word c ≡ true → IsHead c
+pub word_head : (c : ByteClass) → is_word c ≡ true → IsHead c
 word_head Plain e = record { no_space = λ h. cc; no_close = λ h. cc }
 word_head Backslash e = record { no_space = λ h. cc; no_close = λ h. cc }
 word_head Space e = cc
@@ -23,16 +23,16 @@ word_head Open e = cc
 word_head Close e = cc
 word_head Quote e = cc
 
-open_head : (c : Class) → c ≡ Open → IsHead c
+open_head : (c : ByteClass) → c ≡ Open → IsHead c
 open_head c e = record { no_space = λ h. cc; no_close = λ h. cc }
 
-quote_head : (c : Class) → c ≡ Quote → IsHead c
+quote_head : (c : ByteClass) → c ≡ Quote → IsHead c
 quote_head c e = record { no_space = λ h. cc; no_close = λ h. cc }
 
-word_opens_no_list : (c : Class) → is_word c ≡ true → c ≡ Open → ⊥
+word_opens_no_list : (c : ByteClass) → is_word c ≡ true → c ≡ Open → ⊥
 word_opens_no_list c e h = let f : is_word Open ≡ true = rw h at e in cc
 
-word_opens_no_string : (c : Class) → is_word c ≡ true → c ≡ Quote → ⊥
+word_opens_no_string : (c : ByteClass) → is_word c ≡ true → c ≡ Quote → ⊥
 word_opens_no_string c e h = let f : is_word Quote ≡ true = rw h at e in cc
 
 same_span : (s t : Span) → s.at ≡ t.at → s.end ≡ t.end → s ≡ t
@@ -40,7 +40,7 @@ same_span s t p q =
     let made : ℕ → ℕ → Span = λ x y. record { at = x; end = y } in
     ap (λ x. made x s.end) p ∙ ap (made t.at) q
 
-module _ (sign : ℕ → Class) (text : List ℕ) where
+module _ (sign : ℕ → ByteClass) (text : List ℕ) where
   pub word_first : (a b : ℕ) → IsWord sign a b → is_word (sign a) ≡ true
   word_first a b w = w.each a (omega arith) w.ordered
 

@@ -1,8 +1,8 @@
 -- Comment lines of rule files and scripts. Where a line begins outside a string with #, blanks and tabs before it
 -- aside, nothing of it is read. A line goes on until a line feed and ends at nothing else.
 use Rattle.std.specs.Prelude.{ℕ, zero, suc, Bool, true, false, ◌==◌, if◌then◌else◌, List, slice_index_or}
-use Rattle.sexpr_read.specs.declared.bytes.Class.{Class}
-use Rattle.sexpr_read.specs.declared.bytes.Class.TheVariants.{Space, Open, Close, Quote, Backslash, Plain}
+use Rattle.sexpr_read.specs.declared.bytes.ByteClass.{ByteClass}
+use Rattle.sexpr_read.specs.declared.bytes.ByteClass.TheVariants.{Space, Open, Close, Quote, Backslash, Plain}
 use Rattle.sexpr_read.specs.Bytes.{sign_of}
 
 -- where a front of a text ends: behind nothing but space and tab of its line, behind another sign of it,
@@ -15,7 +15,7 @@ pub data Line : Type 0 where
   comment : Line
 
 -- one byte on
-abbrev pub line_beyond : ℕ → Class → Line → Line
+abbrev pub line_beyond : ℕ → ByteClass → Line → Line
 line_beyond b Space fresh = if b == 0x0D then begun else fresh
 line_beyond b Plain fresh = if b == 0x23 then comment else begun
 line_beyond b Quote fresh = quoting
@@ -56,10 +56,10 @@ is_passed b escaping = false
 is_passed b comment = true
 
 -- what stands at a place of a text, its comments seen as space
-unfoldable pub shown : List ℕ → ℕ → Class
+unfoldable pub shown : List ℕ → ℕ → ByteClass
 shown text place = if is_passed (slice_index_or text place 0x20) (line_at text place) then Space else sign_of text place
 
 -- what stands at a place of a text that is to be one list, or of forms with comments
-abbrev pub signs : Bool → List ℕ → ℕ → Class
+abbrev pub signs : Bool → List ℕ → ℕ → ByteClass
 signs true text = sign_of text
 signs false text = shown text

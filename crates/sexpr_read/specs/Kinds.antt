@@ -1,12 +1,12 @@
 -- What a tree is.
-use Rattle.sexpr_read.specs.declared.bytes.Class.{Class}
-use Rattle.sexpr_read.specs.declared.bytes.Class.TheVariants.{Space, Open, Close, Quote, Backslash, Plain}
+use Rattle.sexpr_read.specs.declared.bytes.ByteClass.{ByteClass}
+use Rattle.sexpr_read.specs.declared.bytes.ByteClass.TheVariants.{Space, Open, Close, Quote, Backslash, Plain}
 use Rattle.sexpr_read.specs.declared.arena.Cell.{Cell}
-use Rattle.sexpr_read.specs.declared.arena.Kind.{Kind}
-use Rattle.sexpr_read.specs.declared.arena.Kind.TheVariants.{Word, String, List as Nested}
+use Rattle.sexpr_read.specs.declared.arena.TreeKind.{TreeKind}
+use Rattle.sexpr_read.specs.declared.arena.TreeKind.TheVariants.{Word, String, List as Nested}
 
 -- the first byte of a tree says what it is
-abbrev pub kind_of : Class → Kind
+abbrev pub kind_of : ByteClass → TreeKind
 kind_of Open = Nested
 kind_of Quote = String
 kind_of Space = Word

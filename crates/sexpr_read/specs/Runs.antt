@@ -1,8 +1,8 @@
 -- How far the reader has come.
 use Rattle.std.specs.Prelude.{slice_index_or, ℕ, suc, ◌+◌, ◌<◌, ◌≤◌, ◌≡◌, ◌≢◌, ◌⊎◌, Bool, true, false, List, length, None}
 use Rattle.sexpr_read.specs.declared.arena.Cell.{Cell}
-use Rattle.sexpr_read.specs.declared.bytes.Class.{Class}
-use Rattle.sexpr_read.specs.declared.bytes.Class.TheVariants.{Space, Backslash, Close}
+use Rattle.sexpr_read.specs.declared.bytes.ByteClass.{ByteClass}
+use Rattle.sexpr_read.specs.declared.bytes.ByteClass.TheVariants.{Space, Backslash, Close}
 use Rattle.sexpr_read.specs.Bytes.{sign_of}
 use Rattle.sexpr_read.specs.Comments.{Line, fresh, begun, line_at, is_passed, signs}
 use Rattle.sexpr_read.specs.Tree.{Forest, levels_in}
@@ -11,12 +11,12 @@ use Rattle.sexpr_read.specs.Refusals.{Where, outside, where_at, first_fault}
 use Rattle.sexpr_read.specs.Cells.{cells_of}
 
 -- from here to the end there is content of a string, perhaps with a last backslash that nothing follows
-abbrev pub IsUnclosed : (ℕ → Class) → ℕ → ℕ → Type 0
+abbrev pub IsUnclosed : (ℕ → ByteClass) → ℕ → ℕ → Type 0
 IsUnclosed sign from n =
     IsContent sign from n ⊎ ((last : ℕ) × (n ≡ suc last) × IsContent sign from last × (sign last ≡ Backslash))
 
 -- before the place there is no fault, and there the text stands so
-pub record Stands (one : Bool) (sign : ℕ → Class) (place : ℕ) (w : Where) : Type 0 where
+pub record Stands (one : Bool) (sign : ℕ → ByteClass) (place : ℕ) (w : Where) : Type 0 where
   pub where_is : where_at sign place ≡ w
   pub clean : first_fault one sign place ≡ None
 
@@ -26,7 +26,7 @@ outer_levels true = 1
 outer_levels false = 0
 
 -- the trees from one place to another were read into these cells; there a list ends that opened before, or the text
-pub record IsRead (one : Bool) (text : List ℕ) (from stop : ℕ) (cells : List Cell) : Type 0 where
+pub record TreesAreRead (one : Bool) (text : List ℕ) (from stop : ℕ) (cells : List Cell) : Type 0 where
   pub forest : Forest
   pub spelled : SpellsForest (signs one text) text from stop forest
   pub kept : cells ≡ cells_of forest

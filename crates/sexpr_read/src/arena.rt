@@ -1,12 +1,12 @@
 ghost use Rattle.std.specs.Prelude.{◌≡◌, ◌+◌, ◌-◌, ◌<◌, ◌≤◌, ◌^◌, ◌∷◌, ◌++◌, [], IfOk, OnOk, vec_len, slice_set, slice_index_or, IsTrue, ◌↔◌};
 ghost use Rattle.sexpr_read.specs.Kinds.{kind_of, no_cell};
 
-use crate::bytes::Class;
+use crate::bytes::ByteClass;
 use std::alloc::{AllocError, Global};
 
 /// What a tree is.
 #[derive(Clone, Copy)]
-pub enum Kind {
+pub enum TreeKind {
     Word,
     String,
     List,
@@ -14,13 +14,13 @@ pub enum Kind {
 
 /// The first byte of a tree says what it is.
 #[inline(always)]
-pub fn kind_of(first: Class) -> Kind
+pub fn kind_of(first: ByteClass) -> TreeKind
     ensures { result ≡ kind_of first }
 {
     match first {
-        Class::Open => Kind::List,
-        Class::Quote => Kind::String,
-        _ => Kind::Word,
+        ByteClass::Open => TreeKind::List,
+        ByteClass::Quote => TreeKind::String,
+        _ => TreeKind::Word,
     }
 }
 

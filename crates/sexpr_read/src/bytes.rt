@@ -3,7 +3,7 @@ ghost use Rattle.sexpr_read.specs.Bytes.{class_of, sign_of};
 
 /// What a byte is to the reader.
 #[derive(Clone, Copy)]
-pub enum Class {
+pub enum ByteClass {
     Space,
     Open,
     Close,
@@ -14,26 +14,26 @@ pub enum Class {
 
 #[inline(always)]
 #[tactic(auto, unfolding(crate::specs::Bytes::class_of))]
-pub fn class_of(byte: u8) -> Class
+pub fn class_of(byte: u8) -> ByteClass
     ensures { result ≡ class_of byte }
 {
     if byte == b' ' || byte == b'\t' || byte == b'\n' || byte == b'\r' {
-        Class::Space
+        ByteClass::Space
     } else if byte == b'(' {
-        Class::Open
+        ByteClass::Open
     } else if byte == b')' {
-        Class::Close
+        ByteClass::Close
     } else if byte == b'"' {
-        Class::Quote
+        ByteClass::Quote
     } else if byte == b'\\' {
-        Class::Backslash
+        ByteClass::Backslash
     } else {
-        Class::Plain
+        ByteClass::Plain
     }
 }
 
 #[inline(always)]
-pub fn sign_at(text: &[u8], at: usize) -> Class
+pub fn sign_at(text: &[u8], at: usize) -> ByteClass
     requires { at < length text.now }
     ensures { result ≡ sign_of text.now at }
 {

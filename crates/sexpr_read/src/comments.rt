@@ -1,5 +1,5 @@
 ghost use Rattle.std.specs.Prelude.{◌≡◌, ◌≢◌, ◌<◌, ◌≤◌, length, slice_index_or};
-ghost use Rattle.sexpr_read.specs.declared.bytes.Class.TheVariants.{Space};
+ghost use Rattle.sexpr_read.specs.declared.bytes.ByteClass.TheVariants.{Space};
 ghost use Rattle.sexpr_read.specs.Bytes.{sign_of};
 ghost use Rattle.sexpr_read.specs.Comments.{fresh, line_at, shown, signs};
 ghost use Rattle.sexpr_read.specs.Spelling.{IsGap};

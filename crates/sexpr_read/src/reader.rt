@@ -1,16 +1,16 @@
 ghost use Rattle.std.specs.Prelude.{◌≡◌, ◌≤◌, ◌<◌, ◌^◌, ◌⊎◌, length, true, false, [], None, Some, IsUtf8, MatchResult, IfOk, IfErr};
 ghost use Rattle.std.specs.Str.{valid_up_to};
 ghost use Rattle.sexpr_read.specs.Tree.{Tree, levels};
-ghost use Rattle.sexpr_read.specs.declared.bytes.Class.TheVariants.{Open};
+ghost use Rattle.sexpr_read.specs.declared.bytes.ByteClass.TheVariants.{Open};
 ghost use Rattle.sexpr_read.specs.Bytes.{sign_of};
 ghost use Rattle.sexpr_read.specs.Comments.{shown, signs};
 ghost use Rattle.sexpr_read.specs.Spelling.{IsGap, Spells, SpellsAll};
 ghost use Rattle.sexpr_read.specs.Refusals.{outside, is_blank_before, whole_fault, refusal_of_one, refusal_of_all, IsOfForms};
-ghost use Rattle.sexpr_read.specs.Runs.{Stands, outer_levels, IsInLine, IsRead};
+ghost use Rattle.sexpr_read.specs.Runs.{Stands, outer_levels, IsInLine, TreesAreRead};
 ghost use Rattle.sexpr_read.specs.Views.{root_of};
 
 use crate::arena::Arena;
-use crate::bytes::{Class, sign_at};
+use crate::bytes::{ByteClass, sign_at};
 use crate::comments::skip;
 use crate::place::{Span, TextError};
 use crate::room::about_cells;
@@ -30,7 +30,7 @@ fn read_forest(text: &[u8], from: usize, one: bool, arena: &mut Arena) -> Result
     requires stands { Stands one (signs one text.now) from (outside (outer_levels one)) }
     requires empty { arena.old.cells.items ≡ [] }
     requires closed { arena.old.innermost ≡ 0 }
-    ensures ok { IfOk result (λ stop. IsRead one text.now from stop arena.new.cells.items) }
+    ensures ok { IfOk result (λ stop. TreesAreRead one text.now from stop arena.new.cells.items) }
     ensures err { IfErr result (λ e. (e ≡ TextError.OutOfMemory)
         ⊎ (whole_fault one (signs one text.now) (length text.now) ≡ Some e)) }
 {
@@ -38,8 +38,8 @@ fn read_forest(text: &[u8], from: usize, one: bool, arena: &mut Arena) -> Result
     let mut depth: u32 = if one { 1 } else { 0 };
     'trees: while at < text.len() {
         match sign_at(text, at) {
-            Class::Space => at = skip(text, at, one, false),
-            Class::Open => {
+            ByteClass::Space => at = skip(text, at, one, false),
+            ByteClass::Open => {
                 if depth == MOST_LEVELS {
                     return Err(TextError::TooDeep { at: at as u32 });
                 }
@@ -47,7 +47,7 @@ fn read_forest(text: &[u8], from: usize, one: bool, arena: &mut Arena) -> Result
                 depth += 1;
                 at += 1;
             }
-            Class::Close => {
+            ByteClass::Close => {
                 if arena.is_closed() {
                     return Ok(at);
                 }
@@ -55,7 +55,7 @@ fn read_forest(text: &[u8], from: usize, one: bool, arena: &mut Arena) -> Result
                 depth -= 1;
                 at += 1;
             }
-            Class::Quote => {
+            ByteClass::Quote => {
                 let Some(close) = string_end(text, at + 1) else {
                     return Err(TextError::EndInside {
                         at: text.len() as u32,
@@ -64,7 +64,7 @@ fn read_forest(text: &[u8], from: usize, one: bool, arena: &mut Arena) -> Result
                 arena.add_atom(at, close + 1)?;
                 at = close + 1;
             }
-            Class::Backslash | Class::Plain => {
+            ByteClass::Backslash | ByteClass::Plain => {
                 let end = word_end(text, at);
                 arena.add_atom(at, end)?;
                 at = end;
@@ -93,8 +93,8 @@ fn list_start(text: &[u8]) -> Result<usize, TextError>
         return Err(TextError::EmptyText);
     }
     match sign_at(text, at) {
-        Class::Open => Ok(at),
-        Class::Close => Err(TextError::CloseWithoutOpen { at: at as u32 }),
+        ByteClass::Open => Ok(at),
+        ByteClass::Close => Err(TextError::CloseWithoutOpen { at: at as u32 }),
         _ => Err(TextError::ExtraText { at: at as u32 }),
     }
 }
@@ -113,7 +113,7 @@ fn check_rest(text: &[u8], end: usize) -> Result<(), TextError>
         return Ok(());
     }
     match sign_at(text, at) {
-        Class::Close => Err(TextError::CloseWithoutOpen { at: at as u32 }),
+        ByteClass::Close => Err(TextError::CloseWithoutOpen { at: at as u32 }),
         _ => Err(TextError::ExtraText { at: at as u32 }),
     }
 }

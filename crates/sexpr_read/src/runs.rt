@@ -1,10 +1,10 @@
 ghost use Rattle.std.specs.Prelude.{◌≡◌, ◌≢◌, ◌<◌, ◌≤◌, length, true, false, MatchOption, ⊤};
-ghost use Rattle.sexpr_read.specs.declared.bytes.Class.TheVariants.{Space, Quote, Open};
+ghost use Rattle.sexpr_read.specs.declared.bytes.ByteClass.TheVariants.{Space, Quote, Open};
 ghost use Rattle.sexpr_read.specs.Bytes.{sign_of, is_word};
 ghost use Rattle.sexpr_read.specs.Spelling.{IsGap, IsWord, IsContent};
 ghost use Rattle.sexpr_read.specs.Runs.{IsUnclosed};
 
-use crate::bytes::{Class, sign_at};
+use crate::bytes::{ByteClass, sign_at};
 
 /// Where the space from `at` on ends.
 #[inline(always)]
@@ -17,7 +17,7 @@ pub fn gap_end(text: &[u8], at: usize) -> usize
     let mut end = at;
     while end < text.len() {
         match sign_at(text, end) {
-            Class::Space => end += 1,
+            ByteClass::Space => end += 1,
             _ => return end,
         }
     }
@@ -34,7 +34,7 @@ pub fn word_end(text: &[u8], at: usize) -> usize
     let mut end = at + 1;
     while end < text.len() {
         match sign_at(text, end) {
-            Class::Backslash | Class::Plain => end += 1,
+            ByteClass::Backslash | ByteClass::Plain => end += 1,
             _ => return end,
         }
     }
@@ -52,8 +52,8 @@ pub fn string_end(text: &[u8], at: usize) -> Option<usize>
     let mut end = at;
     while end < text.len() {
         match sign_at(text, end) {
-            Class::Quote => return Some(end),
-            Class::Backslash => {
+            ByteClass::Quote => return Some(end),
+            ByteClass::Backslash => {
                 if end + 1 == text.len() {
                     return None;
                 }

@@ -1,10 +1,10 @@
 ghost use Rattle.std.specs.Prelude.{◌≡◌, ◌↔◌, IsTrue};
 ghost use Rattle.std.proofs.Props.{props};
-ghost use Rattle.sexpr_read.specs.Cells.{cells_of, forest_of, tree_at, IsPlaced, ArePlaced, ArePlaced-prop};
+ghost use Rattle.sexpr_read.specs.Cells.{cells_of, forest_of, tree_at, LiesInText, ArePlaced, ArePlaced-prop};
 ghost use Rattle.sexpr_read.specs.Texts.{AreTexts, AreTexts-prop, HasTexts, HasTexts-prop};
-ghost use Rattle.sexpr_read.specs.declared.arena.Kind.TheVariants.{List as Nested};
+ghost use Rattle.sexpr_read.specs.declared.arena.TreeKind.TheVariants.{List as Nested};
 
-use crate::arena::{Cell, Kind, kind_of};
+use crate::arena::{Cell, TreeKind, kind_of};
 use crate::bytes::sign_at;
 use crate::decode::{append_unescaped, ends_plain, ends_unescaped, is_unescaped};
 use crate::place::Span;
@@ -16,7 +16,7 @@ pub struct Doc<'t> {
     pub(crate) text: &'t [u8],
     pub(crate) span: Span,
     pub(crate) cells: Vec<Cell>,
-    ghost placed: { IsPlaced text.now Nested span.at span.end },
+    ghost placed: { LiesInText text.now Nested span.at span.end },
     ghost whole: { cells_of (forest_of text.now cells.items) ≡ cells.items } by { Prim.hlevel props },
     ghost each_placed: { ArePlaced text.now cells.items } by { ArePlaced-prop text.now cells.items },
     ghost texts: { AreTexts (forest_of text.now cells.items) } by { AreTexts-prop (forest_of text.now cells.items) },
@@ -33,7 +33,7 @@ impl<'t> Doc<'t> {
     {
         Node {
             text: self.text,
-            kind: Kind::List,
+            kind: TreeKind::List,
             span: self.span,
             cells: self.cells.as_slice(),
         }
@@ -44,10 +44,10 @@ impl<'t> Doc<'t> {
 #[derive(Clone, Copy)]
 pub struct Node<'d, 't> {
     pub(crate) text: &'t [u8],
-    pub(crate) kind: Kind,
+    pub(crate) kind: TreeKind,
     pub(crate) span: Span,
     pub(crate) cells: &'d [Cell],
-    ghost placed: { IsPlaced text.now kind span.at span.end },
+    ghost placed: { LiesInText text.now kind span.at span.end },
     ghost whole: { cells_of (forest_of text.now cells.now) ≡ cells.now } by { Prim.hlevel props },
     ghost each_placed: { ArePlaced text.now cells.now } by { ArePlaced-prop text.now cells.now },
     ghost texts: { HasTexts (tree_at text.now kind span cells.now) } by { HasTexts-prop (tree_at text.now kind span cells.now) },
@@ -65,8 +65,8 @@ impl<'d, 't> Node<'d, 't> {
         ensures { result ≡ is_list (tree_of self.entry) }
     {
         match self.kind {
-            Kind::List => true,
-            Kind::Word | Kind::String => false,
+            TreeKind::List => true,
+            TreeKind::Word | TreeKind::String => false,
         }
     }
 
@@ -78,9 +78,9 @@ impl<'d, 't> Node<'d, 't> {
         let at = self.span.at as usize;
         let end = self.span.end as usize;
         match self.kind {
-            Kind::Word => Some(&self.text[at..end]),
-            Kind::String => Some(&self.text[at + 1..end - 1]),
-            Kind::List => None,
+            TreeKind::Word => Some(&self.text[at..end]),
+            TreeKind::String => Some(&self.text[at + 1..end - 1]),
+            TreeKind::List => None,
         }
     }
 
@@ -89,8 +89,8 @@ impl<'d, 't> Node<'d, 't> {
         ensures { result ≡ quoted (tree_of self.entry) }
     {
         match self.kind {
-            Kind::String => true,
-            Kind::Word | Kind::List => false,
+            TreeKind::String => true,
+            TreeKind::Word | TreeKind::List => false,
         }
     }
 
@@ -107,7 +107,7 @@ impl<'d, 't> Node<'d, 't> {
         ensures given { trees_left result ≡ parts (tree_of self.entry) }
         ensures fits { length (trees_left result) < 2 ^ 64 }
     {
-        if let Kind::List = self.kind {
+        if let TreeKind::List = self.kind {
             return Children {
                 text: self.text,
                 cells: self.cells,
@@ -127,8 +127,8 @@ impl<'d, 't> Node<'d, 't> {
         match self.atom() {
             None => false,
             Some(content) => match self.kind {
-                Kind::String => is_unescaped(content, text),
-                Kind::Word | Kind::List => is_same(content, text),
+                TreeKind::String => is_unescaped(content, text),
+                TreeKind::Word | TreeKind::List => is_same(content, text),
             },
         }
     }
@@ -140,8 +140,8 @@ impl<'d, 't> Node<'d, 't> {
         match self.atom() {
             None => tail.is_empty(),
             Some(content) => match self.kind {
-                Kind::String => ends_unescaped(content, tail),
-                Kind::Word | Kind::List => ends_plain(content, tail),
+                TreeKind::String => ends_unescaped(content, tail),
+                TreeKind::Word | TreeKind::List => ends_plain(content, tail),
             },
         }
     }
@@ -152,8 +152,8 @@ impl<'d, 't> Node<'d, 't> {
         ensures utf8 { IfSome result (λ word. IsUtf8 word.now) }
     {
         match self.kind {
-            Kind::Word => self.atom(),
-            Kind::String | Kind::List => None,
+            TreeKind::Word => self.atom(),
+            TreeKind::String | TreeKind::List => None,
         }
     }
 
@@ -166,8 +166,8 @@ impl<'d, 't> Node<'d, 't> {
         match self.atom() {
             None => Ok(()),
             Some(content) => match self.kind {
-                Kind::String => append_unescaped(out, content),
-                Kind::Word | Kind::List => out.extend_from_slice(content),
+                TreeKind::String => append_unescaped(out, content),
+                TreeKind::Word | TreeKind::List => out.extend_from_slice(content),
             },
         }
     }

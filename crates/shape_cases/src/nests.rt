@@ -4,7 +4,7 @@
 //! its group, x and y. A link has three: the places of its two anchors in the list, from 0, and the square of its length.
 
 ghost use Rattle.std.specs.Prelude.{◌<◌, ◌^◌, length, IsTrue};
-ghost use Rattle.ratsnest.specs.NestOf.{Rise, GroupsOccur};
+ghost use Rattle.ratsnest.specs.NestOf.{AnchorsRise, GroupsOccur};
 
 use case_lines::{Fault, add, parts_of, small, told};
 use ratsnest::{Anchor, Link, Links, Nest, check_nest, have_nest, nest};
@@ -95,7 +95,7 @@ fn shown(alloc: Global, links: &[Link]) -> Result<Vec<u8>, Fault> {
 }
 
 fn is_list(anchors: &[Anchor]) -> bool
-    ensures rise { IsTrue result → Rise anchors.now }
+    ensures rise { IsTrue result → AnchorsRise anchors.now }
     ensures occur { IsTrue result → GroupsOccur anchors.now }
     ensures few { IsTrue result → length anchors.now < 2 ^ 32 }
 {

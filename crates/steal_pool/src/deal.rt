@@ -5,7 +5,7 @@ ghost use Rattle.std.specs.Vec.{vec_len, vec_capacity};
 ghost use Rattle.claim_board.specs.DealMachine.{sum_below};
 ghost use Rattle.steal_pool.specs.Seats.{AreOwners, AreLines, AreUnused, pushed_by, taken_by, taken_with};
 
-use crate::rule::{Line, Other, Own, Part, Puts, Takes};
+use crate::rule::{Line, Other, Own, Puts, Share, Takes};
 use std::alloc::{AllocError, Global};
 
 // A deque for each worker. Each begins with `room` slots.
@@ -62,7 +62,7 @@ pub(crate) fn lines_of(
 {
     let mut lines = Vec::with_capacity(alloc, others.len())?;
     for at in 0..others.len() {
-        let ticket = owners[at].another::<Part>();
+        let ticket = owners[at].another::<Share>();
         lines.push_reserved(Line { deque: at, ticket });
     }
     Ok(lines)
@@ -84,7 +84,7 @@ pub(crate) fn give_back(
     ensures taken { (h : ℕ → ℕ) → taken_by h owners.new ≡ taken_by h owners.old + taken_with h lines.items }
 {
     while let Some(line) = lines.pop() {
-        owners[lines.len()].absorb::<Part>(line.ticket);
+        owners[lines.len()].absorb::<Share>(line.ticket);
     }
 }
 

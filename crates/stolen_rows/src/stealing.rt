@@ -3,7 +3,7 @@
 ghost use Rattle.std.specs.Prelude.{◌<◌, ◌≤◌, length, IfOk};
 ghost use Rattle.std.specs.List.{AllZip};
 ghost use Rattle.std.specs.List.Sorted.{IsStrictlyIncreasing};
-ghost use Rattle.pair_check.specs.Views.{checked_by, IsWhole};
+ghost use Rattle.pair_check.specs.Views.{checked_by, IsWholeView};
 ghost use Rattle.row_check.specs.Tiles.{IsIndexOf, AreRowsOfTile};
 
 use kept_rows::TileRows;
@@ -23,7 +23,7 @@ pub(crate) fn steal_tiles<R: Threads + Sync, G: Gate>(
     gate: &G,
 ) -> Result<Vec<TileRows>, AllocError>
     requires workers { (0 < workers) × (workers ≤ 64) }
-    requires view { IsWhole work.view }
+    requires view { IsWholeView work.view }
     requires index { IsIndexOf (checked_by work.view) work.index.now }
     requires changed { IsStrictlyIncreasing work.changed.now }
     requires few { length work.tiles.now ≤ 15625 }

@@ -1,7 +1,7 @@
 //! All rows of a board.
 
 ghost use Rattle.std.specs.Prelude.{◌<◌, ◌≤◌, IfOk};
-ghost use Rattle.pair_check.specs.Views.{checked_by, IsWhole};
+ghost use Rattle.pair_check.specs.Views.{checked_by, IsWholeView};
 ghost use Rattle.pair_check.specs.Rows.{AreRows};
 ghost use Rattle.row_check.specs.Tiles.{IsIndexOf};
 ghost use Rattle.stolen_rows.specs.Unruled.{unruled};
@@ -29,7 +29,7 @@ fn steal_all<R: Threads + Sync, G: Gate>(
     gate: &G,
 ) -> Result<Vec<Row>, AllocError>
     requires workers { (0 < workers) × (workers ≤ 64) }
-    requires view { IsWhole view }
+    requires view { IsWholeView view }
     requires index { IsIndexOf (checked_by view) index.now }
     ensures { IfOk result (λ rows. AreRows (checked_by view.entry) rows.items) }
 {

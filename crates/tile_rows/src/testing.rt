@@ -4,7 +4,7 @@ ghost use Rattle.std.specs.Prelude.{◌≡◌, ◌<◌, ◌≤◌, length, IfOk}
 ghost use Rattle.std.specs.List.{AllZip};
 ghost use Rattle.std.specs.List.Sorted.{IsStrictlyIncreasing};
 ghost use Rattle.claim_board.specs.Views.{dealt_tiles, dealt_seats};
-ghost use Rattle.pair_check.specs.Views.{checked_by, IsWhole};
+ghost use Rattle.pair_check.specs.Views.{checked_by, IsWholeView};
 ghost use Rattle.row_check.specs.Tiles.{IsIndexOf, AreRowsOfTile};
 
 use crate::work::Tiles;
@@ -24,7 +24,7 @@ pub fn test_tiles<R: Threads + Sync, G: Gate>(
     gate: &G,
 ) -> Result<(Vec<TileRows>, Dealt), AllocError>
     requires workers { (0 < workers) × (workers ≤ 64) }
-    requires view { IsWhole work.view }
+    requires view { IsWholeView work.view }
     requires index { IsIndexOf (checked_by work.view) work.index.now }
     requires changed { IsStrictlyIncreasing work.changed.now }
     requires few { length work.tiles.now ≤ 15625 }

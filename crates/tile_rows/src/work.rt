@@ -2,7 +2,7 @@
 
 ghost use Rattle.std.specs.Prelude.{◌≡◌, ◌<◌, IfOk};
 ghost use Rattle.std.specs.List.Sorted.{IsStrictlyIncreasing};
-ghost use Rattle.pair_check.specs.Views.{checked_by, IsWhole};
+ghost use Rattle.pair_check.specs.Views.{checked_by, IsWholeView};
 ghost use Rattle.row_check.specs.Tiles.{IsIndexOf, AreRowsOfTile};
 
 use box_index::TileIndex;
@@ -36,7 +36,7 @@ fn rows_counted<L: Ledger>(
     requires name { blank.name ≡ L.name }
     requires parts { blank.parts ≡ L.parts }
     requires some { 0 < blank.parts }
-    requires view { IsWhole view.now }
+    requires view { IsWholeView view.now }
     requires index { IsIndexOf (checked_by view.now) index.now }
     requires changed { IsStrictlyIncreasing changed.now }
     ensures { IfOk result (λ rows. AreRowsOfTile (checked_by view.now) index.now tile changed.now rows.items) }
@@ -53,7 +53,7 @@ fn rows_of_tile(
     tile: u32,
     changed: &[u32],
 ) -> Result<TileRows, AllocError>
-    requires view { IsWhole view.now }
+    requires view { IsWholeView view.now }
     requires index { IsIndexOf (checked_by view.now) index.now }
     requires changed { IsStrictlyIncreasing changed.now }
     ensures { IfOk result (AreRowsOfTile (checked_by view.now) index.now tile changed.now) }
@@ -67,11 +67,11 @@ impl<'a> TileWork for Tiles<'a> {
 
     ghost use Rattle.std.specs.Prelude.{length};
     ghost use Rattle.std.specs.List.Sorted.{IsStrictlyIncreasing};
-    ghost use Rattle.pair_check.specs.Views.{checked_by, IsWhole};
+    ghost use Rattle.pair_check.specs.Views.{checked_by, IsWholeView};
     ghost use Rattle.row_check.specs.Tiles.{IsIndexOf};
     ghost use Rattle.tile_rows.specs.Work.{AreRowsAt};
 
-    ghost ready = { λ work. IsWhole work.view × IsIndexOf (checked_by work.view) work.index.now × IsStrictlyIncreasing work.changed.now };
+    ghost ready = { λ work. IsWholeView work.view × IsIndexOf (checked_by work.view) work.index.now × IsStrictlyIncreasing work.changed.now };
 
     ghost count = { λ work. length work.tiles.now };
 

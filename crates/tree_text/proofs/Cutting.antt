@@ -4,8 +4,8 @@ use Rattle.std.specs.Prelude.{slice_range, if◌then◌else◌}
 use Rattle.std.proofs.lemmas.Bool.{eqb-true}
 use Rattle.std.proofs.Math.Seq.{drop-cons}
 use Rattle.sexpr_read.specs.declared.place.Span.{Span}
-use Rattle.sexpr_read.specs.declared.bytes.Class.{Class}
-use Rattle.sexpr_read.specs.declared.bytes.Class.TheVariants.{Space, Open, Close, Quote, Backslash, Plain}
+use Rattle.sexpr_read.specs.declared.bytes.ByteClass.{ByteClass}
+use Rattle.sexpr_read.specs.declared.bytes.ByteClass.TheVariants.{Space, Open, Close, Quote, Backslash, Plain}
 use Rattle.sexpr_read.specs.Bytes.{class_of, sign_of, is_word, is_itself}
 use Rattle.sexpr_read.specs.Tree.{Forest, none, atom, list}
 use Rattle.sexpr_read.specs.Spelling.{IsGap, IsWord, IsContent, empty, itself, escape, IsAtom, SpellsForest}
@@ -106,7 +106,7 @@ apart_after t a b o h w = by_size (b - a) refl
     by_size (suc n) e = subst IsApart (sym (slice_first t a b (omega arith) h)) (ap is_word (sym (sign_at t a)) ∙ w)
 
 -- the byte of a bracket or a quote is known by its class
-by_tests : Bool → Bool → Bool → Bool → Bool → Class
+by_tests : Bool → Bool → Bool → Bool → Bool → ByteClass
 by_tests s p q r u = if s then Space else (if p then Open else (if q then Close else (if r then Quote else (if u then Backslash else Plain))))
 
 open_test : (s p q r u : Bool) → by_tests s p q r u ≡ Open → p ≡ true
@@ -154,7 +154,7 @@ quote_byte b e = eqb-true b 34 (quote_test (b == 0x20 || b == 0x09 || b == 0x0A 
 pub slice_of_byte : (t : List ℕ) (a b x : ℕ) → a < b → b ≤ length t → get_or t a 32 ≡ x → slice_range t a b ≡ x ∷ slice_range t (suc a) b
 slice_of_byte t a b x h k e = slice_first t a b h k ∙ ap (λ y. y ∷ slice_range t (suc a) b) e
 
-pub byte_at : (t : List ℕ) (a : ℕ) (c : Class) (x : ℕ) → sign_of t a ≡ c → ((b : ℕ) → class_of b ≡ c → b ≡ x) → get_or t a 32 ≡ x
+pub byte_at : (t : List ℕ) (a : ℕ) (c : ByteClass) (x : ℕ) → sign_of t a ≡ c → ((b : ℕ) → class_of b ≡ c → b ≡ x) → get_or t a 32 ≡ x
 byte_at t a c x e known = known (get_or t a 32) (sym (sign_at t a) ∙ e)
 
 pub cut_atom : (t : List ℕ) (s : Span) (q : Bool) (x : List ℕ) → s.end ≤ length t → IsAtom (sign_of t) t s q x → slice_range t s.at s.end ≡ written q x

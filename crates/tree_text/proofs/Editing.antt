@@ -2,8 +2,8 @@
 use Rattle.std.proofs.Common.{◌≡◌, ◌∙◌, refl, sym, ap, subst, ℕ, suc, ◌+◌, ◌-◌, ◌<◌, ◌≤◌, arith, Bool, true, false, List, [], ◌∷◌, ◌++◌, length, append_assoc}
 use Rattle.std.specs.Prelude.{slice_range}
 use Rattle.sexpr_read.specs.declared.place.Span.{Span}
-use Rattle.sexpr_read.specs.declared.bytes.Class.{Class}
-use Rattle.sexpr_read.specs.declared.bytes.Class.TheVariants.{Space, Open, Close, Quote}
+use Rattle.sexpr_read.specs.declared.bytes.ByteClass.{ByteClass}
+use Rattle.sexpr_read.specs.declared.bytes.ByteClass.TheVariants.{Space, Open, Close, Quote}
 use Rattle.sexpr_read.specs.Bytes.{class_of, sign_of, is_word}
 use Rattle.sexpr_read.specs.Tree.{Forest, none, atom, list}
 use Rattle.sexpr_read.specs.Spelling.{IsAtom, SpellsForest}
@@ -40,7 +40,7 @@ pub record WritesLists (bytes : List ℕ) (lists : List Forest) : Type 0 where
 no_span : Span
 no_span = record { at = 0; end = 0 }
 
-both_ways : (c : Class) → is_word c ≡ true → is_word c ≡ false → ⊥
+both_ways : (c : ByteClass) → is_word c ≡ true → is_word c ≡ false → ⊥
 both_ways c h k = let e : true ≡ false = sym h ∙ k in cc
 
 head_same : {a b : ℕ} {x y : List ℕ} → a ∷ x ≡ b ∷ y → a ≡ b
@@ -49,7 +49,7 @@ head_same h = cc
 tail_same : {a b : ℕ} {x y : List ℕ} → a ∷ x ≡ b ∷ y → x ≡ y
 tail_same h = cc
 
-begins_with : (b x : ℕ) (c : Class) → b ≡ x → class_of x ≡ c → is_word c ≡ false → is_word (class_of b) ≡ false
+begins_with : (b x : ℕ) (c : ByteClass) → b ≡ x → class_of x ≡ c → is_word c ≡ false → is_word (class_of b) ≡ false
 begins_with b x c e k w = ap (λ y. is_word (class_of y)) e ∙ ap is_word k ∙ w
 
 space_no_word : (b : ℕ) → class_of b ≡ Space → is_word (class_of b) ≡ false

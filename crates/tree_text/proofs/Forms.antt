@@ -5,8 +5,8 @@ use Rattle.std.proofs.lemmas.Bool.{eqb-true}
 use Rattle.std.proofs.lemmas.List.{get_or_default}
 use Rattle.std.proofs.lemmas.Str.{IsUtf8-between, IsCharBoundary-start, IsCharBoundary-before_ascii, IsCharBoundary-after_ascii}
 use Rattle.sexpr_read.specs.declared.place.Span.{Span}
-use Rattle.sexpr_read.specs.declared.bytes.Class.{Class}
-use Rattle.sexpr_read.specs.declared.bytes.Class.TheVariants.{Space, Open, Close, Quote, Backslash, Plain}
+use Rattle.sexpr_read.specs.declared.bytes.ByteClass.{ByteClass}
+use Rattle.sexpr_read.specs.declared.bytes.ByteClass.TheVariants.{Space, Open, Close, Quote, Backslash, Plain}
 use Rattle.sexpr_read.specs.Bytes.{sign_of, is_word, is_itself}
 use Rattle.sexpr_read.specs.Comments.{Line, fresh, begun, quoting, escaping, comment, line_beyond, line_at, is_passed, shown}
 use Rattle.sexpr_read.specs.Tree.{Forest, none, atom, list, branch}
@@ -42,7 +42,7 @@ fresh_comment : (x : Bool) → IsOutside (if x then fresh else comment)
 fresh_comment true = at_fresh
 fresh_comment false = at_comment
 
-comment_next : (b : ℕ) (c : Class) → IsOutside (line_beyond b c comment)
+comment_next : (b : ℕ) (c : ByteClass) → IsOutside (line_beyond b c comment)
 comment_next b Space = fresh_comment (b == 0x0A)
 comment_next b Plain = at_comment
 comment_next b Quote = at_comment
@@ -50,7 +50,7 @@ comment_next b Open = at_comment
 comment_next b Close = at_comment
 comment_next b Backslash = at_comment
 
-begun_next : (b : ℕ) (c : Class) → (c ≡ Quote → ⊥) → IsOutside (line_beyond b c begun)
+begun_next : (b : ℕ) (c : ByteClass) → (c ≡ Quote → ⊥) → IsOutside (line_beyond b c begun)
 begun_next b Space h = fresh_or (b == 0x0A)
 begun_next b Plain h = at_begun
 begun_next b Quote h = absurd (h refl)
@@ -58,7 +58,7 @@ begun_next b Open h = at_begun
 begun_next b Close h = at_begun
 begun_next b Backslash h = at_begun
 
-fresh_next : (b : ℕ) (c : Class) → (c ≡ Quote → ⊥) → IsOutside (line_beyond b c fresh)
+fresh_next : (b : ℕ) (c : ByteClass) → (c ≡ Quote → ⊥) → IsOutside (line_beyond b c fresh)
 fresh_next b Space h = begun_or (b == 0x0D)
 fresh_next b Plain h = comment_or (b == 0x23)
 fresh_next b Quote h = absurd (h refl)
@@ -121,10 +121,10 @@ module _ (text : List ℕ) where
   }
 
   -- words
-  word_no_space : (c : Class) → is_word c ≡ true → c ≡ Space → ⊥
+  word_no_space : (c : ByteClass) → is_word c ≡ true → c ≡ Space → ⊥
   word_no_space c w e = let k : is_word Space ≡ true = rw e at w in cc
 
-  begun_word : (b : ℕ) (c : Class) → is_word c ≡ true → line_beyond b c begun ≡ begun
+  begun_word : (b : ℕ) (c : ByteClass) → is_word c ≡ true → line_beyond b c begun ≡ begun
   begun_word b Plain w = refl
   begun_word b Backslash w = refl
   begun_word b Space w = cc
@@ -132,7 +132,7 @@ module _ (text : List ℕ) where
   begun_word b Close w = cc
   begun_word b Quote w = cc
 
-  fresh_word : (b : ℕ) (c : Class) → is_word c ≡ true → (b == 0x23) ≡ false → line_beyond b c fresh ≡ begun
+  fresh_word : (b : ℕ) (c : ByteClass) → is_word c ≡ true → (b == 0x23) ≡ false → line_beyond b c fresh ≡ begun
   fresh_word b Plain w e = rw e refl
   fresh_word b Backslash w e = refl
   fresh_word b Space w e = cc
@@ -161,7 +161,7 @@ module _ (text : List ℕ) where
       (record { ordered = o; each = each; longest = ap is_word (sym (begun_sign text b last)) ∙ w.longest }, last)
 
   -- strings
-  itself_quoting : (b : ℕ) (c : Class) → is_itself c ≡ true → line_beyond b c quoting ≡ quoting
+  itself_quoting : (b : ℕ) (c : ByteClass) → is_itself c ≡ true → line_beyond b c quoting ≡ quoting
   itself_quoting b Plain w = refl
   itself_quoting b Space w = refl
   itself_quoting b Open w = refl
@@ -189,7 +189,7 @@ module _ (text : List ℕ) where
       let closes : sign_of text s.close ≡ Quote = sym (quoting_sign text s.close inner.1) ∙ s.closes in
       (record { opens = opens; close = s.close; ends = s.ends; inside = inner.0; closes = closes }, rw (s.ends, line_next text s.close, inner.1, closes) refl)
 
-  bracket_there : (p : ℕ) (c : Class) → shown text p ≡ c → (c ≡ Space → ⊥) → IsOutside (line_at text p) → (sign_of text p ≡ c) × IsPlain text p
+  bracket_there : (p : ℕ) (c : ByteClass) → shown text p ≡ c → (c ≡ Space → ⊥) → IsOutside (line_at text p) → (sign_of text p ≡ c) × IsPlain text p
   bracket_there p c e s h = let k = λ (z : shown text p ≡ Space). s (sym e ∙ z) in (sign_shown false text p k ∙ e, is_plain p k h)
 
   outside_begun : (p : ℕ) → line_at text p ≡ begun → IsOutside (line_at text p)

@@ -4,7 +4,7 @@ use Rattle.std.proofs.Math.Seq.{drop-append_seam, take-append_seam}
 use Rattle.std.proofs.lemmas.Bool.{cases_lt}
 use Rattle.std.proofs.lemmas.Bool.Decides.{nat_tests}
 use Rattle.std.proofs.lemmas.Str.{IsUtf8-append, IsUtf8-nil, IsUtf8-from_ascii, IsUtf8-take, IsUtf8-drop, IsCharBoundary-before_ascii, IsCharBoundary-after_ascii}
-use Rattle.sexpr_read.specs.declared.bytes.Class.TheVariants.{Space, Plain}
+use Rattle.sexpr_read.specs.declared.bytes.ByteClass.TheVariants.{Space, Plain}
 use Rattle.sexpr_read.specs.Bytes.{class_of, is_word}
 use Rattle.sexpr_read.specs.Tree.{Forest, none, atom, list}
 use Rattle.tree_text.specs.Pieces.{IsBlank, written, MayFollow, Writes}

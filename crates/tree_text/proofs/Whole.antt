@@ -4,7 +4,7 @@ use Rattle.std.specs.Prelude.{slice_range}
 use Rattle.std.proofs.Common.{take_all}
 use Rattle.std.proofs.lemmas.Str.{IsUtf8-append, IsUtf8-nil}
 use Rattle.sexpr_read.specs.declared.place.Span.{Span}
-use Rattle.sexpr_read.specs.declared.bytes.Class.TheVariants.{Open, Close}
+use Rattle.sexpr_read.specs.declared.bytes.ByteClass.TheVariants.{Open, Close}
 use Rattle.sexpr_read.specs.Bytes.{sign_of}
 use Rattle.sexpr_read.specs.Tree.{Forest, none, atom, list, branch, levels_in}
 use Rattle.sexpr_read.specs.Spelling.{SpellsForest, Spells}

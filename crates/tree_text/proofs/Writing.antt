@@ -2,7 +2,7 @@
 use Rattle.std.proofs.Common.{◌≡◌, ◌∙◌, refl, sym, ap, subst, ℕ, suc, ◌+◌, ◌-◌, ◌<◌, ◌≤◌, arith, Bool, true, false, List, [], ◌∷◌, ◌++◌, length}
 use Rattle.std.specs.Prelude.{slice_range}
 use Rattle.sexpr_read.specs.declared.place.Span.{Span}
-use Rattle.sexpr_read.specs.declared.bytes.Class.TheVariants.{Space}
+use Rattle.sexpr_read.specs.declared.bytes.ByteClass.TheVariants.{Space}
 use Rattle.sexpr_read.specs.Bytes.{class_of, sign_of, is_word}
 use Rattle.sexpr_read.specs.Tree.{Forest, none, atom, list}
 use Rattle.sexpr_read.specs.Spelling.{IsAtom, SpellsForest}

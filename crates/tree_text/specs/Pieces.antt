@@ -1,6 +1,6 @@
 -- Which trees a piece of text spells, by its bytes alone: places play no part in it.
 use Rattle.std.specs.Prelude.{◌≡◌, ℕ, Bool, true, false, List, [], ◌∷◌, ◌++◌, ⊤}
-use Rattle.sexpr_read.specs.declared.bytes.Class.TheVariants.{Space, Backslash}
+use Rattle.sexpr_read.specs.declared.bytes.ByteClass.TheVariants.{Space, Backslash}
 use Rattle.sexpr_read.specs.Bytes.{class_of, is_word, is_itself}
 use Rattle.sexpr_read.specs.Tree.{Forest, none, atom, list}
 

@@ -10,7 +10,7 @@ use Rattle.rule_pick.specs.declared.facts.Facts.{Facts}
 use Rattle.rule_pick.specs.FactsOf.{class_of_net, AreFactsOf}
 use Rattle.pair_check.specs.PlainRow.{PlainRow}
 use Rattle.pair_check.specs.Rows.{Checked, Stands, IsRow, AreRows}
-use Rattle.net_groups.specs.NetParts.{NetPart, IsPartOf, AreParts, real_nets}
+use Rattle.net_groups.specs.NetParts.{PlainNetPart, IsNetPart, AreParts, real_nets}
 use Rattle.drc_state.specs.States.{State, checked_in}
 use Rattle.drc_state.specs.Changes.{returned}
 use Rattle.drc_session.specs.Sessions.{PlainSession, IsChecked}
@@ -74,17 +74,17 @@ rows_on b classes rules id unit rows h = record {
   all = λ row is_row. h.all row (row_on (numbered b id unit) classes rules b.next_id b.next_unit row is_row);
 }
 
-part_on : (b : PlainBoard) (id unit net : ℕ) (part : NetPart) → IsPartOf b net part → IsPartOf (numbered b id unit) net part
+part_on : (b : PlainBoard) (id unit net : ℕ) (part : PlainNetPart) → IsNetPart b net part → IsNetPart (numbered b id unit) net part
 part_on b id unit net part h = record { number = h.number; groups = h.groups; anchors = h.anchors; links = h.links }
 
-parts_on : (b : PlainBoard) (id unit : ℕ) (nets : List ℕ) (parts : List NetPart) → AllZip (IsPartOf b) nets parts → AllZip (IsPartOf (numbered b id unit)) nets parts
+parts_on : (b : PlainBoard) (id unit : ℕ) (nets : List ℕ) (parts : List PlainNetPart) → AllZip (IsNetPart b) nets parts → AllZip (IsNetPart (numbered b id unit)) nets parts
 parts_on b id unit [] [] h = tt
 parts_on b id unit [] (part ∷ parts) h = absurd h
 parts_on b id unit (net ∷ nets) [] h = absurd h
 parts_on b id unit (net ∷ nets) (part ∷ parts) h = (part_on b id unit net part h.0, parts_on b id unit nets parts h.1)
 
 module _ (one_list : (c : Checked) (a b : List PlainRow) → AreRows c a → AreRows c b → a ≡ b)
-    (one_list_of_parts : (board : PlainBoard) (parts others : List NetPart) → AreParts board parts → AreParts board others → parts ≡ others) where
+    (one_list_of_parts : (board : PlainBoard) (parts others : List PlainNetPart) → AreParts board parts → AreParts board others → parts ≡ others) where
   pub same_report : (before after : PlainSession) (now : State) → IsChecked before → IsChecked after → after.state ≡ returned before.state now → (after.rows ≡ before.rows) × (after.nets ≡ before.nets)
   same_report before after now was is e = (
     one_list (checked_in (returned s now)) after.rows before.rows (subst (λ (x : State). AreRows (checked_in x) after.rows) e is.rows)

@@ -12,7 +12,7 @@ use Rattle.what_if.specs.Trials.{LeadTo, StopsAt, IsDifference}
 
 -- the session of the trial took the commands: it runs, its rows and nets are those of its state, and beside it stand those that come
 -- and go
-pub record IsTrial (before : State) (commands : List PlainCommand) (trial : Trial) : Type 0 where
+pub record IsTrialOf (before : State) (commands : List PlainCommand) (trial : Trial) : Type 0 where
   pub running : trial.session.stopped ≡ false
   pub led : LeadTo before commands trial.session.state
   pub checked : IsChecked trial.session

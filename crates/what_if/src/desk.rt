@@ -6,7 +6,7 @@ ghost use Rattle.edit_script.specs.Fits.{Fits};
 ghost use Rattle.drc_state.specs.Steps.{Answers};
 ghost use Rattle.drc_state.specs.Changes.{plain_change, LeadsBack};
 ghost use Rattle.what_if.specs.Trials.{IsCount};
-ghost use Rattle.what_if.specs.Tried.{IsTrial, IsRefusedAt};
+ghost use Rattle.what_if.specs.Tried.{IsTrialOf, IsRefusedAt};
 ghost use Rattle.what_if.specs.Desks.{adds};
 
 use crate::error::TrialError;
@@ -169,7 +169,7 @@ impl<'a> Desk<'a> {
         requires workers { (0 < workers) × (workers ≤ 64) }
         requires fits { Fits (plain_command command.now) }
         ensures same { self.new ≡ self.old }
-        ensures tried { IfOk result (λ r. IsTrial self.old.state (plain_command command.now ∷ []) r.0) }
+        ensures tried { IfOk result (λ r. IsTrialOf self.old.state (plain_command command.now ∷ []) r.0) }
         ensures back { IfOk result (λ r. LeadsBack (plain_change r.1) r.0.session.state self.old.state) }
         ensures refused { IfErr result (IsRefusedAt self.old.state (plain_command command.now) 0) }
     {
@@ -195,7 +195,7 @@ impl<'a> Desk<'a> {
         back: Change,
     )
         requires workers { (0 < workers) × (workers ≤ 64) }
-        requires tried { IsTrial self.old.state (plain_command command.now ∷ []) trial }
+        requires tried { IsTrialOf self.old.state (plain_command command.now ∷ []) trial }
         requires back { LeadsBack (plain_change back) trial.session.state self.old.state }
         ensures same { self.new ≡ self.old }
     {

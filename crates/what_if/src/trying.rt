@@ -6,7 +6,7 @@ ghost use Rattle.edit_script.specs.Fits.{Fits};
 ghost use Rattle.drc_state.specs.Steps.{Answers};
 ghost use Rattle.drc_session.specs.Sessions.{IsChecked};
 ghost use Rattle.what_if.specs.Trials.{LeadTo, IsDifference};
-ghost use Rattle.what_if.specs.Tried.{IsTrial, IsRefusal, IsRefusedAt};
+ghost use Rattle.what_if.specs.Tried.{IsTrialOf, IsRefusal, IsRefusedAt};
 
 use crate::difference::rows_missing;
 use crate::error::TrialError;
@@ -123,7 +123,7 @@ pub fn trial<R: Threads + Sync + AllocGlobal, G: Gate>(
     requires running { session.now.stopped ≡ false }
     requires few { length commands.now ≤ 4294967296 }
     requires fit { All Fits (map plain_command commands.now) }
-    ensures tried { IfOk result (IsTrial session.now.state (map plain_command commands.now)) }
+    ensures tried { IfOk result (IsTrialOf session.now.state (map plain_command commands.now)) }
     ensures refused { IfErr result (IsRefusal session.now.state (map plain_command commands.now)) }
 {
     let tried = taken(session, rt, workers, commands, gate)?;

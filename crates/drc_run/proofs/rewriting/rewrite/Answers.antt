@@ -1,5 +1,5 @@
 use Rattle.std.proofs.Common.{◌∙◌, ap, subst, sym, map, ℕ, List}
-use Rattle.drc_io.specs.Files.{IsWhole}
+use Rattle.drc_io.specs.Files.{IsWholeFile}
 use Rattle.edit_script.specs.Commands.{PlainCommand, plain_command}
 use Rattle.board_write.specs.Sources.{IsSource}
 use Rattle.run_words.specs.Calls.{write}
@@ -66,7 +66,7 @@ returns-in-Ok-script_in-clause-ends g c =
     let commands = map plain_command c.in-Ok-script_in.commands.items in
     let accepts = subst (λ (b : List ℕ). ReaderSays Text b (accepted (a_text b))) c.deref.ensures.value c.in-Ok-source_in.ensures.says in
     let first = text_says told (named Text board) text (accepted (a_text text)) c.in-Ok.ensures.whole c.in-Ok.ensures.short accepts in
-    let whole = subst (λ t. IsWhole t script bytes) c.in-Ok.ensures.same c.in-Ok-script_text.ensures.whole in
+    let whole = subst (λ t. IsWholeFile t script bytes) c.in-Ok.ensures.same c.in-Ok-script_text.ensures.whole in
     let reads = subst (λ (b : List ℕ). ReaderSays Script b (accepted (a_script commands))) c.deref-2.ensures.value c.in-Ok-script_in.ensures.says in
     let says = text_says told (named Script script) bytes (accepted (a_script commands)) whole c.in-Ok-script_text.ensures.short reads in
     let of = λ (b : List ℕ) (cs : List PlainCommand). Ends (IsBoardWritten b cs) (IsTextOfOne (IsBoardWritten b cs)) (λ _. ⊥) (g.W.Sink.written c.args.out.now) (g.W.Sink.written c.rewritten.new.out) c.rewritten.result in
@@ -88,7 +88,7 @@ returns-clause-ends g c =
     let stop = c.in-Err-script_in.stop in
     let accepts = subst (λ (b : List ℕ). ReaderSays Text b (accepted (a_text b))) c.deref.ensures.value c.in-Ok-source_in.ensures.says in
     let first = text_says told (named Text board) text (accepted (a_text text)) c.in-Ok.ensures.whole c.in-Ok.ensures.short accepts in
-    let whole = subst (λ t. IsWhole t script bytes) c.in-Ok.ensures.same c.in-Ok-script_text.ensures.whole in
+    let whole = subst (λ t. IsWholeFile t script bytes) c.in-Ok.ensures.same c.in-Ok-script_text.ensures.whole in
     let reads = subst (λ (b : List ℕ). StopsReading Script b stop) c.deref-2.ensures.value c.in-Err-script_in.ensures.says in
     let refused = reading_stops told middle now (named Script script) bytes stop whole c.in-Ok-script_text.ensures.short reads in
     line_ends (write board script) told before now _ _ stop (script_stops told board script before now stop text middle first c.in-Ok.ensures.counts refused) c.write_stop-in-Err-script_in.result

@@ -3,7 +3,7 @@ use Rattle.edit_script.specs.Commands.{plain_command}
 use Rattle.drc_state.specs.Changes.{plain_change, LeadsBack}
 use Rattle.drc_session.specs.Sessions.{PlainSession}
 use Rattle.what_if.specs.Trials.{IsDifference}
-use Rattle.what_if.specs.Tried.{IsTrial as IsTried}
+use Rattle.what_if.specs.Tried.{IsTrialOf}
 use Rattle.drc_run.specs.Reports.{refused_trial, why_edit}
 use Rattle.drc_run.specs.Turns.{or_some, IsTrial, IsTrialText}
 use Rattle.drc_run.proofs.Turning.{taken_by, broken_by, fault_by}
@@ -17,7 +17,7 @@ write_trial-written-requires-clause-differ g c =
 
 pub put_back-requires-clause-tried : goal.put_back-requires-clause-tried
 put_back-requires-clause-tried g c κs within =
-    subst (λ (x : PlainSession). IsTried x.state (plain_command c.args.command.now ∷ []) c.in-Ok.tried) (sym c.trial.ensures.same) c.in-Ok.ensures.tried
+    subst (λ (x : PlainSession). IsTrialOf x.state (plain_command c.args.command.now ∷ []) c.in-Ok.tried) (sym c.trial.ensures.same) c.in-Ok.ensures.tried
 
 pub put_back-requires-clause-back : goal.put_back-requires-clause-back
 put_back-requires-clause-back g c κs within =

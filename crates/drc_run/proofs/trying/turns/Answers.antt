@@ -5,7 +5,7 @@ use Rattle.edit_script.specs.Commands.{PlainCommand, plain_command}
 use Rattle.edit_script.specs.Fits.{Fits}
 use Rattle.drc_session.specs.Sessions.{PlainSession}
 use Rattle.drc_run.specs.Turns.{IsTrial}
-use Rattle.drc_run.specs.Running.{IsTaken, IsBroken, SoFar}
+use Rattle.drc_run.specs.Running.{IsTurnTaken, IsBroken, SoFar}
 use Rattle.drc_run.proofs.Turning.{each_has, more_at, one_longer, more_taken, stopped_at}
 use Rattle.drc_run.proofs.trying.turns.Goals as goal
 
@@ -30,7 +30,7 @@ loop-command-preserved g c =
     let inv = c.loop-command.invariant in
     let so = inv.1 in
     let s = c.args.ground.now.desk.state in
-    let taken = subst (λ (x : PlainSession). IsTaken (IsTrial x.state) (c.loop-command.number + 1) c.loop-command.comes command c.turn.new.comes (g.W.Sink.written c.loop-command.out) (g.W.Sink.written c.turn.new.out)) inv.0.0 c.in_ok-turn.ensures.taken in
+    let taken = subst (λ (x : PlainSession). IsTurnTaken (IsTrial x.state) (c.loop-command.number + 1) c.loop-command.comes command c.turn.new.comes (g.W.Sink.written c.loop-command.out) (g.W.Sink.written c.turn.new.out)) inv.0.0 c.in_ok-turn.ensures.taken in
     let one = more_taken (IsTrial s) false (map plain_command (take k commands)) k c.loop-command.number c.loop-command.comes _ _ _ _ _ so c.turn.new.comes (c.loop-command.number + 1) _ command
     refl taken c.in_ok-turn.ensures.later (one_longer (map plain_command (take k commands)) command k so.reached) in (
       (c.in_ok-turn.ensures.same.0 ∙ inv.0.0, c.in_ok-turn.ensures.same.1 ∙ inv.0.1),

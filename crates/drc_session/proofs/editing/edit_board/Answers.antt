@@ -1,6 +1,6 @@
 use Rattle.std.proofs.Common.{◌∙◌, refl, ℤ, List, sym, subst, false}
 use Rattle.std.proofs.lemmas.List.{with_items_is}
-use Rattle.net_groups.specs.NetParts.{NetPart, AreParts}
+use Rattle.net_groups.specs.NetParts.{PlainNetPart, AreParts}
 use Rattle.plain_types.specs.Lengths.{IsLength}
 use Rattle.rule_text.specs.Views.{plain_rules}
 use Rattle.board_edits.specs.Fitting.{plain_deed}
@@ -63,7 +63,7 @@ returns-clause-kept g c =
       reach = sym c.in_ok-index_anew.ensures.reach;
       in_range = subst (λ (z : ℤ). IsLength z) (as_passed after.result after.ensures.in_range) after.ensures.in_range;
       rows = rows;
-      nets = subst (λ (n : List NetPart). AreParts board n) (sym (with_items_is old.nets c.nets_anew.new.nets (c.nets_anew.auto.nets ∙ c.deref_mut.ensures.len))) nets;
+      nets = subst (λ (n : List PlainNetPart). AreParts board n) (sym (with_items_is old.nets c.nets_anew.new.nets (c.nets_anew.auto.nets ∙ c.deref_mut.ensures.len))) nets;
       few = c.requires.kept.few;
     })
 

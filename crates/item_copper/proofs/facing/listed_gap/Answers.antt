@@ -3,13 +3,13 @@ use Rattle.std.proofs.lemmas.Int.{ints}
 use Rattle.geo_seg.specs.Distances.{Apart}
 use Rattle.board_items.specs.declared.parts.Part.{Part}
 use Rattle.int_algebra.proofs.Scalars.{passed_length}
-use Rattle.item_copper.specs.declared.side.Side.{Side}
+use Rattle.item_copper.specs.declared.side.SomeParts.{SomeParts}
 use Rattle.item_copper.specs.Sides.{is_taken, parts_at}
 use Rattle.item_copper.proofs.Gaps.{gap_start, gap_more, gap_skip, gap_end, gap_same, part_falls}
 use Rattle.item_copper.proofs.facing.listed_gap.Goals.{then-takes, else-takes}
 use Rattle.item_copper.proofs.facing.listed_gap.Goals as goal
 
-abbrev K : Side → Part → ℤ → Type 0
+abbrev K : SomeParts → Part → ℤ → Type 0
 K side part g = All (λ other. Apart part.shape other.shape (pos 2 *ℤ g)) (parts_at side)
 
 pub loop-part-init : goal.loop-part-init

@@ -3,14 +3,14 @@ use Rattle.std.specs.List.{Any}
 use Rattle.geo_seg.proofs.Choices.{surely, surely_not}
 use Rattle.geo_seg.specs.Distances.{Meet}
 use Rattle.board_items.specs.declared.parts.Part.{Part}
-use Rattle.item_copper.specs.declared.side.Side.{Side}
+use Rattle.item_copper.specs.declared.side.SomeParts.{SomeParts}
 use Rattle.item_copper.specs.Sides.{is_taken, parts_at}
 use Rattle.item_copper.proofs.Chosen.{some_chosen, none_chosen, one_more}
 use Rattle.item_copper.proofs.Chosen.{not_false}
 use Rattle.item_copper.proofs.facing.listed_meet.Goals.{else-takes-via-then-takes+else-meets_side, else-takes-via-else-takes}
 use Rattle.item_copper.proofs.facing.listed_meet.Goals as goal
 
-abbrev MeetsSome : Side → Part → Type 0
+abbrev MeetsSome : SomeParts → Part → Type 0
 MeetsSome side part = Any (λ other. Meet part.shape other.shape) (parts_at side)
 
 pub returns-then-meets_side : goal.returns-then-meets_side

@@ -12,10 +12,9 @@ loop-id-preserved c =
     let classes = c.args.classes.now in
     let entry : ℕ × Item = (c.in-Some.id, c.in-Some.item.now) in
     let left = items_left c.next.new.self in
-    let rest = subst (λ (items : List (ℕ × Item)). AreLeft board.items items) c.in-Some.ensures.steps c.loop-id.invariant.2 in
-    let found = subst (λ (items : List (ℕ × Item)). HasFactsSoFar board classes items c.loop-id.all) c.in-Some.ensures.steps c.loop-id.invariant.3 in (
+    let rest = subst (λ (items : List (ℕ × Item)). AreLeft board.items items) c.in-Some.ensures.steps c.loop-id.invariant.1 in
+    let found = subst (λ (items : List (ℕ × Item)). HasFactsSoFar board classes items c.loop-id.all) c.in-Some.ensures.steps c.loop-id.invariant.2 in (
       c.in_ok-facts.ensures.known,
-      c.in_ok-facts.ensures.places,
       next_left board.items entry left rest,
       more_facts board classes entry left rest c.loop-id.all c.insert.new.self found c.in_ok-facts.facts c.in_ok-facts.ensures.facts c.in_ok-insert.ensures.put,
     )

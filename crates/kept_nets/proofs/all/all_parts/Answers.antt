@@ -1,9 +1,9 @@
 use Rattle.std.proofs.Common.{◌≡◌, List, ℕ, Some, subst}
 use Rattle.std.specs.List.{AllZip}
 use Rattle.rayon.proofs.ListFacts.{IfOk-then}
-use Rattle.net_groups.specs.NetParts.{NetPart}
+use Rattle.net_groups.specs.NetParts.{PlainNetPart}
 use Rattle.kept_nets.specs.declared.works.Work.{Work}
-use Rattle.net_groups.specs.NetParts.{IsPartOf}
+use Rattle.net_groups.specs.NetParts.{IsNetPart}
 use Rattle.kept_nets.specs.Works.{AreFound}
 use Rattle.kept_nets.proofs.Gathered.{gathered}
 use Rattle.kept_nets.proofs.Written.{whole}
@@ -16,5 +16,5 @@ returns g c =
     let found = c.find_parts.new.works in
     let same : AreFound board works.items found = subst (λ (ws : List Work). AreFound board ws found) c.deref_mut.ensures.value c.find_parts.ensures in
     IfOk-then c.parts_of.result _ _ c.parts_of.ensures (λ parts h.
-    subst (λ (nets : List ℕ). AllZip (IsPartOf board) nets parts.items) c.in_ok-works.ensures
-    (gathered board works.items found parts.items same (subst (λ (ws : List Work). AllZip (λ (w : Work) (part : NetPart). w.part ≡ Some part) ws parts.items) (whole works.len works.items found same.long works.ok.0) h)))
+    subst (λ (nets : List ℕ). AllZip (IsNetPart board) nets parts.items) c.in_ok-works.ensures
+    (gathered board works.items found parts.items same (subst (λ (ws : List Work). AllZip (λ (w : Work) (part : PlainNetPart). w.part ≡ Some part) ws parts.items) (whole works.len works.items found same.long works.ok.0) h)))

@@ -2,7 +2,7 @@ use Rattle.std.proofs.Common.{ℕ, List, length, take, drop, ◌++◌, OnOk, Res
 use Rattle.std.specs.List.{AllZip}
 use Rattle.kept_nets.specs.declared.works.Work.{Work}
 use Rattle.kept_nets.specs.Works.{AreFound, AreWorksUpTo, IsPlan}
-use Rattle.net_groups.specs.NetParts.{IsPartOf}
+use Rattle.net_groups.specs.NetParts.{IsNetPart}
 use Rattle.kept_nets.proofs.Plans.{planned}
 use Rattle.kept_nets.proofs.Touched.{numbers, long_numbers, own_numbers, others_stay}
 use Rattle.kept_nets.proofs.Written.{whole}
@@ -23,4 +23,4 @@ returns g c = λ old ids edit t are.
     let due : AreWorksUpTo nets c.args.nets.now (length nets) works.items = subst (λ (n : ℕ). AreWorksUpTo nets c.args.nets.now n works.items) (long_numbers parts) c.in_ok-works.ensures in
     let plan : IsPlan board nets parts found = planned board nets c.args.nets.now parts works.items found (long_numbers parts) (others_stay old board ids c.args.nets.now edit t parts are) due same in
     let as_written : IsPlan board nets parts (take works.len (found ++ drop (length found) works.items)) = subst (IsPlan board nets parts) (sym (whole works.len works.items found same.long works.ok.0)) plan in
-    then c.put_parts.result c.put_parts.ensures (λ h. subst (λ (ns : List ℕ). AllZip (IsPartOf board) ns c.put_parts.new.parts) (sym (own_numbers old board ids c.args.nets.now edit t parts are)) (h board nets as_written))
+    then c.put_parts.result c.put_parts.ensures (λ h. subst (λ (ns : List ℕ). AllZip (IsNetPart board) ns c.put_parts.new.parts) (sym (own_numbers old board ids c.args.nets.now edit t parts are)) (h board nets as_written))

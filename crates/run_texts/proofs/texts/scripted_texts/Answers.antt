@@ -1,5 +1,5 @@
 use Rattle.std.proofs.Common.{[], ◌∷◌, subst}
-use Rattle.drc_io.specs.Files.{IsWhole}
+use Rattle.drc_io.specs.Files.{IsWholeFile}
 use Rattle.run_words.specs.Calls.{Reading, check}
 use Rattle.run_texts.specs.Texts.{named, a_board}
 use Rattle.run_texts.specs.Views.{opened_in}
@@ -21,7 +21,7 @@ returns-in-Ok-fetch_text-clause-ok g c =
     subst (λ (r : Reading). AreOpened (g.F.Shelf.files c.args.shelf.now) r (opened_in c.in-Ok.texts)) c.board_alone.ensures.reading c.in-Ok.ensures.ok
 
 pub returns-in-Ok-fetch_text-clause-whole : goal.returns-in-Ok-fetch_text-clause-whole
-returns-in-Ok-fetch_text-clause-whole g c = subst (λ t. IsWhole t c.args.files.script.now c.in-Ok-fetch_text.script.items) c.in-Ok.ensures.same c.in-Ok-fetch_text.ensures.whole
+returns-in-Ok-fetch_text-clause-whole g c = subst (λ t. IsWholeFile t c.args.files.script.now c.in-Ok-fetch_text.script.items) c.in-Ok.ensures.same c.in-Ok-fetch_text.ensures.whole
 
 pub returns-in-Err-fetch_text-clause-stop : goal.returns-in-Err-fetch_text-clause-stop
 returns-in-Err-fetch_text-clause-stop g c = λ call e.

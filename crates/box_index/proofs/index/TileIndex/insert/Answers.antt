@@ -1,7 +1,7 @@
 use Rattle.std.proofs.Common.{◌≡◌, ◌∙◌, sym, subst, List, slice_index_or}
 use Rattle.std.proofs.lemmas.List.{take_at}
 use Rattle.box_index.specs.declared.entry.Entry.{Entry}
-use Rattle.box_index.specs.Tiles.{PlainIndex, IsSound, IsAbsent, placed}
+use Rattle.box_index.specs.Tiles.{PlainIndex, IsSoundIndex, IsAbsent, placed}
 use Rattle.box_index.specs.Walks.{Bucket, AreBuckets, CanTake}
 use Rattle.box_index.proofs.Buckets.{index_of, refilled, ready, put_buckets, sound_placed, area_tiles}
 use Rattle.box_index.proofs.index.TileIndex.insert.Goals as goal
@@ -29,7 +29,7 @@ invariant_of-self-2 c =
     let now : c.put.new.self ≡ placed e xs = c.in_ok-put.ensures.ok in
     let before = subst (λ (bs : List Bucket). AreBuckets (index_of reach xs) bs) (sym same) (record { long = c.reserve_each.auto.tiles ∙ old.long; each = λ tile d l. c.reserve_each.ensures.stay tile d ∙ old.each tile d l }) in
     let tiles = area_tiles reach xs c.around-area.result e c.self.invariant.0 c.around-area.ensures in (
-      subst (λ (zs : List Entry). IsSound (index_of reach zs)) (sym now) (sound_placed reach xs e c.self.invariant.0 c.requires.bounds),
+      subst (λ (zs : List Entry). IsSoundIndex (index_of reach zs)) (sym now) (sound_placed reach xs e c.self.invariant.0 c.requires.bounds),
       refilled (λ (bs : List Bucket). AreBuckets (index_of reach c.put.new.self) bs) c.self.inside.tiles.len c.put_each.new.tiles _ (c.put_each.ensures.long ∙ c.deref_mut-2.ensures.len)
           (subst (λ (zs : List Entry). AreBuckets (index_of reach zs) c.put_each.new.tiles) (sym now) (put_buckets reach xs e c.around-area.result c.deref_mut-2.result.now c.put_each.new.tiles c.self.invariant.0.rising absent tiles before c.put_each.ensures)),
     )
