@@ -17,7 +17,8 @@ mod of_item;
 mod reaching;
 
 pub use all::{all_facts, facts, facts_among, facts_near, known_class};
+pub use classes::class_of_net;
 pub use equality::same;
 pub use meets::{area_met, courtyard_met};
-pub use near::marks_near;
+pub use near::{index_marks, marks_near};
 pub use reaching::reach;

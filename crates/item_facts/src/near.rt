@@ -45,8 +45,8 @@ fn put_mark(index: &mut TileIndex, id: u32, item: &Item) -> Result<(), AllocErro
     }
 }
 
-/// An index of the areas and bodies of the board, by their bounds.
-pub(crate) fn index_marks(alloc: Global, board: &Board) -> Result<TileIndex, AllocError>
+/// An index of the areas and bodies of the board, by their bounds. Only want of memory refuses it.
+pub fn index_marks(alloc: Global, board: &Board) -> Result<TileIndex, AllocError>
     ensures { IfOk result (λ index. HoldsMarks board.now.items index) }
 {
     let mut index = TileIndex::new(alloc, 0)?;

@@ -85,6 +85,13 @@ impl FactsById {
         }
     }
 
+    /// The facts in these slots, slot k for the id k. It takes no memory.
+    pub fn of(slots: Vec<Option<Facts>>) -> FactsById
+        ensures { result ≡ slots.items }
+    {
+        FactsById { slots }
+    }
+
     /// No facts, with room for those of all ids below this number.
     pub fn with_room(alloc: Global, ids: usize) -> Result<FactsById, AllocError>
         ensures { IfOk result (λ facts. (id : ℕ) → facts_at facts id ≡ None) }
