@@ -23,5 +23,5 @@ returns-then-spans_more c =
 
 pub returns-then-is_empty : goal.returns-then-is_empty
 returns-then-is_empty c =
-    then c.push_marks-then-is_empty.result c.push_marks-then-is_empty.ensures.marks
-    (λ e. subst (λ (ids : List ℕ). AreEnough c.args.item.now c.args.board.now.items ids) (sym e) (all_enough c.args.board.now c.push_marks-then-is_empty.ensures.sound c.args.item.now))
+    then c.push_marks.result c.push_marks.ensures.marks
+    (λ e. subst (λ (ids : List ℕ). AreEnough c.args.item.now c.args.board.now.items ids) (sym e) (all_enough c.args.board.now c.push_marks.ensures.sound c.args.item.now))
