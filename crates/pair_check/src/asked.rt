@@ -50,7 +50,10 @@ pub(crate) fn some_asks(rules: &[Rule], kind: Kind) -> bool
 fn may_ask(view: &CheckView, kind: Kind) -> bool
     ensures { result ≡ false → AsksNothing (deciders (checked_by view.now)) kind }
 {
-    may_not_meet(kind) || has_default(view.classes.mins(), kind) || some_asks(view.rules, kind)
+    if may_not_meet(kind) {
+        return true;
+    }
+    has_default(view.classes.mins(), kind) || some_asks(view.rules, kind)
 }
 
 impl Asked {
