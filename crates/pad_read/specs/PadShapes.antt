@@ -1,6 +1,7 @@
 -- The shapes of pads that are all within a radius of a box: discs, rectangles, ovals and rounded rectangles. Both numbers of a box count
 -- half nanometres from its middle to an edge: as many as its side has nanometres.
 use Rattle.std.specs.Prelude.{ℕ, ◌≤◌, ℤ, pos, unsigned_abs, ◌+ℤ◌, ◌-ℤ◌, ◌*ℤ◌, ◌%◌, ◌==◌, codes, Option, int_le, Result, Ok, if◌then◌else◌}
+use Rattle.plain_types.specs.Lengths.{greatest}
 use Rattle.sexpr_read.specs.Tree.{Tree, content}
 use Rattle.exact_dec.specs.Computed.{ratio_near_answer}
 use Rattle.geo_seg.specs.declared.points.Point.{Point}

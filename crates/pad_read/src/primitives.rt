@@ -1,6 +1,7 @@
 //! What is drawn around the anchor of a custom pad.
 
 ghost use Rattle.std.specs.Prelude.{◌≡◌, [], All};
+ghost use Rattle.plain_types.specs.Lengths.{is_length};
 ghost use Rattle.part_read.specs.Figures.{IsDrawable};
 ghost use Rattle.pad_read.specs.CustomPads.{primitive_fits, primitives_fit};
 
@@ -18,7 +19,8 @@ pub struct Primitives {
 impl Model for Primitives {
     ghost use Rattle.std.specs.Prelude.{List, All};
     ghost use Rattle.part_read.specs.declared.figures.Drawing.{Drawing};
-    ghost use Rattle.part_read.specs.Figures.{IsDrawable};
+    ghost use Rattle.plain_types.specs.Lengths.{is_length};
+ghost use Rattle.part_read.specs.Figures.{IsDrawable};
 
     ghost Value = { List Drawing };
 
@@ -51,14 +53,20 @@ impl Primitives {
     }
 }
 
+fn fits(width: i64) -> bool
+    ensures { result ≡ is_length width }
+{
+    is_length(width)
+}
+
 /// Whether its width, and of a circle the diameter of its disc with the width, is at most 500 mm.
 fn primitive_fits(drawing: &Drawing) -> bool
     requires { IsDrawable drawing.now }
     ensures { result ≡ primitive_fits drawing.now }
 {
     match drawing.figure {
-        Figure::Circle(_, radius) => is_length(2 * radius + drawing.width),
-        _ => is_length(drawing.width),
+        Figure::Circle(_, radius) => fits(2 * radius + drawing.width),
+        _ => fits(drawing.width),
     }
 }
 
