@@ -20,7 +20,7 @@ impl Model for Primitives {
     ghost use Rattle.std.specs.Prelude.{List, All};
     ghost use Rattle.part_read.specs.declared.figures.Drawing.{Drawing};
     ghost use Rattle.plain_types.specs.Lengths.{is_length};
-ghost use Rattle.part_read.specs.Figures.{IsDrawable};
+    ghost use Rattle.part_read.specs.Figures.{IsDrawable};
 
     ghost Value = { List Drawing };
 
