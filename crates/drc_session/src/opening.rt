@@ -11,7 +11,8 @@ use crate::parts::Parts;
 use crate::session::Session;
 use board_index::index_of;
 use board_items::Board;
-use item_facts::{all_facts, reach};
+use item_facts::reach;
+use kept_facts::all_facts_by;
 use kept_nets::all_parts;
 use net_class::Classes;
 use row_check::CheckView;
@@ -36,7 +37,7 @@ fn open<R: Threads + Sync, G: Gate>(
     ensures state { IfOk result (λ r. state_of r.0 ≡ record { board = board; classes = classes; rules = plain_rules rules }) }
     ensures applied { IfOk result (λ r. IsOpened (state_of r.0) r.1 × IsDealt workers r.1) }
 {
-    let facts = all_facts(alloc, &board, &classes)?;
+    let facts = all_facts_by(rt, alloc, workers, &board, &classes)?;
     let reach = reach(&board, &classes, rules.rules.as_slice());
     let index = index_of(alloc, &board, reach)?;
     let view = CheckView {

@@ -4,3 +4,4 @@ mod Keeps
 mod Rising
 mod Again
 mod Concerns
+mod Filled
