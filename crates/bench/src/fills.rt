@@ -7,14 +7,14 @@ use geo_seg::{Core, Point, Poly, Seg, Shape};
 use geo_shape::gap;
 use std::alloc::Global;
 
-// From a tooth to the next.
+/// From a tooth to the next.
 const PITCH: i64 = 4_000_000;
 
-// From one corner on the side of a tooth of the first comb to the next.
+/// From one corner on the side of a tooth of the first comb to the next.
 const RISE: i64 = 250_000;
 
-// Each tooth begins at the height `root`, and has so many corners on each side; from one to the next
-// it is `rise`. The bar beyond the roots ends at `foot`.
+/// Each tooth begins at the height `root`, and has so many corners on each side; from one to the next
+/// it is `rise`. The bar beyond the roots ends at `foot`.
 #[derive(Clone, Copy, Drop)]
 struct Comb {
     left: i64,
@@ -26,7 +26,7 @@ struct Comb {
     steps: u32,
 }
 
-// Corners on a side of a tooth of the first comb, where it has about so many in all.
+/// Corners on a side of a tooth of the first comb, where it has about so many in all.
 fn steps(corners: u32) -> u32 {
     corners / 100
 }
@@ -43,7 +43,7 @@ fn first(corners: u32) -> Comb {
     }
 }
 
-// A fourth as many corners, and a gap of about 400,000 on each side of a tooth.
+/// A fourth as many corners, and a gap of about 400,000 on each side of a tooth.
 fn second(corners: u32) -> Comb {
     let root = i64::from(steps(corners)) * RISE + 2_000_000;
     Comb {
@@ -57,7 +57,7 @@ fn second(corners: u32) -> Comb {
     }
 }
 
-// As many corners as the first comb, and the same gap.
+/// As many corners as the first comb, and the same gap.
 fn twin(corners: u32) -> Comb {
     let root = i64::from(steps(corners)) * RISE + 2_000_000;
     Comb {
@@ -72,7 +72,7 @@ fn twin(corners: u32) -> Comb {
 }
 
 impl Comb {
-    // The corners of the tooth that begins at x, up its one side and down the other.
+    /// The corners of the tooth that begins at x, up its one side and down the other.
     fn draw_tooth(self, x: i64, corners: &mut Vec<Point>) -> anyhow::Result<()> {
         let steps = i64::from(self.steps);
         for k in 0..2 * steps {
@@ -105,7 +105,7 @@ impl Comb {
     }
 }
 
-// A via or a track somewhere in or about the first comb: five vias, then three tracks.
+/// A via or a track somewhere in or about the first comb: five vias, then three tracks.
 fn drawn(k: u32, numbers: &mut Numbers, steps: u32) -> Seg {
     let x = numbers.draw().wrapping_mul(13).wrapping_sub(8_000_000);
     let y = numbers.draw().wrapping_mul(i64::from(steps)) >> 6;
@@ -123,8 +123,8 @@ fn answers(fill: &Poly, s: Seg, k: u32) -> u64 {
     u64::from(poly_seg_apart(fill, s, d)) | u64::from(poly_seg_within(fill, s, d)) << 1
 }
 
-// How many answers are yes, those within the distance twice, for a fill of about so many corners and
-// a tenth as many vias and tracks.
+/// How many answers are yes, those within the distance twice, for a fill of about so many corners and
+/// a tenth as many vias and tracks.
 pub fn fill(alloc: Global, corners: u32) -> anyhow::Result<u64> {
     let fill = first(corners).polygon(alloc)?;
     let mut numbers = Numbers { state: 7 };
@@ -136,7 +136,7 @@ pub fn fill(alloc: Global, corners: u32) -> anyhow::Result<u64> {
     Ok(count)
 }
 
-// A via inside the box of the first comb: of eight one anywhere, the others between its teeth.
+/// A via inside the box of the first comb: of eight one anywhere, the others between its teeth.
 fn via(k: u32, numbers: &mut Numbers, steps: u32) -> Seg {
     let tooth = numbers.draw() % 50;
     let along = numbers.draw() & 0x1f_ffff;
@@ -149,7 +149,7 @@ fn via(k: u32, numbers: &mut Numbers, steps: u32) -> Seg {
     }
 }
 
-// The same for three vias where the fill has four corners.
+/// The same for three vias where the fill has four corners.
 pub fn vias(alloc: Global, corners: u32) -> anyhow::Result<u64> {
     let fill = first(corners).polygon(alloc)?;
     let mut numbers = Numbers { state: 7 };
@@ -161,7 +161,7 @@ pub fn vias(alloc: Global, corners: u32) -> anyhow::Result<u64> {
     Ok(count)
 }
 
-// The sum of the gaps of vias to the fill, up to 0.4 mm, in nanometres: one via where the fill has four corners.
+/// The sum of the gaps of vias to the fill, up to 0.4 mm, in nanometres: one via where the fill has four corners.
 pub fn gaps(alloc: Global, corners: u32) -> anyhow::Result<u64> {
     let fill = Shape {
         core: Core::Area(first(corners).polygon(alloc)?),
@@ -179,7 +179,7 @@ pub fn gaps(alloc: Global, corners: u32) -> anyhow::Result<u64> {
     Ok(sum)
 }
 
-// The same for two fills and many distances, where a fill comes first in the question and then second.
+/// The same for two fills and many distances, where a fill comes first in the question and then second.
 fn both(a: &Poly, b: &Poly) -> u64 {
     let mut count: u64 = 0;
     for round in 0..16_u32 {
@@ -198,7 +198,7 @@ pub fn fills(alloc: Global, corners: u32) -> anyhow::Result<u64> {
     Ok(both(&a, &b))
 }
 
-// Two fills of about so many corners each.
+/// Two fills of about so many corners each.
 pub fn combs(alloc: Global, corners: u32) -> anyhow::Result<u64> {
     let a = first(corners).polygon(alloc)?;
     let b = twin(corners).polygon(alloc)?;

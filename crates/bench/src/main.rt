@@ -17,7 +17,7 @@ use std::alloc::Global;
 use std::env;
 use std::io::Print;
 
-// None where no kind is called so.
+/// None where no kind is called so.
 fn count(alloc: Global, name: &str, number: u32) -> anyhow::Result<Option<u64>> {
     if let Some(kind) = PairKind::named(name) {
         return Ok(Some(pairs::count(alloc, kind, number)?));

@@ -52,7 +52,7 @@ fn answers(pads: &[Pad], rounds: u32) -> u64 {
     count
 }
 
-// How many answers are yes, and those within the distance twice.
+/// How many answers are yes, and those within the distance twice.
 pub fn count(alloc: Global, rounds: u32) -> anyhow::Result<u64> {
     let mut numbers = Numbers { state: 7 };
     let mut pads = Vec::with_capacity(alloc, PADS)?;

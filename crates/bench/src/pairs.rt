@@ -20,7 +20,7 @@ pub enum PairKind {
 }
 
 impl PairKind {
-    // The kind that is called so.
+    /// The kind that is called so.
     pub fn named(name: &str) -> Option<PairKind> {
         match name {
             "far" => Some(PairKind::Far),
@@ -70,7 +70,7 @@ fn answers(pairs: &[Pair], rounds: u32) -> u64 {
     count
 }
 
-// How many answers are yes, and those within the distance twice.
+/// How many answers are yes, and those within the distance twice.
 pub fn count(alloc: Global, kind: PairKind, rounds: u32) -> anyhow::Result<u64> {
     let mut numbers = Numbers { state: 7 };
     let mut pairs = Vec::with_capacity(alloc, PAIRS)?;

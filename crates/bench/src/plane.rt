@@ -4,14 +4,14 @@ ghost use Rattle.std.specs.Prelude.{◌≤◌, unsigned_abs};
 
 use geo_seg::{Point, Seg};
 
-// A linear congruential generator, whose high bits serve.
+/// A linear congruential generator, whose high bits serve.
 #[derive(Drop)]
 pub struct Numbers {
     pub state: u64,
 }
 
 impl Numbers {
-    // A number from 0 to 2^24 - 1.
+    /// A number from 0 to 2^24 - 1.
     pub fn draw(&mut self) -> i64 {
         self.state = self
             .state
@@ -40,7 +40,7 @@ fn within_plane(x: i64) -> i64
     }
 }
 
-// The segment from (x, y) to (x + u, y + v).
+/// The segment from (x, y) to (x + u, y + v).
 pub fn seg(x: i64, y: i64, u: i64, v: i64) -> Seg {
     Seg {
         a: point(x, y),

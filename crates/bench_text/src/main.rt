@@ -60,7 +60,7 @@ fn show(rt: &impl Print, kind: &str, bytes: usize, number: Option<u64>) -> anyho
     Ok(())
 }
 
-// The phases of a run behind that of facts.
+/// The phases of a run behind that of facts.
 fn show_phases<R: Print + AllocGlobal>(rt: &R, text: &[u8]) -> anyhow::Result<()> {
     for name in ["index", "rows", "groups", "links"] {
         if let Some(phase) = Phase::named(name) {

@@ -39,7 +39,7 @@ impl Phase {
     }
 }
 
-// How many items the board has.
+/// How many items the board has.
 fn items(board: &Board) -> u64 {
     let mut count = 0u64;
     for _ in board.iter() {
@@ -48,7 +48,7 @@ fn items(board: &Board) -> u64 {
     count
 }
 
-// How many groups all nets have.
+/// How many groups all nets have.
 fn all_groups(alloc: Global, board: &Board, index: &TileIndex) -> Result<u64, AllocError>
     requires { HoldsItems board.now index.now }
 {
@@ -60,7 +60,7 @@ fn all_groups(alloc: Global, board: &Board, index: &TileIndex) -> Result<u64, Al
     Ok(count)
 }
 
-// How many links a net has.
+/// How many links a net has.
 fn links_of(alloc: Global, board: &Board, net: u32, index: &TileIndex) -> Result<u64, AllocError>
     requires { HoldsItems board.now index.now }
 {
@@ -70,7 +70,7 @@ fn links_of(alloc: Global, board: &Board, net: u32, index: &TileIndex) -> Result
     Ok(nest.links.as_slice().len() as u64)
 }
 
-// How many links all nets have.
+/// How many links all nets have.
 fn all_links(alloc: Global, board: &Board, index: &TileIndex) -> Result<u64, AllocError>
     requires { HoldsItems board.now index.now }
 {
@@ -81,7 +81,7 @@ fn all_links(alloc: Global, board: &Board, index: &TileIndex) -> Result<u64, All
     Ok(count)
 }
 
-// What is found of the board up to the phase, under no project and no rules.
+/// What is found of the board up to the phase, under no project and no rules.
 fn found_on(alloc: Global, board: &Board, last: Phase) -> Result<u64, AllocError> {
     if last == Phase::Board {
         return Ok(items(board));

@@ -27,7 +27,7 @@ pub struct Made {
     pub back: Deed,
 }
 
-// What holds of each board.
+/// What holds of each board.
 fn is_sound(board: &Board)
     ensures { IsSound board.now }
 {
@@ -36,7 +36,7 @@ fn is_sound(board: &Board)
 
 // ---- items that are added
 
-// The deed that takes out what is added in this unit.
+/// The deed that takes out what is added in this unit.
 fn without_added(unit: u32, items: &[Item]) -> Deed
     ensures { plain_deed result ≡ without_added unit items.now }
 {
@@ -47,7 +47,7 @@ fn without_added(unit: u32, items: &[Item]) -> Deed
     }
 }
 
-// Appends the items, which are of the next unit.
+/// Appends the items, which are of the next unit.
 fn append(alloc: Global, board: &mut Board, items: Vec<Item>) -> Result<Made, AllocError>
     requires { AreReady board.old board.old.next_unit items.items }
     ensures { IfOk result (IsMade (append items.items) board.old board.new) }
@@ -66,7 +66,7 @@ fn append(alloc: Global, board: &mut Board, items: Vec<Item>) -> Result<Made, Al
 
 // ---- items that are put back
 
-// The ids of items that are kept.
+/// The ids of items that are kept.
 fn ids_kept(alloc: Global, items: &[Kept]) -> Result<Vec<u32>, AllocError>
     ensures { IfOk result (λ ids. ids.items ≡ ids_of (map kept_entry items.now)) }
 {
@@ -77,7 +77,7 @@ fn ids_kept(alloc: Global, items: &[Kept]) -> Result<Vec<u32>, AllocError>
     Ok(ids)
 }
 
-// The deed that takes them out again. They are of one unit.
+/// The deed that takes them out again. They are of one unit.
 fn without_put(items: &[Kept]) -> Deed
     ensures { plain_deed result ≡ without_put (map kept_entry items.now) }
 {
@@ -89,7 +89,7 @@ fn without_put(items: &[Kept]) -> Deed
     }
 }
 
-// Puts the items back under their ids.
+/// Puts the items back under their ids.
 fn put_back(alloc: Global, board: &mut Board, items: Vec<Kept>) -> Result<Made, AllocError>
     requires { FitsBack board.old (map kept_entry items.items) }
     ensures { IfOk result (IsMade (put_back (map kept_entry items.items)) board.old board.new) }
@@ -106,7 +106,7 @@ fn put_back(alloc: Global, board: &mut Board, items: Vec<Kept>) -> Result<Made, 
 
 // ---- units that are taken out
 
-// Takes the unit out. `ids` are those of its items.
+/// Takes the unit out. `ids` are those of its items.
 fn take_out(board: &mut Board, unit: u32, ids: Vec<u32>) -> Result<Made, AllocError>
     requires { ids.items ≡ ids_touched board.old (take_out unit) }
     ensures { IfOk result (IsMade (take_out unit) board.old board.new) }
@@ -123,7 +123,7 @@ fn take_out(board: &mut Board, unit: u32, ids: Vec<u32>) -> Result<Made, AllocEr
 
 // ---- units that are moved
 
-// Items of a board have bounds where they have parts, so what is moved has other parts.
+/// Items of a board have bounds where they have parts, so what is moved has other parts.
 fn have_bounds(items: UnitIter<'_>)
     ensures { All HasBounds (unit_left items.entry) }
 {
@@ -132,7 +132,7 @@ fn have_bounds(items: UnitIter<'_>)
     }
 }
 
-// Moves the unit, which stays on the board. `ids` are those of its items that move.
+/// Moves the unit, which stays on the board. `ids` are those of its items that move.
 fn shift(board: &mut Board, unit: u32, dx: Nm, dy: Nm, ids: Vec<u32>) -> Made
     requires dx { IsNear dx }
     requires dy { IsNear dy }
@@ -161,7 +161,7 @@ fn shift(board: &mut Board, unit: u32, dx: Nm, dy: Nm, ids: Vec<u32>) -> Made
 
 // ---- all deeds
 
-// Does the deed, with all that is said of it.
+/// Does the deed, with all that is said of it.
 fn done(alloc: Global, board: &mut Board, deed: Deed, touched: Vec<u32>) -> Result<Made, AllocError>
     requires fits { DeedFits board.old (plain_deed deed) }
     requires touched { touched.items ≡ ids_touched board.old (plain_deed deed) }

@@ -17,7 +17,7 @@ use edit_script::Command;
 use pcb_read::read_item;
 use std::alloc::Global;
 
-// Why an added list is refused.
+/// Why an added list is refused.
 fn refused(error: BoardError) -> Refusal
     ensures { result ≡ refusal_in error }
 {
@@ -27,7 +27,7 @@ fn refused(error: BoardError) -> Refusal
     }
 }
 
-// The items of an added list.
+/// The items of an added list.
 fn appended(alloc: Global, board: &Board, text: &[u8], at: u32) -> Result<Deed, Refusal>
     requires text { length text.now ≤ 33554432 }
     requires at { at ≤ 33554432 }
@@ -40,7 +40,7 @@ fn appended(alloc: Global, board: &Board, text: &[u8], at: u32) -> Result<Deed, 
     }
 }
 
-// The unit that a name stands for, or why it stands for none.
+/// The unit that a name stands for, or why it stands for none.
 fn unit_in(found: Found) -> Result<u32, Refusal>
     ensures { result ≡ unit_in found }
 {
@@ -52,7 +52,7 @@ fn unit_in(found: Found) -> Result<u32, Refusal>
     }
 }
 
-// That the unit is taken out.
+/// That the unit is taken out.
 fn taken_out(found: Found) -> Result<Deed, Refusal>
     ensures answer { plain_answer result ≡ to_unit found (λ unit. Ok (take_out unit)) }
 {
@@ -60,7 +60,7 @@ fn taken_out(found: Found) -> Result<Deed, Refusal>
     Ok(Deed::TakeOut { unit })
 }
 
-// That the unit is moved, where all of it stays on the board. `at` is the place of the command.
+/// That the unit is moved, where all of it stays on the board. `at` is the place of the command.
 fn shifted(board: &Board, found: Found, dx: Nm, dy: Nm, at: u32) -> Result<Deed, Refusal>
     requires dx { IsNear dx }
     requires dy { IsNear dy }

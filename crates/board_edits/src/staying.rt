@@ -35,7 +35,7 @@ pub(crate) fn is_note(item: &Item) -> bool
     matches!(item.what, What::Note { .. })
 }
 
-// Whether each of these items of a unit stays, or is a note.
+/// Whether each of these items of a unit stays, or is a note.
 fn all_stay(items: UnitIter<'_>, dx: Nm, dy: Nm) -> bool
     requires dx { IsNear dx }
     requires dy { IsNear dy }

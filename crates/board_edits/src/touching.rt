@@ -14,7 +14,7 @@ use crate::staying::is_note;
 use board_items::{Board, Nm, UnitIter};
 use std::alloc::{AllocError, Global};
 
-// The ids of these items of a unit.
+/// The ids of these items of a unit.
 fn ids_in(alloc: Global, items: UnitIter<'_>) -> Result<Vec<u32>, AllocError>
     ensures { IfOk result (λ ids. ids.items ≡ ids_of (unit_left items.entry)) }
 {
@@ -25,7 +25,7 @@ fn ids_in(alloc: Global, items: UnitIter<'_>) -> Result<Vec<u32>, AllocError>
     Ok(ids)
 }
 
-// The ids of those that are no notes.
+/// The ids of those that are no notes.
 fn moving_in(alloc: Global, items: UnitIter<'_>) -> Result<Vec<u32>, AllocError>
     ensures { IfOk result (λ ids. ids.items ≡ ids_of (filter (λ entry. not (is_note entry.1.what)) (unit_left items.entry))) }
 {
@@ -45,14 +45,14 @@ pub(crate) fn ids_of_unit(alloc: Global, board: &Board, unit: u32) -> Result<Vec
     ids_in(alloc, board.of_unit(unit))
 }
 
-// The ids of the unit's items that move with it.
+/// The ids of the unit's items that move with it.
 fn moving_of_unit(alloc: Global, board: &Board, unit: u32) -> Result<Vec<u32>, AllocError>
     ensures { IfOk result (λ ids. ids.items ≡ ids_of (filter (λ entry. moves unit entry.1) board.now.items)) }
 {
     moving_in(alloc, board.of_unit(unit))
 }
 
-// The ids of the items that a move of the unit moves.
+/// The ids of the items that a move of the unit moves.
 fn shifted_ids(
     alloc: Global,
     board: &Board,

@@ -35,7 +35,7 @@ impl Board {
         Ok(items)
     }
 
-    // How many items the unit has.
+    /// How many items the unit has.
     fn count_of(&self, unit: u32) -> usize
         ensures { result ≡ length (entries_of unit self.now.items) }
     {
@@ -47,7 +47,7 @@ impl Board {
         count
     }
 
-    // The unit that stands beside a slot: that of its item.
+    /// The unit that stands beside a slot: that of its item.
     fn unit_at(&self, id: u32) -> u32
         requires { id < self.now.next_id }
         ensures own { (item : Item) → item_at self.now.items id ≡ Some item → item.unit ≡ result }
@@ -56,7 +56,7 @@ impl Board {
         self.units[id as usize]
     }
 
-    // Takes every item of the unit out and appends them.
+    /// Takes every item of the unit out and appends them.
     fn take_into(&mut self, unit: u32, items: &mut Vec<Kept>)
         requires { vec_len items.old + length (entries_of unit self.old.items) ≤ vec_capacity items.old }
         ensures taken { self.new ≡ without_unit self.old unit }
@@ -68,7 +68,7 @@ impl Board {
         }
     }
 
-    // Takes the item with this id out if it is of the unit, and appends it.
+    /// Takes the item with this id out if it is of the unit, and appends it.
     fn take_own(&mut self, id: u32, unit: u32, items: &mut Vec<Kept>)
         requires id { id < self.old.next_id }
         requires room { vec_len items.old + length (own_at id unit self.old.items) ≤ vec_capacity items.old }
@@ -89,7 +89,7 @@ impl Board {
 
 // ---- put back
 
-// Where an id stands among others: before the first that is greater.
+/// Where an id stands among others: before the first that is greater.
 fn place_of(ids: &[u32], id: u32) -> usize
     ensures within { result ≤ length ids.now }
     ensures place { insert ids.now result id ≡ id_placed id ids.now }
@@ -102,7 +102,7 @@ fn place_of(ids: &[u32], id: u32) -> usize
     ids.len()
 }
 
-// Puts an id among others, for which there is room.
+/// Puts an id among others, for which there is room.
 fn put_id(ids: &mut Vec<u32>, id: u32)
     requires { vec_len ids.old < vec_capacity ids.old }
     ensures { ids.new.items ≡ id_placed id ids.old.items }
@@ -112,7 +112,7 @@ fn put_id(ids: &mut Vec<u32>, id: u32)
     prove!(put);
 }
 
-// The same where it belongs there.
+/// The same where it belongs there.
 fn put_if(ids: &mut Vec<u32>, id: u32, listed: bool)
     requires { vec_len ids.old < vec_capacity ids.old }
     ensures { ids.new.items ≡ (if listed then id_placed id ids.old.items else ids.old.items) }
@@ -122,7 +122,7 @@ fn put_if(ids: &mut Vec<u32>, id: u32, listed: bool)
     }
 }
 
-// Makes room for one more in each list.
+/// Makes room for one more in each list.
 fn make_room(
     marks: &mut Vec<u32>,
     notes: &mut Vec<u32>,
@@ -140,7 +140,7 @@ fn make_room(
     ids.reserve(1)
 }
 
-// Puts the unit of an item into the row of units. Whether the row is still known to be in order.
+/// Puts the unit of an item into the row of units. Whether the row is still known to be in order.
 fn put_unit(in_order: bool, units: &mut Vec<u32>, id: u32, unit: u32) -> bool
     requires { id < vec_len units.old }
     ensures row { units.new.items ≡ set units.old.items id unit }
@@ -177,7 +177,7 @@ impl Board {
         Ok(())
     }
 
-    // Puts one item back, or gives it back where memory is wanting.
+    /// Puts one item back, or gives it back where memory is wanting.
     fn put_one(&mut self, kept: Kept) -> Result<(), Kept>
         requires { FitsOne self.old (kept_entry kept) }
         ensures put { OnOk result (self.new ≡ record self.old { items = placed (kept_entry kept) self.old.items }) }

@@ -76,14 +76,14 @@ impl Model for Board {
     ghost invariant = { λ b. IsWholeBoard (record { copper = b.copper; nets = b.names.entries; items = present 0 b.slots.items; next_id = length b.slots.items; next_unit = b.next_unit }) b.marks.items b.notes.items b.of_nets.items b.live b.slots.items b.tags.items b.units.items b.in_order };
 }
 
-// Whether all these parts lie on layers of the board.
+/// Whether all these parts lie on layers of the board.
 fn are_within(parts: &[Part], copper: LayerSet) -> bool
     ensures { result ≡ list_all (λ part. is_within part.layers copper) parts.now }
 {
     parts.iter().all(|part| part.layers.is_within(copper))
 }
 
-// Whether all parts of the item do.
+/// Whether all parts of the item do.
 fn has_layers_of(copper: LayerSet, item: &Item) -> bool
     ensures { result ≡ list_all (λ part. is_within part.layers copper) (parts_of item.now) }
 {
@@ -106,7 +106,7 @@ pub fn is_near(z: Nm) -> bool
 }
 
 impl What {
-    // Whether it is an area or a body.
+    /// Whether it is an area or a body.
     pub(crate) fn is_mark(&self) -> bool
         ensures { result ≡ is_mark self.now }
     {
@@ -200,7 +200,7 @@ impl Board {
         Ok(id)
     }
 
-    // Whether the item may be added: the place of its net.
+    /// Whether the item may be added: the place of its net.
     fn admit(&self, item: &Item) -> Result<usize, ItemError>
         ensures refused { refusal_of self.now item.now ≡ reason_in result }
         ensures room { OnOk result (0 < room_of self.now) }
@@ -232,7 +232,7 @@ impl Board {
         }
     }
 
-    // How many slots there are: the id that is given next.
+    /// How many slots there are: the id that is given next.
     pub(crate) fn slot_count(&self) -> u32
         ensures slots { result ≡ self.now.next_id }
         ensures sound { IsSound self.now }
@@ -240,7 +240,7 @@ impl Board {
         self.slots.len() as u32
     }
 
-    // Takes the item with this id out if it is of the unit.
+    /// Takes the item with this id out if it is of the unit.
     fn drop_if_of(&mut self, id: u32, unit: u32)
         requires { id < self.old.next_id }
         ensures { self.new ≡ record self.old { items = filter (λ entry. not (nat_eq entry.0 id && nat_eq entry.1.unit unit)) self.old.items } }
@@ -250,7 +250,7 @@ impl Board {
         }
     }
 
-    // Takes the item with this id out.
+    /// Takes the item with this id out.
     pub(crate) fn take_out(&mut self, id: u32) -> Option<Item>
         ensures found { result ≡ item_at self.old.items id }
         ensures taken { self.new ≡ record self.old { items = without_id id self.old.items } }
@@ -411,7 +411,7 @@ impl Board {
     }
 }
 
-// Makes room for one more in each list.
+/// Makes room for one more in each list.
 fn make_room(
     slots: &mut Vec<Option<Item>>,
     units: &mut Vec<u32>,
@@ -437,7 +437,7 @@ fn make_room(
     of_net.reserve(1)
 }
 
-// Appends a slot with the item, and its id to those of its net and where it is a mark or a note, or changes nothing.
+/// Appends a slot with the item, and its id to those of its net and where it is a mark or a note, or changes nothing.
 fn push_slot(
     slots: &mut Vec<Option<Item>>,
     units: &mut Vec<u32>,

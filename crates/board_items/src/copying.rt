@@ -18,7 +18,7 @@ use std::alloc::{AllocError, Global};
 
 // ---- parts
 
-// One of many corners gets the boxes of its runs anew.
+/// One of many corners gets the boxes of its runs anew.
 fn copy_poly(alloc: Global, poly: &Poly) -> Result<Poly, AllocError>
     ensures { IfOk result (λ copy. copy ≡ poly.now) }
 {
@@ -207,7 +207,7 @@ pub(crate) fn copy_slots(
     Ok(list)
 }
 
-// The ids of each net.
+/// The ids of each net.
 pub(crate) fn copy_ids(alloc: Global, of_nets: &[Vec<u32>]) -> Result<Vec<Vec<u32>>, AllocError>
     ensures { IfOk result (λ copy. map (λ (v : Vec ℕ Global). v.items) copy.items ≡ map (λ (v : Vec ℕ Global). v.items) of_nets.now) }
 {
@@ -218,7 +218,7 @@ pub(crate) fn copy_ids(alloc: Global, of_nets: &[Vec<u32>]) -> Result<Vec<Vec<u3
     Ok(list)
 }
 
-// The names of nets, no two of which have one number.
+/// The names of nets, no two of which have one number.
 pub(crate) fn copy_nets(
     alloc: Global,
     nets: BoardNets<'_>,

@@ -12,7 +12,7 @@ use crate::parts::Part;
 use geo_seg::{Bounds, Shape};
 use std::slice;
 
-// The box around what was found so far and one shape more.
+/// The box around what was found so far and one shape more.
 fn grown(found: Option<Bounds>, shape: &Shape) -> Bounds
     requires fits { IfSome found (FitsWithin (pos 1500000000)) }
     ensures grown { (parts : List Part) (part : Part) → part.shape ≡ shape.now → AreBoundsOf parts found → AreBoundsOf (parts ++ part ∷ []) (Some result) }
@@ -25,7 +25,7 @@ fn grown(found: Option<Bounds>, shape: &Shape) -> Bounds
     }
 }
 
-// The box around what was found so far and more parts.
+/// The box around what was found so far and more parts.
 fn around(found: Option<Bounds>, parts: &[Part]) -> Option<Bounds>
     requires fits { IfSome found (FitsWithin (pos 1500000000)) }
     ensures grown { (before : List Part) → AreBoundsOf before found → AreBoundsOf (before ++ parts.now) result }
@@ -38,7 +38,7 @@ fn around(found: Option<Bounds>, parts: &[Part]) -> Option<Bounds>
     so_far
 }
 
-// The box around what was found so far and a hole.
+/// The box around what was found so far and a hole.
 fn around_hole(found: Option<Bounds>, hole: &Option<Hole>) -> Option<Bounds>
     requires fits { IfSome found (FitsWithin (pos 1500000000)) }
     ensures grown { (before : List Part) → AreBoundsOf before found → AreBoundsOf (before ++ hole_parts hole.now) result }
@@ -51,7 +51,7 @@ fn around_hole(found: Option<Bounds>, hole: &Option<Hole>) -> Option<Bounds>
 }
 
 impl What {
-    // The parts that the kind gives: the first list, and then the second.
+    /// The parts that the kind gives: the first list, and then the second.
     pub(crate) fn parts(&self) -> (&[Part], &[Part])
         ensures { result.0.now ++ result.1.now ≡ kind_parts self.now }
     {

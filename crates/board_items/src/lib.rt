@@ -32,7 +32,7 @@ pub use parts::{Part, Parts};
 pub use turns::turn;
 pub use walk::{BoardIter, BoardNets, UnitIter};
 
-// Each type may go to another thread and be shared by threads.
+/// Each type may go to another thread and be shared by threads.
 fn crosses<T: Send + Sync>() {}
 
 fn all_cross() {

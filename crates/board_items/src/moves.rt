@@ -22,7 +22,7 @@ pub(crate) struct Step {
 }
 
 impl Step {
-    // The same in half nanometres.
+    /// The same in half nanometres.
     fn doubled(self) -> Shift
         requires dx { unsigned_abs self.dx ≤ 1000000000 }
         requires dy { unsigned_abs self.dy ≤ 1000000000 }
@@ -43,7 +43,7 @@ impl What {
     }
 }
 
-// Whether the item moves with the unit.
+/// Whether the item moves with the unit.
 fn moves(item: &Item, unit: u32) -> bool
     ensures { result ≡ moves unit item.now }
 {
@@ -84,7 +84,7 @@ fn kind_stays(what: &What, by: Shift) -> bool
     parts_stay(first, by) && parts_stay(second, by)
 }
 
-// Its hole, and what its kind gives.
+/// Its hole, and what its kind gives.
 fn others_stay(item: &Item, by: Shift) -> bool
     ensures { result ≡ list_all (λ part. core_stays by.dx by.dy part.shape.core) (hole_parts item.now.hole ++ kind_parts item.now.what) }
 {
@@ -114,7 +114,7 @@ fn item_stays(item: &Item, step: Step) -> bool
     shapes_stay(item, step.doubled())
 }
 
-// Whether the item stays, or does not move with the unit.
+/// Whether the item stays, or does not move with the unit.
 fn slot_stays(slot: &Option<Item>, unit: u32, step: Step) -> bool
     requires { is_slot_on_board slot.now ≡ true }
     ensures { result ≡ slot_stays unit step.dx step.dy slot.now }
@@ -125,7 +125,7 @@ fn slot_stays(slot: &Option<Item>, unit: u32, step: Step) -> bool
     }
 }
 
-// The same, asked of the unit that stands beside the slot first.
+/// The same, asked of the unit that stands beside the slot first.
 fn own_stays(slot: &Option<Item>, own: u32, unit: u32, step: Step) -> bool
     requires own { IsUnitIn slot.now own }
     requires on_board { is_slot_on_board slot.now ≡ true }
@@ -134,7 +134,7 @@ fn own_stays(slot: &Option<Item>, own: u32, unit: u32, step: Step) -> bool
     own != unit || slot_stays(slot, unit, step)
 }
 
-// Whether each item that moves with the unit stays on the board; the slots of the unit are among the places.
+/// Whether each item that moves with the unit stays on the board; the slots of the unit are among the places.
 pub(crate) fn unit_stays(
     slots: &[Option<Item>],
     units: &[u32],
@@ -226,7 +226,7 @@ fn shift_item(item: &mut Item, step: Step)
     item.what.shift(by);
 }
 
-// Moves the item if it moves with the unit.
+/// Moves the item if it moves with the unit.
 fn shift_moving(item: &mut Item, unit: u32, step: Step)
     requires on_board { is_on_board item.old ≡ true }
     requires stays { (if moves unit item.old then item_stays step.dx step.dy item.old else true) ≡ true }
@@ -247,7 +247,7 @@ fn shift_slot(slot: &mut Option<Item>, unit: u32, step: Step)
     }
 }
 
-// The same, asked of the unit that stands beside the slot first.
+/// The same, asked of the unit that stands beside the slot first.
 fn shift_own(slot: &mut Option<Item>, own: u32, unit: u32, step: Step)
     requires own { IsUnitIn slot.old own }
     requires on_board { is_slot_on_board slot.old ≡ true }
@@ -259,7 +259,7 @@ fn shift_own(slot: &mut Option<Item>, own: u32, unit: u32, step: Step)
     }
 }
 
-// Moves each item that moves with the unit.
+/// Moves each item that moves with the unit.
 pub(crate) fn shift_unit(
     slots: &mut [Option<Item>],
     units: &[u32],

@@ -7,7 +7,7 @@ ghost use Rattle.board_items.specs.Notes.{is_body_of, body_before, only_body};
 
 use crate::item::Item;
 
-// Whether the row is in order with one more unit behind the others.
+/// Whether the row is in order with one more unit behind the others.
 pub(crate) fn goes_on(in_order: bool, units: &[u32], unit: u32) -> bool
     ensures { (in_order ≡ true → UnitsRise 0 units.now) → result ≡ true → UnitsRise 0 (units.now ++ unit ∷ []) }
 {
@@ -23,7 +23,7 @@ fn is_body_of(item: &Item, unit: u32) -> bool
     item.unit == unit && item.what.is_body()
 }
 
-// The item in the slot if it is a body of the unit; the unit that stands beside the slot is asked first.
+/// The item in the slot if it is a body of the unit; the unit that stands beside the slot is asked first.
 fn only_body(slot: &Option<Item>, own: u32, unit: u32) -> Option<&Item>
     requires { IsUnitIn slot.now own }
     ensures { option_copied result ≡ only_body unit slot.now }
@@ -37,7 +37,7 @@ fn only_body(slot: &Option<Item>, own: u32, unit: u32) -> Option<&Item>
     }
 }
 
-// The last body of the unit before the id, whose slot is of the unit.
+/// The last body of the unit before the id, whose slot is of the unit.
 pub(crate) fn last_body<'a>(
     slots: &'a [Option<Item>],
     units: &[u32],

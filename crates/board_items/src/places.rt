@@ -14,7 +14,7 @@ pub(crate) struct Places {
     pub(crate) end: u32,
 }
 
-// How many units stand before those that are not below this one.
+/// How many units stand before those that are not below this one.
 fn first_of(units: &[u32], unit: u32) -> usize
     requires { UnitsRise 0 units.now }
     ensures within { result ≤ length units.now }
@@ -24,7 +24,7 @@ fn first_of(units: &[u32], unit: u32) -> usize
     units.partition_point(|own| *own < unit)
 }
 
-// How many stand before those that are above it.
+/// How many stand before those that are above it.
 fn end_of(units: &[u32], unit: u32) -> usize
     requires { UnitsRise 0 units.now }
     ensures within { result ≤ length units.now }
@@ -34,7 +34,7 @@ fn end_of(units: &[u32], unit: u32) -> usize
     units.partition_point(|own| *own <= unit)
 }
 
-// Places among which all slots of the unit are: its own where the row is in order, else all.
+/// Places among which all slots of the unit are: its own where the row is in order, else all.
 pub(crate) fn places_in(units: &[u32], in_order: bool, unit: u32) -> Places
     requires rise { in_order ≡ true → UnitsRise 0 units.now }
     requires few { length units.now ≤ 4294967295 }
@@ -53,7 +53,7 @@ pub(crate) fn places_in(units: &[u32], in_order: bool, unit: u32) -> Places
 }
 
 impl Board {
-    // The same of the unit's items: no other id is one of theirs.
+    /// The same of the unit's items: no other id is one of theirs.
     pub(crate) fn places_of(&self, unit: u32) -> Places
         ensures ordered { result.from ≤ result.end }
         ensures within { result.end ≤ self.now.next_id }

@@ -7,14 +7,14 @@ ghost use Rattle.board_items.specs.Slots.{present, at_slot, IsNext, IsUnitIn, ar
 
 use crate::item::Item;
 
-// The item of an id.
+/// The item of an id.
 pub(crate) fn item_at(slots: &[Option<Item>], id: u32) -> Option<&Item>
     ensures { option_copied result ≡ item_at (present 0 slots.now) id }
 {
     item_in(slots, id as usize)
 }
 
-// What stands in the slot.
+/// What stands in the slot.
 fn item_in(slots: &[Option<Item>], place: usize) -> Option<&Item>
     ensures { option_copied result ≡ at_slot (slice_get slots.now place) }
 {
@@ -24,7 +24,7 @@ fn item_in(slots: &[Option<Item>], place: usize) -> Option<&Item>
     }
 }
 
-// The first item from here on, with its id and the slots behind it.
+/// The first item from here on, with its id and the slots behind it.
 pub(crate) fn next_full<'a>(
     slots: &'a [Option<Item>],
     first: u32,
@@ -44,7 +44,7 @@ pub(crate) fn next_full<'a>(
     None
 }
 
-// The item in the slot if it is of the unit; the unit that stands beside the slot is asked first.
+/// The item in the slot if it is of the unit; the unit that stands beside the slot is asked first.
 fn only_of(slot: &Option<Item>, own: u32, unit: u32) -> Option<&Item>
     requires { IsUnitIn slot.now own }
     ensures { option_copied result ≡ only_of unit slot.now }
@@ -55,7 +55,7 @@ fn only_of(slot: &Option<Item>, own: u32, unit: u32) -> Option<&Item>
     slot.as_ref()
 }
 
-// The first item of the unit from here on, with its id, and the slots and units behind it.
+/// The first item of the unit from here on, with its id, and the slots and units behind it.
 pub(crate) fn next_of_unit<'a>(
     slots: &'a [Option<Item>],
     units: &'a [u32],
@@ -81,14 +81,14 @@ pub(crate) fn next_of_unit<'a>(
     None
 }
 
-// Drops an id from a list.
+/// Drops an id from a list.
 pub(crate) fn drop_id(ids: &mut Vec<u32>, id: u32)
     ensures { ids.new.items ≡ filter (λ other. not (nat_eq other id)) ids.old.items }
 {
     ids.retain(|other| *other != id);
 }
 
-// Drops it where it may be in the list.
+/// Drops it where it may be in the list.
 pub(crate) fn drop_if(ids: &mut Vec<u32>, id: u32, listed: bool)
     ensures { ids.new.items ≡ (if listed then filter (λ other. not (nat_eq other id)) ids.old.items else ids.old.items) }
 {

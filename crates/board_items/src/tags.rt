@@ -14,7 +14,7 @@ use drc_io::Name;
 
 // ---- tags
 
-// The tag with one more byte.
+/// The tag with one more byte.
 fn tag_next(tag: u32, byte: u8) -> u32
     ensures { result ≡ tag_next tag byte }
 {
@@ -31,7 +31,7 @@ fn tag_from(bytes: &[u8]) -> u32
     tag
 }
 
-// The tag of a name, of its last eight bytes.
+/// The tag of a name, of its last eight bytes.
 pub(crate) fn tag_of(name: &Name) -> u32
     ensures { result ≡ tag_of name.now }
 {
@@ -41,7 +41,7 @@ pub(crate) fn tag_of(name: &Name) -> u32
 
 // ---- the items of a name
 
-// The item in the slot if it has the name.
+/// The item in the slot if it has the name.
 fn only_named<'a>(slot: &'a Option<Item>, name: &Name) -> Option<&'a Item>
     ensures { option_copied result ≡ only_named name.now slot.now }
 {
@@ -51,7 +51,7 @@ fn only_named<'a>(slot: &'a Option<Item>, name: &Name) -> Option<&'a Item>
     }
 }
 
-// The first item of the name from the id on, with its own id.
+/// The first item of the name from the id on, with its own id.
 pub(crate) fn next_named<'a>(
     slots: &'a [Option<Item>],
     tags: &[u32],
@@ -75,7 +75,7 @@ pub(crate) fn next_named<'a>(
 }
 
 impl Board {
-    // The items of the name with their ids, by rising id.
+    /// The items of the name with their ids, by rising id.
     pub(crate) fn named<'a>(&'a self, name: &'a Name) -> NamedIter<'a>
         ensures items { named_left result ≡ all_named name.now self.now.items }
         ensures sound { IsSound self.now }

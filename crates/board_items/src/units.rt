@@ -20,7 +20,7 @@ impl What {
     }
 }
 
-// Whether one of these is of another unit.
+/// Whether one of these is of another unit.
 fn has_other_unit(items: NamedIter<'_>, unit: u32) -> bool
     ensures { result ≡ has_other_unit unit (named_left items.entry) }
 {
@@ -32,7 +32,7 @@ fn has_other_unit(items: NamedIter<'_>, unit: u32) -> bool
     false
 }
 
-// Whether one of these is a body with another name.
+/// Whether one of these is a body with another name.
 fn has_body_named_otherwise(items: UnitIter<'_>, name: &Name) -> bool
     ensures { result ≡ has_body_named_otherwise name.now (unit_left items.entry) }
 {
@@ -44,14 +44,14 @@ fn has_body_named_otherwise(items: UnitIter<'_>, name: &Name) -> bool
     false
 }
 
-// Whether the unit is a footprint with another name.
+/// Whether the unit is a footprint with another name.
 fn is_footprint_named_otherwise(board: &Board, unit: u32, name: &Name) -> bool
     ensures { result ≡ is_footprint_named_otherwise unit name.now board.now.items }
 {
     has_body_named_otherwise(board.of_unit(unit), name)
 }
 
-// What the name stands for. The items of the name are gone through once, and those of its unit.
+/// What the name stands for. The items of the name are gone through once, and those of its unit.
 pub(crate) fn found_of(board: &Board, name: &Name) -> Found
     ensures { result ≡ found_of name.now board.now.items }
 {

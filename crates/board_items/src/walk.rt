@@ -68,7 +68,7 @@ impl<'a> Iterator for UnitIter<'a> {
     }
 }
 
-// The items of a name that are still to come, each with its id, by rising id.
+/// The items of a name that are still to come, each with its id, by rising id.
 #[derive(Clone, Copy)]
 pub(crate) struct NamedIter<'a> {
     // all slots with their tags, and the id from which on the items are sought

@@ -33,14 +33,14 @@ pub(crate) struct Course<'t> {
     pub refused: u32,
 }
 
-// Whether a list gives no items.
+/// Whether a list gives no items.
 fn is_nil(items: &[Item]) -> bool
     ensures { result ≡ is_nil items.now }
 {
     items.is_empty()
 }
 
-// Notes a list that is added. Where it gives items it is a unit, the one that comes next.
+/// Notes a list that is added. Where it gives items it is a unit, the one that comes next.
 fn note_added<'t>(
     alloc: Global,
     course: &mut Course<'t>,
@@ -66,7 +66,7 @@ fn note_added<'t>(
     Ok(())
 }
 
-// Notes what a deed changes in the text of the board.
+/// Notes what a deed changes in the text of the board.
 fn note<'t>(
     alloc: Global,
     course: &mut Course<'t>,
@@ -102,7 +102,7 @@ fn note<'t>(
     }
 }
 
-// Does what a command asks for.
+/// Does what a command asks for.
 fn done<'t>(
     alloc: Global,
     course: &mut Course<'t>,
@@ -121,14 +121,14 @@ fn done<'t>(
     Ok(())
 }
 
-// What holds of each board.
+/// What holds of each board.
 fn is_sound(board: &Board)
     ensures { IsSound board.now }
 {
     let _room = board.left();
 }
 
-// Carries one command out, or counts it as refused.
+/// Carries one command out, or counts it as refused.
 fn carry_out<'t>(
     alloc: Global,
     course: &mut Course<'t>,
@@ -150,7 +150,7 @@ fn carry_out<'t>(
     }
 }
 
-// Nothing is done yet.
+/// Nothing is done yet.
 fn begin<'t>(alloc: Global, board: Board) -> Result<Course<'t>, AllocError>
     ensures { IfOk result (Reached board []) }
 {

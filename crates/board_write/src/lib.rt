@@ -75,7 +75,7 @@ pub fn write_source<W: Sink>(
     Ok(written.refused)
 }
 
-// Each type may go to another thread and be shared by threads.
+/// Each type may go to another thread and be shared by threads.
 fn crosses<T: Send + Sync>() {}
 
 fn all_cross() {

@@ -36,7 +36,7 @@ pub(crate) fn mark_at(marks: &[Mark], unit: usize) -> Mark
     }
 }
 
-// A mark after one more move.
+/// A mark after one more move.
 fn moved_on(mark: Mark, dx: Nm, dy: Nm) -> Mark
     requires short { IsShort 4294967294 (plain_mark mark) }
     requires dx { IsNear dx }

@@ -42,14 +42,14 @@ pub(crate) struct Place<'d, 't> {
     pub rest: Children<'d, 't>,
 }
 
-// Whether it is a word that stands before a place.
+/// Whether it is a word that stands before a place.
 fn is_place_head(head: Node<'_, '_>) -> bool
     ensures { result ≡ is_place_head (value (tree_of head.entry)) }
 {
     head.is(b"at") || head.is(b"start") || head.is(b"end") || head.is(b"center") || head.is(b"xy")
 }
 
-// The number of an atom, moved by so much, unless it is none or would go too far.
+/// The number of an atom, moved by so much, unless it is none or would go too far.
 fn moved<'d, 't>(atom: Node<'d, 't>, by: i128) -> Option<Number<'d, 't>>
     ensures number { option_map (λ number. number.nm) result ≡ atom_moved by (tree_of atom.entry) }
     ensures atom { IfSome result (λ number. tree_of number.atom ≡ tree_of atom.entry) }
@@ -67,7 +67,7 @@ fn moved<'d, 't>(atom: Node<'d, 't>, by: i128) -> Option<Number<'d, 't>>
     })
 }
 
-// A place with both its numbers, if both can be moved.
+/// A place with both its numbers, if both can be moved.
 fn both<'d, 't>(
     head: Node<'d, 't>,
     x: Option<Number<'d, 't>>,
@@ -86,7 +86,7 @@ fn both<'d, 't>(
     }
 }
 
-// The place of a list, moved, if it has one of which both numbers can be.
+/// The place of a list, moved, if it has one of which both numbers can be.
 fn place_of<'d, 't>(list: Node<'d, 't>, by: Distance) -> Option<Place<'d, 't>>
     ensures numbers { option_map numbers_of result ≡ place_moved (plain_shift by) (inside (tree_of list.entry)) }
     ensures stands { IfSome result (StandsIn (inside (tree_of list.entry))) }

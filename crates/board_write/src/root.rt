@@ -21,7 +21,7 @@ pub(crate) struct Units<'a> {
     pub marks: &'a [Mark],
 }
 
-// Whether the first of the spans is this one.
+/// Whether the first of the spans is this one.
 fn begin_at(spans: &[Span], span: Span) -> bool
     ensures { result ≡ is_first spans.now span }
 {
@@ -31,21 +31,21 @@ fn begin_at(spans: &[Span], span: Span) -> bool
     }
 }
 
-// The spans behind the first.
+/// The spans behind the first.
 fn later_spans(spans: &[Span]) -> &[Span]
     ensures { result.now ≡ drop 1 spans.now }
 {
     if spans.is_empty() { spans } else { &spans[1..] }
 }
 
-// The marks behind the first.
+/// The marks behind the first.
 fn later_marks(marks: &[Mark]) -> &[Mark]
     ensures { result.now ≡ drop 1 marks.now }
 {
     if marks.is_empty() { marks } else { &marks[1..] }
 }
 
-// What has become of the list at the span, if it is a unit.
+/// What has become of the list at the span, if it is a unit.
 fn mark_here(units: Units<'_>, span: Span) -> Mark
     ensures { result ≡ mark_here units.entry.marks.now units.entry.spans.now span }
 {
@@ -56,7 +56,7 @@ fn mark_here(units: Units<'_>, span: Span) -> Mark
     }
 }
 
-// The units behind the list at the span.
+/// The units behind the list at the span.
 fn behind<'a>(units: Units<'a>, span: Span) -> Units<'a>
     ensures spans { result.spans.now ≡ spans_behind units.entry.spans.now span }
     ensures marks { result.marks.now ≡ marks_behind units.entry.marks.now units.entry.spans.now span }
@@ -71,7 +71,7 @@ fn behind<'a>(units: Units<'a>, span: Span) -> Units<'a>
     }
 }
 
-// Appends a list of the board by what has become of it.
+/// Appends a list of the board by what has become of it.
 fn append_marked(
     out: &mut Vec<u8>,
     text: &[u8],
@@ -91,7 +91,7 @@ fn append_marked(
     }
 }
 
-// Appends what stands in the root.
+/// Appends what stands in the root.
 fn append_inside(
     out: &mut Vec<u8>,
     text: &[u8],
@@ -118,7 +118,7 @@ fn append_inside(
     append(out, piece(text, from, end_inside(whole)))
 }
 
-// What is moved in an added list.
+/// What is moved in an added list.
 fn moving_by(mark: Mark, list: Node<'_, '_>) -> Moving
     ensures { result ≡ moving_by mark (inside (tree_of list.entry)) }
 {
@@ -128,7 +128,7 @@ fn moving_by(mark: Mark, list: Node<'_, '_>) -> Moving
     }
 }
 
-// Appends an added list that was not taken out.
+/// Appends an added list that was not taken out.
 fn append_spaced(out: &mut Vec<u8>, list: Node<'_, '_>, mark: Mark) -> Result<(), AllocError>
     requires { mark ≡ Mark.Gone → ⊥ }
     ensures { OnOk result (out.new.items ≡ out.old.items ++ spaced false (one_by mark (tree_of list.entry) none)) }
@@ -138,7 +138,7 @@ fn append_spaced(out: &mut Vec<u8>, list: Node<'_, '_>, mark: Mark) -> Result<()
     append_list(out, Setting::Spaced, list, moving)
 }
 
-// Appends a list that was added, unless it was taken out.
+/// Appends a list that was added, unless it was taken out.
 fn append_one(out: &mut Vec<u8>, added: &AddedList<'_>, marks: &[Mark]) -> Result<(), AllocError>
     requires { IsAlone added.now }
     ensures { OnOk result (out.new.items ≡ out.old.items ++ one_down marks.now added.now) }
@@ -154,7 +154,7 @@ fn append_one(out: &mut Vec<u8>, added: &AddedList<'_>, marks: &[Mark]) -> Resul
     }
 }
 
-// Appends the lists that were added and not taken out.
+/// Appends the lists that were added and not taken out.
 fn append_added(
     out: &mut Vec<u8>,
     added: &[AddedList<'_>],

@@ -64,7 +64,7 @@ impl Setting<'_> {
     }
 }
 
-// The content of an atom, or of none.
+/// The content of an atom, or of none.
 fn content<'t>(atom: Node<'_, 't>) -> &'t [u8]
     ensures { result.now ≡ content_of (tree_of atom.entry) }
 {
@@ -74,7 +74,7 @@ fn content<'t>(atom: Node<'_, 't>) -> &'t [u8]
     }
 }
 
-// Appends a content, in quotes where the atom has them.
+/// Appends a content, in quotes where the atom has them.
 fn append_content(out: &mut Vec<u8>, is_quoted: bool, content: &[u8]) -> Result<(), AllocError>
     ensures { OnOk result (out.new.items ≡ out.old.items ++ written is_quoted content.now) }
 {
@@ -94,7 +94,7 @@ pub(crate) fn append_atom(out: &mut Vec<u8>, atom: Node<'_, '_>) -> Result<(), A
     append_content(out, atom.quoted(), content(atom))
 }
 
-// Appends a number in the place of an atom.
+/// Appends a number in the place of an atom.
 fn append_number(out: &mut Vec<u8>, number: Number<'_, '_>) -> Result<(), AllocError>
     requires { unsigned_abs number.nm ≤ 1000000000000 }
     ensures { OnOk result (out.new.items ≡ out.old.items ++ written (quoted (tree_of number.entry.atom)) (mm_text number.entry.nm)) }
@@ -112,7 +112,7 @@ struct Left<'d, 't> {
     parts: Children<'d, 't>,
 }
 
-// Appends the place of a list, and gives what follows it.
+/// Appends the place of a list, and gives what follows it.
 fn append_place<'d, 't>(
     out: &mut Vec<u8>,
     setting: Setting<'_>,
@@ -139,7 +139,7 @@ fn append_place<'d, 't>(
     })
 }
 
-// Appends the front of a list, its own place with it where that is moved, and gives what follows.
+/// Appends the front of a list, its own place with it where that is moved, and gives what follows.
 fn append_front<'d, 't>(
     out: &mut Vec<u8>,
     setting: Setting<'_>,
@@ -160,7 +160,7 @@ fn append_front<'d, 't>(
     }
 }
 
-// Appends these trees up to a place, with places in them moved.
+/// Appends these trees up to a place, with places in them moved.
 fn append_parts(
     out: &mut Vec<u8>,
     setting: Setting<'_>,
@@ -190,7 +190,7 @@ fn append_parts(
     append(out, setting.rest(from, to))
 }
 
-// Where the closing bracket of a list stands.
+/// Where the closing bracket of a list stands.
 pub(crate) fn end_inside(span: Span) -> usize
     ensures { result ≡ span.end - 1 }
 {

@@ -5,14 +5,14 @@ ghost use Rattle.geo_seg.specs.Boxes.{do_boxes_meet};
 
 use geo_seg::Bounds;
 
-// Whether some x lies in both boxes.
+/// Whether some x lies in both boxes.
 fn do_share_columns(first: Bounds, second: Bounds) -> bool
     ensures { result ≡ (int_le first.left second.right && int_le second.left first.right) }
 {
     first.left <= second.right && second.left <= first.right
 }
 
-// Whether some y lies in both boxes.
+/// Whether some y lies in both boxes.
 fn do_share_rows(first: Bounds, second: Bounds) -> bool
     ensures { result ≡ (int_le first.top second.bottom && int_le second.top first.bottom) }
 {

@@ -151,7 +151,7 @@ impl TileIndex {
         tile % LANES <= last.column && tile / LANES <= last.row
     }
 
-    // Whether the tile holds an entry.
+    /// Whether the tile holds an entry.
     fn holds(&self, tile: usize) -> bool
         requires { tile < tile_count }
         ensures { result ≡ is_held self.now tile }
@@ -189,7 +189,7 @@ impl TileIndex {
         self.marked(alloc, &marks)
     }
 
-    // Whether the tile holds an entry and is marked.
+    /// Whether the tile holds an entry and is marked.
     fn holds_marked(&self, marks: &[bool], tile: usize) -> bool
         requires marks { length marks.now ≡ tile_count }
         requires within { tile < tile_count }
@@ -198,7 +198,7 @@ impl TileIndex {
         self.holds(tile) && marks[tile]
     }
 
-    // The marked tiles that hold an entry.
+    /// The marked tiles that hold an entry.
     fn marked(&self, alloc: Global, marks: &[bool]) -> Result<Vec<u32>, AllocError>
         requires { length marks.now ≡ tile_count }
         ensures { IfOk result (λ tiles. tiles.items ≡ filter (λ tile. is_held self.now tile && slice_index_or marks.now tile false) (numbers_below tile_count)) }
@@ -213,7 +213,7 @@ impl TileIndex {
     }
 }
 
-// So many tiles without entries.
+/// So many tiles without entries.
 fn empty_tiles(alloc: Global, count: usize) -> Result<Vec<Vec<Entry>>, AllocError>
     ensures { IfOk result (AreEmpty count) }
 {
@@ -224,7 +224,7 @@ fn empty_tiles(alloc: Global, count: usize) -> Result<Vec<Vec<Entry>>, AllocErro
     Ok(tiles)
 }
 
-// The same entries.
+/// The same entries.
 fn copy_entries(alloc: Global, entries: &[Entry]) -> Result<Vec<Entry>, AllocError>
     ensures { IfOk result (λ copy. copy.items ≡ entries.now) }
 {
@@ -233,7 +233,7 @@ fn copy_entries(alloc: Global, entries: &[Entry]) -> Result<Vec<Entry>, AllocErr
     Ok(copy)
 }
 
-// The tiles with the same entries.
+/// The tiles with the same entries.
 fn copy_tiles(tiles: &Vec<Vec<Entry>>) -> Result<Vec<Vec<Entry>>, AllocError>
     ensures { IfOk result (λ copy. AllZip HaveSameEntries tiles.now.items copy.items) }
 {
@@ -245,7 +245,7 @@ fn copy_tiles(tiles: &Vec<Vec<Entry>>) -> Result<Vec<Vec<Entry>>, AllocError>
     Ok(copy)
 }
 
-// So many marks, all alike.
+/// So many marks, all alike.
 fn new_marks(alloc: Global, count: usize, mark: bool) -> Result<Vec<bool>, AllocError>
     ensures { IfOk result (AreMarks count mark) }
 {

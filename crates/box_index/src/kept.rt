@@ -25,13 +25,13 @@ struct Sides {
 // A large board has a slot for each of its items.
 const _: () = prove!(size_of::<Option<Sides>>() == 20);
 
-// How long a row of slots may be at first.
+/// How long a row of slots may be at first.
 const FIRST_SLOTS: usize = 1024;
 
-// By how much longer it may be for each box that is put in.
+/// By how much longer it may be for each box that is put in.
 const SLOTS_FOR_EACH: usize = 2;
 
-// The same number in 32 bits.
+/// The same number in 32 bits.
 fn narrowed(z: i64) -> i32
     requires from { neg_ℤ (pos 2000000000) ≤ℤ z }
     requires to { z ≤ℤ pos 2000000000 }
@@ -65,7 +65,7 @@ impl Sides {
     }
 }
 
-// Appends empty slots until there are that many.
+/// Appends empty slots until there are that many.
 fn fill_up(slots: &mut Vec<Option<Sides>>, count: usize) -> Result<(), AllocError>
     ensures filled { OnOk result (count ≤ length slots.new.items) }
     ensures within { (bound : ℕ) → length slots.old.items ≤ bound → count ≤ bound → length slots.new.items ≤ bound }
@@ -77,7 +77,7 @@ fn fill_up(slots: &mut Vec<Option<Sides>>, count: usize) -> Result<(), AllocErro
     Ok(())
 }
 
-// Puts a box into a slot that is there.
+/// Puts a box into a slot that is there.
 fn put(slots: &mut [Option<Sides>], id: u32, sides: Sides)
     requires { id < length slots.old }
     ensures { entries_of slots.new ≡ placed (record { id = id; bounds = bounds_of sides }) (entries_of slots.old) }
@@ -85,7 +85,7 @@ fn put(slots: &mut [Option<Sides>], id: u32, sides: Sides)
     slots[id as usize] = Some(sides);
 }
 
-// Puts a box into its slot. Where the row is too short, it is made long enough.
+/// Puts a box into its slot. Where the row is too short, it is made long enough.
 fn put_near(slots: &mut Vec<Option<Sides>>, id: u32, sides: Sides) -> Result<(), AllocError>
     ensures ok { OnOk result (entries_of slots.new.items ≡ placed (record { id = id; bounds = bounds_of sides }) (entries_of slots.old.items)) }
     ensures unchanged { OnErr result (entries_of slots.new.items ≡ entries_of slots.old.items) }
@@ -96,7 +96,7 @@ fn put_near(slots: &mut Vec<Option<Sides>>, id: u32, sides: Sides) -> Result<(),
     Ok(())
 }
 
-// Puts a box among the far ones.
+/// Puts a box among the far ones.
 fn put_far(far: &mut BTreeMap<u32, Sides>, id: u32, sides: Sides) -> Result<(), AllocError>
     requires { IsRising (far_entries far.old.entries) }
     ensures ok { OnOk result (far_entries far.new.entries ≡ placed (record { id = id; bounds = bounds_of sides }) (far_entries far.old.entries)) }
@@ -106,7 +106,7 @@ fn put_far(far: &mut BTreeMap<u32, Sides>, id: u32, sides: Sides) -> Result<(), 
     Ok(())
 }
 
-// Empties a slot, and gives what was in it.
+/// Empties a slot, and gives what was in it.
 fn take(slots: &mut [Option<Sides>], id: u32) -> Option<Entry>
     requires { id < length slots.old }
     ensures entries { entries_of slots.new ≡ without id (entries_of slots.old) }
@@ -122,7 +122,7 @@ fn take(slots: &mut [Option<Sides>], id: u32) -> Option<Entry>
     }
 }
 
-// Takes the box of this id out of the far ones.
+/// Takes the box of this id out of the far ones.
 fn take_far(far: &mut BTreeMap<u32, Sides>, id: u32) -> Option<Entry>
     requires { IsRising (far_entries far.old.entries) }
     ensures entries { far_entries far.new.entries ≡ without id (far_entries far.old.entries) }
@@ -138,7 +138,7 @@ fn take_far(far: &mut BTreeMap<u32, Sides>, id: u32) -> Option<Entry>
     }
 }
 
-// The first of the far boxes, if its id is below the bound.
+/// The first of the far boxes, if its id is below the bound.
 fn first_below(far: &BTreeMap<u32, Sides>, bound: usize) -> Option<(u32, Sides)>
     requires { IsRising (far_entries far.now.entries) }
     ensures below { IfSome result (λ first. first.0 < bound) }
@@ -157,7 +157,7 @@ fn first_below(far: &BTreeMap<u32, Sides>, bound: usize) -> Option<(u32, Sides)>
     }
 }
 
-// Moves the first of the far boxes into its slot.
+/// Moves the first of the far boxes into its slot.
 fn move_first(
     slots: &mut Vec<Option<Sides>>,
     far: &mut BTreeMap<u32, Sides>,
@@ -177,7 +177,7 @@ fn move_first(
     Ok(())
 }
 
-// Moves the far boxes of ids below the bound into their slots.
+/// Moves the far boxes of ids below the bound into their slots.
 fn move_below(
     slots: &mut Vec<Option<Sides>>,
     far: &mut BTreeMap<u32, Sides>,
@@ -196,7 +196,7 @@ fn move_below(
     Ok(())
 }
 
-// Puts a box into its slot if its id is below the bound, and among the far ones if it is not. No far box is below the bound.
+/// Puts a box into its slot if its id is below the bound, and among the far ones if it is not. No far box is below the bound.
 fn put_either(
     slots: &mut Vec<Option<Sides>>,
     far: &mut BTreeMap<u32, Sides>,

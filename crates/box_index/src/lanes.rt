@@ -26,7 +26,7 @@ pub(crate) fn lane(z: i64) -> usize
     (from_edge / 16_000_000).min(LANES - 1)
 }
 
-// The box with each side moved out by the margin.
+/// The box with each side moved out by the margin.
 fn widen(bounds: Bounds, margin: i64) -> Bounds
     requires from { pos 0 ≤ℤ margin }
     requires to { margin ≤ℤ pos 1000000000 }

@@ -6,7 +6,7 @@ ghost use Rattle.box_index.specs.Tiles.{IsRising, IsAbsent, placed, without};
 
 use crate::entry::Entry;
 
-// How many entries have lesser ids.
+/// How many entries have lesser ids.
 fn place_of(entries: &[Entry], id: u32) -> usize
     requires { IsRising entries.now }
     ensures within { result ≤ length entries.now }

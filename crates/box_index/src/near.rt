@@ -10,7 +10,7 @@ use crate::index::TileIndex;
 use geo_seg::Bounds;
 use std::alloc::AllocError;
 
-// Appends the ids of a tile's entries whose boxes meet this one.
+/// Appends the ids of a tile's entries whose boxes meet this one.
 fn push_tile(
     index: &TileIndex,
     tile: u32,

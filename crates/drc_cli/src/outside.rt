@@ -20,7 +20,7 @@ struct Opened<F> {
     at: u64,
 }
 
-// Reads until the buffer is full or no byte is left.
+/// Reads until the buffer is full or no byte is left.
 fn fill<F: Read>(file: &mut F, buf: &mut [u8]) -> io::Result<usize>
     ensures { IfOk result (λ n. Fills F.remaining file.old file.new n buf.new) }
 {
@@ -39,7 +39,7 @@ fn fill<F: Read>(file: &mut F, buf: &mut [u8]) -> io::Result<usize>
     Err(io::Error::from(ErrorKind::Interrupted))
 }
 
-// Fills the buffer from a place on. A file that stands there is not moved, so that a pipe is read too.
+/// Fills the buffer from a place on. A file that stands there is not moved, so that a pipe is read too.
 fn fill_from<F: Read + Seek>(opened: &mut Opened<F>, at: u64, buf: &mut [u8]) -> io::Result<usize>
     ensures filled { IfOk result (λ n. FillsFrom F.Read.remaining F.Seek.stream_position opened.old.file opened.new.file opened.old.at at n buf.new) }
     ensures left { IfOk result (λ n. opened.new.at ≡ min (at + n) (2 ^ 64 - 1)) }
@@ -53,7 +53,7 @@ fn fill_from<F: Read + Seek>(opened: &mut Opened<F>, at: u64, buf: &mut [u8]) ->
     Ok(n)
 }
 
-// The file that is open, where it is the one to go on with.
+/// The file that is open, where it is the one to go on with.
 fn going_on<F: Drop>(kept: Option<Opened<F>>, name: &str, at: u64) -> Option<Opened<F>>
     ensures same { IfSome result (λ opened. (kept ≡ Some opened) × (opened.name ≡ Some name.now)) }
     ensures later { IsSome result → 0 < at }
@@ -93,7 +93,7 @@ impl<'a, R: Files + AllocGlobal> FileShelf<'a, R> {
         }
     }
 
-    // The file that is open, where it is the one to go on with, or else the file of this name, opened anew. It is kept no more.
+    /// The file that is open, where it is the one to go on with, or else the file of this name, opened anew. It is kept no more.
     fn take_file(&mut self, name: &str, at: u64) -> io::Result<Opened<R::File>>
         ensures from { IfOk result (GoesOn self.old.file name.now at) }
         ensures named { IfOk result (λ opened. IfSome opened.name (λ known. known ≡ name.now)) }
@@ -109,7 +109,7 @@ impl<'a, R: Files + AllocGlobal> FileShelf<'a, R> {
         })
     }
 
-    // Reads from a place of a file on. The first bytes are read of a file that is opened for them.
+    /// Reads from a place of a file on. The first bytes are read of a file that is opened for them.
     fn read_open(&mut self, name: &str, at: u64, buf: &mut [u8]) -> io::Result<usize>
         ensures read { MatchResult result (λ n. ReadsOn R.File.Read.remaining R.File.Seek.stream_position self.old.file self.new.file name.now at n buf.new) (λ _. self.new.file ≡ None) }
         ensures same { self.new.faults ≡ self.old.faults }
@@ -160,7 +160,7 @@ impl<W> StdoutSink<W> {
     }
 }
 
-// Writes the whole piece, or says how many bytes were taken before a fault came. A write that takes none is a fault.
+/// Writes the whole piece, or says how many bytes were taken before a fault came. A write that takes none is a fault.
 fn write_whole<W: Write>(out: &mut W, piece: &[u8]) -> Result<(), usize>
     ensures short { IfErr result (λ taken. taken < length piece.now) }
     ensures bytes { MatchResult result (λ _. Appends (W.contents out.old) (W.contents out.new) piece.now) (λ taken. Appends (W.contents out.old) (W.contents out.new) (take taken piece.now)) }

@@ -177,7 +177,7 @@ pub fn fetch<F: Shelf>(
     Err(FetchError::TooLong)
 }
 
-// Each type may go to another thread and be shared by threads.
+/// Each type may go to another thread and be shared by threads.
 fn crosses<T: Send + Sync>() {}
 
 fn all_cross() {

@@ -49,7 +49,7 @@ impl MemShelf {
     }
 }
 
-// The bytes of the first file of that name.
+/// The bytes of the first file of that name.
 fn find<'a>(files: &'a [(Name, Vec<u8>)], name: &str) -> Option<&'a [u8]>
     ensures { MatchOption result (file_of (shown files.now) name.now ≡ None) (λ bytes. file_of (shown files.now) name.now ≡ Some bytes.now) }
 {
@@ -61,7 +61,7 @@ fn find<'a>(files: &'a [(Name, Vec<u8>)], name: &str) -> Option<&'a [u8]>
     None
 }
 
-// Copies the bytes from a place on, as many as there is room for, and at most so many.
+/// Copies the bytes from a place on, as many as there is room for, and at most so many.
 fn copy_from(bytes: &[u8], at: u64, most: usize, buf: &mut [u8]) -> usize
     ensures count { result ≡ min most (min (length buf.old) (length (drop at bytes.now))) }
     ensures copied { buf.new ≡ take result (drop at bytes.now) ++ drop result buf.old }

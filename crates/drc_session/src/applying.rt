@@ -19,7 +19,7 @@ use std::alloc::{AllocError, AllocGlobal, Global};
 use std::thread::Threads;
 use tile_pool::Gate;
 
-// Makes the edit, and finds anew what it changed.
+/// Makes the edit, and finds anew what it changed.
 fn carry_out<R: Threads + Sync, G: Gate>(
     rt: &R,
     alloc: Global,
@@ -50,7 +50,7 @@ fn carry_out<R: Threads + Sync, G: Gate>(
 }
 
 impl Session {
-    // Makes the edit. The session is stopped while it is changed, and stays so where memory is wanting.
+    /// Makes the edit. The session is stopped while it is changed, and stays so where memory is wanting.
     fn make<R: Threads + Sync + AllocGlobal, G: Gate>(
         &mut self,
         rt: &R,

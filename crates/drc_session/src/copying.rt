@@ -8,7 +8,7 @@ use crate::session::Session;
 use kept_nets::NetPart;
 use std::alloc::{AllocError, Global};
 
-// Equal parts of nets.
+/// Equal parts of nets.
 fn copy_nets(alloc: Global, nets: &[NetPart]) -> Result<Vec<NetPart>, AllocError>
     ensures { IfOk result (λ copy. copy.items ≡ nets.now) }
 {
@@ -19,7 +19,7 @@ fn copy_nets(alloc: Global, nets: &[NetPart]) -> Result<Vec<NetPart>, AllocError
     Ok(copy)
 }
 
-// The same of another session.
+/// The same of another session.
 fn copy_parts(parts: &Parts) -> Result<Parts, AllocError>
     requires { IsKept parts.now }
     ensures kept { IfOk result IsKept }

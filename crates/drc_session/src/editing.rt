@@ -51,7 +51,7 @@ pub(crate) struct Look {
     pub(crate) asked: bool,
 }
 
-// Equal areas and bodies that stand under the ids; none where there is no id.
+/// Equal areas and bodies that stand under the ids; none where there is no id.
 fn marks_of(alloc: Global, board: &Board, ids: &[u32]) -> Result<Vec<Option<Item>>, AllocError>
     ensures marks { IfOk result (λ marks. AreMarksBefore board.now ids.now marks.items) }
     ensures none { IfOk result (λ marks. ids.now ≡ [] → marks.items ≡ []) }
@@ -62,7 +62,7 @@ fn marks_of(alloc: Global, board: &Board, ids: &[u32]) -> Result<Vec<Option<Item
     marks_before(alloc, board, ids)
 }
 
-// What is looked up of the items of these ids.
+/// What is looked up of the items of these ids.
 fn look_up(alloc: Global, board: &Board, ids: &[u32], reach: Nm) -> Result<Look, AllocError>
     ensures { IfOk result (IsLook board.now ids.now reach) }
 {
@@ -80,8 +80,8 @@ fn look_up(alloc: Global, board: &Board, ids: &[u32], reach: Nm) -> Result<Look,
     })
 }
 
-// Makes the index, after an edit of these ids, that of the board as it is now, under this reach. Where the reach stays only the
-// entries of the ids are gone through.
+/// Makes the index, after an edit of these ids, that of the board as it is now, under this reach. Where the reach stays only the
+/// entries of the ids are gone through.
 fn index_anew(
     alloc: Global,
     board: &Board,
@@ -102,8 +102,8 @@ fn index_anew(
     Ok(())
 }
 
-// Makes the parts of nets, after an edit of these ids, those of the board as it is now. `touched` has the nets that the items of
-// the ids had.
+/// Makes the parts of nets, after an edit of these ids, those of the board as it is now. `touched` has the nets that the items of
+/// the ids had.
 fn nets_anew<R: Threads + Sync>(
     rt: &R,
     workers: u32,
@@ -131,7 +131,7 @@ pub(crate) struct Stirred {
     pub(crate) stays: bool,
 }
 
-// Makes the rows those of what is checked now.
+/// Makes the rows those of what is checked now.
 fn rows_anew<R: Threads + Sync, G: Gate>(
     rt: &R,
     alloc: Global,
@@ -179,7 +179,7 @@ fn rows_anew<R: Threads + Sync, G: Gate>(
     Ok(applied)
 }
 
-// Whether the reach is as before.
+/// Whether the reach is as before.
 fn is_same(reach: Nm, before: Nm) -> bool
     ensures same { result ≡ true → reach ≡ before }
     ensures other { result ≡ false → reach ≢ before }

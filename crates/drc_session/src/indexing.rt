@@ -11,7 +11,7 @@ use board_items::Board;
 use box_index::TileIndex;
 use std::alloc::AllocError;
 
-// Takes out the entry of the id, and puts in that of the item of the id as it is now, if it has bounds.
+/// Takes out the entry of the id, and puts in that of the item of the id as it is now, if it has bounds.
 #[tactic(auto, using(crate::proofs::Entries::absent_after, crate::proofs::Entries::renewed_gone, crate::proofs::Entries::renewed_put))]
 fn renew_entry(board: &Board, index: &mut TileIndex, id: u32) -> Result<(), AllocError>
     ensures renewed { OnOk result (IsRenewed board.now (id ∷ []) index.old index.new) }
@@ -24,7 +24,7 @@ fn renew_entry(board: &Board, index: &mut TileIndex, id: u32) -> Result<(), Allo
     }
 }
 
-// The same for each of these ids.
+/// The same for each of these ids.
 #[tactic(auto, using(crate::proofs::Entries::renewed_more))]
 fn renew_entries(board: &Board, index: &mut TileIndex, ids: &[u32]) -> Result<(), AllocError>
     ensures renewed { OnOk result (IsRenewed board.now ids.now index.old index.new) }

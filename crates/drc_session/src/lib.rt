@@ -19,7 +19,7 @@ mod session;
 pub use applied::Applied;
 pub use session::Session;
 
-// Each type may go to another thread and be shared by threads.
+/// Each type may go to another thread and be shared by threads.
 fn crosses<T: Send + Sync>() {}
 
 fn sessions_cross() {

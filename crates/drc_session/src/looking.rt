@@ -20,7 +20,7 @@ pub(crate) fn box_of(board: &Board, id: u32) -> Option<Bounds>
     }
 }
 
-// Appends the box of the item of the id, if it has one.
+/// Appends the box of the item of the id, if it has one.
 fn push_box(board: &Board, id: u32, boxes: &mut Vec<Bounds>) -> Result<(), AllocError>
     ensures boxes { OnOk result ((found : List Bounds) × (boxes.new.items ≡ boxes.old.items ++ found) × AreBoxesIn board.now (id ∷ []) found) }
     ensures fit { OnOk result (All (FitsWithin (pos 2000000000)) boxes.old.items → All (FitsWithin (pos 2000000000)) boxes.new.items) }
@@ -46,7 +46,7 @@ pub(crate) fn push_boxes(
     Ok(())
 }
 
-// Appends the net of the item of the id, if there is one.
+/// Appends the net of the item of the id, if there is one.
 fn push_net(board: &Board, id: u32, nets: &mut Vec<u32>) -> Result<(), AllocError>
     ensures kept { OnOk result ((net : ℕ) → Contains nets.old.items net → Contains nets.new.items net) }
     ensures nets { OnOk result (HasNetsOf board.now (id ∷ []) nets.new.items) }

@@ -21,7 +21,7 @@ use std::alloc::{AllocError, AllocGlobal, Global};
 use std::thread::Threads;
 use tile_pool::Gate;
 
-// All that is found of the board.
+/// All that is found of the board.
 fn open<R: Threads + Sync, G: Gate>(
     rt: &R,
     alloc: Global,

@@ -12,7 +12,7 @@ use board_items::{Board, Nm};
 use cond_lang::Rule;
 use net_class::Classes;
 
-// The own clearance of the item of the id, in nanometres; None where there is no such item, and where it has none.
+/// The own clearance of the item of the id, in nanometres; None where there is no such item, and where it has none.
 fn own_clearance(board: &Board, id: u32) -> Option<Nm>
     ensures own { result ≡ own_at board.now id }
     ensures in_range { IsLengthIfSome result }
@@ -23,7 +23,7 @@ fn own_clearance(board: &Board, id: u32) -> Option<Nm>
     }
 }
 
-// Whether the item of the id has an own clearance of as much as the reach.
+/// Whether the item of the id has an own clearance of as much as the reach.
 fn asks_as_much(board: &Board, id: u32, reach: Nm) -> bool
     ensures { result ≡ false → own_at board.now id ≢ Some reach }
 {
@@ -45,7 +45,7 @@ pub(crate) fn asks_farthest(board: &Board, ids: &[u32], reach: Nm) -> bool
     false
 }
 
-// The greater of the reach and the own clearance of the item of the id, if it has one.
+/// The greater of the reach and the own clearance of the item of the id, if it has one.
 fn raised_by(board: &Board, id: u32, reach: Nm) -> Nm
     requires { IsLength reach }
     ensures raised { IsRaisedBy board.now (id ∷ []) reach result }
@@ -57,7 +57,7 @@ fn raised_by(board: &Board, id: u32, reach: Nm) -> Nm
     }
 }
 
-// The greatest of the reach and the own clearances of the items of these ids.
+/// The greatest of the reach and the own clearances of the items of these ids.
 fn raised_by_all(board: &Board, ids: &[u32], reach: Nm) -> Nm
     requires { IsLength reach }
     ensures raised { IsRaisedBy board.now ids.now reach result }

@@ -20,7 +20,7 @@ use std::alloc::{AllocError, Global};
 use std::thread::Threads;
 use tile_pool::Gate;
 
-// An index that reaches as far as the rules ask for, where the one that there is does not.
+/// An index that reaches as far as the rules ask for, where the one that there is does not.
 fn reach_anew(alloc: Global, parts: &mut Parts) -> Result<(), AllocError>
     requires items { IsIndexOfItems parts.old.board parts.old.index }
     requires reach { (parts.old.reach ≡ parts.old.index.reach) × IsLength parts.old.reach }

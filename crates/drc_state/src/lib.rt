@@ -11,7 +11,7 @@ pub use change::{Change, Edit, change_of, edit_in};
 pub use error::EditError;
 pub use planning::edit_of;
 
-// Each type may go to another thread and be shared by threads.
+/// Each type may go to another thread and be shared by threads.
 fn crosses<T: Send + Sync>() {}
 
 fn all_cross() {

@@ -20,7 +20,7 @@ use rule_text::{RuleError, Rules, read_rule_list};
 use sexpr_read::laws::spans_in_order;
 use std::alloc::Global;
 
-// The rules of a list, of at most 33,554,432 bytes, that begins at this place. A text has no more rules than bytes.
+/// The rules of a list, of at most 33,554,432 bytes, that begins at this place. A text has no more rules than bytes.
 fn rules_in(alloc: Global, text: &[u8], at: u32) -> Result<Rules, EditError>
     requires text { length text.now ≤ 33_554_432 }
     requires at { at ≤ 33_554_432 }

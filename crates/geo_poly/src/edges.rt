@@ -10,7 +10,7 @@ ghost use Rattle.geo_poly.specs.Outlines.{IsApart, IsReached};
 
 use geo_seg::{Bounds, Point, Seg, seg_apart, seg_gap, seg_within};
 
-// The corner at which edge `low` begins. Edge 0 leads from the last corner to the first.
+/// The corner at which edge `low` begins. Edge 0 leads from the last corner to the first.
 pub(crate) fn before(corners: &[Point], low: usize) -> Point
     requires { low < length corners.now }
     ensures { drop low (outline corners.now) ≡ path result (drop low corners.now) }
@@ -22,7 +22,7 @@ pub(crate) fn before(corners: &[Point], low: usize) -> Point
     }
 }
 
-// Whether the edge is apart from the segment, whose box is `near`.
+/// Whether the edge is apart from the segment, whose box is `near`.
 fn edge_apart(e: Seg, s: Seg, near: Bounds, d: i64) -> bool
     requires near { IsLeastBox (IsOn s) near }
     requires fits { FitsWithin (pos 1000000000) near }
@@ -32,7 +32,7 @@ fn edge_apart(e: Seg, s: Seg, near: Bounds, d: i64) -> bool
     e.bounds().is_clear(near, d) || seg_apart(e, s, d)
 }
 
-// Whether the edge is within d of the segment, whose box is `near`.
+/// Whether the edge is within d of the segment, whose box is `near`.
 fn edge_within(e: Seg, s: Seg, near: Bounds, d: i64) -> bool
     requires near { IsLeastBox (IsOn s) near }
     requires fits { FitsWithin (pos 1000000000) near }
@@ -42,7 +42,7 @@ fn edge_within(e: Seg, s: Seg, near: Bounds, d: i64) -> bool
     !e.bounds().is_clear(near, d + 1) && seg_within(e, s, d)
 }
 
-// Whether each edge of the path is apart from the segment.
+/// Whether each edge of the path is apart from the segment.
 pub(crate) fn path_apart(from: Point, part: &[Point], s: Seg, d: i64) -> bool
     requires { IsDistance d }
     ensures { IsTrue result ↔ EachEdge (λ e. IsApart e s d) (path from part.now) }
@@ -58,7 +58,7 @@ pub(crate) fn path_apart(from: Point, part: &[Point], s: Seg, d: i64) -> bool
     true
 }
 
-// Whether some edge of the path is within d of the segment.
+/// Whether some edge of the path is within d of the segment.
 pub(crate) fn path_within(from: Point, part: &[Point], s: Seg, d: i64) -> bool
     requires { IsDistance d }
     ensures { IsTrue result ↔ SomeEdge (λ e. IsReached e s d) (path from part.now) }
@@ -74,7 +74,7 @@ pub(crate) fn path_within(from: Point, part: &[Point], s: Seg, d: i64) -> bool
     false
 }
 
-// The greatest whole distance from 1 to `most` at which each edge of the path is apart from the segment, or 0.
+/// The greatest whole distance from 1 to `most` at which each edge of the path is apart from the segment, or 0.
 pub(crate) fn path_gap(from: Point, part: &[Point], s: Seg, most: i64) -> i64
     requires { IsDistance most }
     ensures { IsGap (λ d. EachEdge (λ e. IsApart e s d) (path from part.now)) most result }

@@ -17,15 +17,15 @@ use crate::runs::{Part, part_of, whole};
 use crate::walks::{apart_until, end};
 use geo_seg::{Bounds, FIRST_RUN, Point, Poly, RUN_PARTS, Seg};
 
-// A run of edges up to `high`, and the greatest distance at which all are apart from a segment.
+/// A run of edges up to `high`, and the greatest distance at which all are apart from a segment.
 #[derive(Clone, Copy, Drop)]
 struct Kept {
     high: usize,
     gap: i64,
 }
 
-// A run from `low` on: a longer one where all edges are apart at `most` from the segment, whose box is
-// `near`, and else one of a few edges.
+/// A run from `low` on: a longer one where all edges are apart at `most` from the segment, whose box is
+/// `near`, and else one of a few edges.
 fn kept_until(poly: &Poly, low: usize, s: Seg, near: Bounds, most: i64) -> Kept
     requires low { low < length poly.now }
     requires near { IsLeastBox (IsOn s) near }
@@ -48,8 +48,8 @@ fn kept_until(poly: &Poly, low: usize, s: Seg, near: Bounds, most: i64) -> Kept
     Kept { high, gap }
 }
 
-// The greatest whole distance from 1 to `most` at which each edge of the polygon is apart from the
-// segment, or 0.
+/// The greatest whole distance from 1 to `most` at which each edge of the polygon is apart from the
+/// segment, or 0.
 pub(crate) fn outline_gap(poly: &Poly, s: Seg, most: i64) -> i64
     requires { IsDistance most }
     ensures { IsGap (λ d. EachEdge (λ e. IsApart e s d) (outline poly.now)) most result }
@@ -66,7 +66,7 @@ pub(crate) fn outline_gap(poly: &Poly, s: Seg, most: i64) -> i64
     best
 }
 
-// The same of a path, whose box is `far`, and a segment.
+/// The same of a path, whose box is `far`, and a segment.
 fn far_gap(from: Point, part: &[Point], far: Bounds, s: Seg, most: i64) -> i64
     requires far { IsRunBox (path from part.now) far }
     requires range { IsDistance most }
@@ -79,7 +79,7 @@ fn far_gap(from: Point, part: &[Point], far: Bounds, s: Seg, most: i64) -> i64
     }
 }
 
-// The same of each edge of a path and each of another, whose box is `far`.
+/// The same of each edge of a path and each of another, whose box is `far`.
 fn paths_gap(
     from: Point,
     part: &[Point],
@@ -120,7 +120,7 @@ fn short_gap(a: &Poly, p: Part, b: &Poly, q: Part, most: i64) -> i64
     )
 }
 
-// The same of each edge of the one part and each of the other.
+/// The same of each edge of the one part and each of the other.
 fn parts_gap(a: &Poly, p: Part, b: &Poly, q: Part, most: i64) -> i64
     requires first { IsRunOf a.now p }
     requires second { IsRunOf b.now q }
@@ -152,8 +152,8 @@ fn parts_gap(a: &Poly, p: Part, b: &Poly, q: Part, most: i64) -> i64
     best
 }
 
-// The greatest whole distance from 1 to `most` at which each edge of the one polygon is apart from each
-// of the other, or 0.
+/// The greatest whole distance from 1 to `most` at which each edge of the one polygon is apart from each
+/// of the other, or 0.
 pub(crate) fn outlines_gap(a: &Poly, b: &Poly, most: i64) -> i64
     requires { IsDistance most }
     ensures { IsGap (λ d. EachApart d (outline a.now) (outline b.now)) most result }

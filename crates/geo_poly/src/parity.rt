@@ -14,9 +14,9 @@ use crate::edges::before;
 use crate::walks::end;
 use geo_seg::{Bounds, FIRST_RUN, FOURTH_RUN, Point, Poly, SECOND_RUN, Seg, THIRD_RUN};
 
-// Whether the edge crosses the ray from the point to the right, and not at the point itself. An
-// edge counts with its end of lesser y and without the other, so that a corner on the ray counts
-// once.
+/// Whether the edge crosses the ray from the point to the right, and not at the point itself. An
+/// edge counts with its end of lesser y and without the other, so that a corner on the ray counts
+/// once.
 fn passes_right(p: Point, e: Seg) -> bool
     ensures { result ≡ passes (spot_of p) e }
 {
@@ -33,7 +33,7 @@ fn passes_right(p: Point, e: Seg) -> bool
     }
 }
 
-// Whether an odd number of the path's edges passes to the right of the point.
+/// Whether an odd number of the path's edges passes to the right of the point.
 fn path_odd(from: Point, part: &[Point], p: Point) -> bool
     ensures { IsTrue result ↔ PassOdd (spot_of p) (path from part.now) }
 {
@@ -48,7 +48,7 @@ fn path_odd(from: Point, part: &[Point], p: Point) -> bool
     odd
 }
 
-// Whether the box lies above the ray from the point to the right, below it, or to the left of it.
+/// Whether the box lies above the ray from the point to the right, below it, or to the left of it.
 fn is_missed(b: Bounds, p: Point) -> bool
     requires { FitsWithin (pos 1000000000) b }
     ensures { IsTrue result → IsMissed b p }
@@ -56,8 +56,8 @@ fn is_missed(b: Bounds, p: Point) -> bool
     p.y < b.top || b.bottom < p.y || b.right < p.x
 }
 
-// Whether an odd number of edges from `low` up to `high` passes to the right of the point, where all
-// lie to its right: then the two ends decide.
+/// Whether an odd number of edges from `low` up to `high` passes to the right of the point, where all
+/// lie to its right: then the two ends decide.
 fn ends_odd(corners: &[Point], low: usize, high: usize, p: Point) -> bool
     requires low { low < high }
     requires high { high ≤ length corners.now }
@@ -67,8 +67,8 @@ fn ends_odd(corners: &[Point], low: usize, high: usize, p: Point) -> bool
     (before(corners, low).y <= p.y) != (part[part.len() - 1].y <= p.y)
 }
 
-// What the box says of the edges from `low` up to `high`, which it holds: whether an odd number passes
-// to the right of the point.
+/// What the box says of the edges from `low` up to `high`, which it holds: whether an odd number passes
+/// to the right of the point.
 fn told_by(b: Bounds, corners: &[Point], low: usize, high: usize, p: Point) -> Option<bool>
     requires low { low < high }
     requires high { high ≤ length corners.now }
@@ -84,14 +84,14 @@ fn told_by(b: Bounds, corners: &[Point], low: usize, high: usize, p: Point) -> O
     }
 }
 
-// The edges up to `high`, and whether an odd number of them passes.
+/// The edges up to `high`, and whether an odd number of them passes.
 #[derive(Clone, Copy, Drop)]
 struct Step {
     high: usize,
     odd: bool,
 }
 
-// What the box of the run of `size` edges from `low` on says, where one is kept.
+/// What the box of the run of `size` edges from `low` on says, where one is kept.
 fn told(poly: &Poly, low: usize, size: usize, p: Point) -> Option<Step>
     requires low { low < length poly.now }
     requires size { 0 < size }
@@ -104,7 +104,7 @@ fn told(poly: &Poly, low: usize, size: usize, p: Point) -> Option<Step>
     Some(Step { high, odd })
 }
 
-// A step from `low` on by a few edges, that looks at each.
+/// A step from `low` on by a few edges, that looks at each.
 fn short_step(poly: &Poly, low: usize, p: Point) -> Step
     requires { low < length poly.now }
     ensures { IsStep poly.now (spot_of p) low result }
@@ -115,7 +115,7 @@ fn short_step(poly: &Poly, low: usize, p: Point) -> Step
     Step { high, odd }
 }
 
-// The longest step from `low` on that is told by a box, or else one by edges.
+/// The longest step from `low` on that is told by a box, or else one by edges.
 fn next_step(poly: &Poly, low: usize, p: Point) -> Step
     requires { low < length poly.now }
     ensures { IsStep poly.now (spot_of p) low result }
@@ -133,7 +133,7 @@ fn next_step(poly: &Poly, low: usize, p: Point) -> Step
     }
 }
 
-// Whether an odd number of the polygon's edges passes to the right of the point.
+/// Whether an odd number of the polygon's edges passes to the right of the point.
 pub(crate) fn is_enclosed(poly: &Poly, p: Point) -> bool
     ensures { IsTrue result ↔ IsEnclosed poly.now (spot_of p) }
 {

@@ -13,14 +13,14 @@ use crate::runs::{outlines_apart, outlines_within};
 use crate::walks::{outline_apart, outline_within};
 use geo_seg::{Point, Poly, Seg};
 
-// `holds` for a point that may lie in the polygon's box.
+/// `holds` for a point that may lie in the polygon's box.
 fn has_point(poly: &Poly, p: Point) -> bool
     ensures { IsTrue result ↔ IsInside poly.now (spot_of p) }
 {
     outline_within(poly, Seg { a: p, b: p }, 0) || is_enclosed(poly, p)
 }
 
-// `poly_seg_apart` by the edges: where no edge is near, one end tells for the whole segment.
+/// `poly_seg_apart` by the edges: where no edge is near, one end tells for the whole segment.
 fn edges_apart(poly: &Poly, s: Seg, d: i64) -> bool
     requires { IsDistance d }
     ensures { IsTrue result ↔ AreApart (IsInside poly.now) (IsOn s) d }
@@ -28,7 +28,7 @@ fn edges_apart(poly: &Poly, s: Seg, d: i64) -> bool
     d == 0 || !is_enclosed(poly, s.a) && outline_apart(poly, s, d)
 }
 
-// `poly_seg_within` by the edges.
+/// `poly_seg_within` by the edges.
 fn edges_within(poly: &Poly, s: Seg, d: i64) -> bool
     requires { IsDistance d }
     ensures { IsTrue result ↔ AreWithin (IsInside poly.now) (IsOn s) d }
@@ -36,7 +36,7 @@ fn edges_within(poly: &Poly, s: Seg, d: i64) -> bool
     is_enclosed(poly, s.a) || outline_within(poly, s, d)
 }
 
-// Whether the last corner of `a` is enclosed by the outline of `b`.
+/// Whether the last corner of `a` is enclosed by the outline of `b`.
 fn ends_inside(a: &Poly, b: &Poly) -> bool
     ensures { IsTrue result ↔ EndsInside a.now b.now }
 {
@@ -50,7 +50,7 @@ fn either_inside(a: &Poly, b: &Poly) -> bool
     ends_inside(a, b) || ends_inside(b, a)
 }
 
-// `poly_apart` by the edges.
+/// `poly_apart` by the edges.
 fn areas_apart(a: &Poly, b: &Poly, d: i64) -> bool
     requires { IsDistance d }
     ensures { IsTrue result ↔ AreApart (IsInside a.now) (IsInside b.now) d }
@@ -58,7 +58,7 @@ fn areas_apart(a: &Poly, b: &Poly, d: i64) -> bool
     d == 0 || !either_inside(a, b) && outlines_apart(a, b, d)
 }
 
-// `poly_within` by the edges.
+/// `poly_within` by the edges.
 fn areas_within(a: &Poly, b: &Poly, d: i64) -> bool
     requires { IsDistance d }
     ensures { IsTrue result ↔ AreWithin (IsInside a.now) (IsInside b.now) d }

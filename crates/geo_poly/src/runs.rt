@@ -15,8 +15,8 @@ use geo_seg::{
     Bounds, FIRST_RUN, FOURTH_RUN, Point, Poly, RUN_PARTS, SECOND_RUN, Seg, THIRD_RUN, corner_box,
 };
 
-// The edges from `low` up to `high` of an outline, and their box. Where the outline keeps one, it is
-// that of the run of `size` edges from `low` on.
+/// The edges from `low` up to `high` of an outline, and their box. Where the outline keeps one, it is
+/// that of the run of `size` edges from `low` on.
 #[derive(Clone, Copy, Drop)]
 pub(crate) struct Part {
     pub low: usize,
@@ -25,7 +25,7 @@ pub(crate) struct Part {
     pub bounds: Bounds,
 }
 
-// The box of the edges from `low` up to `high`.
+/// The box of the edges from `low` up to `high`.
 fn part_box(poly: &Poly, low: usize, high: usize, size: usize) -> Bounds
     requires low { low < high }
     requires high { high ≤ length poly.now }
@@ -56,12 +56,12 @@ pub(crate) fn part_of(poly: &Poly, low: usize, high: usize, size: usize) -> Part
     }
 }
 
-// Two sizes more, of parts for which no box is kept.
+/// Two sizes more, of parts for which no box is kept.
 const FIFTH: usize = RUN_PARTS * FOURTH_RUN;
 
 const SIXTH: usize = RUN_PARTS * FIFTH;
 
-// The size from which a walk over so many edges begins to divide them.
+/// The size from which a walk over so many edges begins to divide them.
 fn first_size(all: usize) -> usize {
     if all <= FIRST_RUN {
         FIRST_RUN
@@ -78,7 +78,7 @@ fn first_size(all: usize) -> usize {
     }
 }
 
-// The whole outline.
+/// The whole outline.
 pub(crate) fn whole(poly: &Poly) -> Part
     ensures part { IsRunOf poly.now result }
     ensures whole { edges_of poly.now result ≡ outline poly.now }
@@ -92,7 +92,7 @@ pub(crate) fn whole(poly: &Poly) -> Part
     }
 }
 
-// Whether each edge of the path is apart from each of the other, whose box is `far`.
+/// Whether each edge of the path is apart from each of the other, whose box is `far`.
 fn paths_apart(
     from: Point,
     part: &[Point],
@@ -116,7 +116,7 @@ fn paths_apart(
     true
 }
 
-// Whether each edge of the path, whose box is `far`, is apart from the segment.
+/// Whether each edge of the path, whose box is `far`, is apart from the segment.
 fn far_apart(from: Point, part: &[Point], far: Bounds, s: Seg, d: i64) -> bool
     requires far { IsRunBox (path from part.now) far }
     requires range { IsDistance d }
@@ -143,7 +143,7 @@ fn short_apart(a: &Poly, p: Part, b: &Poly, q: Part, d: i64) -> bool
     )
 }
 
-// Whether each edge of the one part is apart from each of the other.
+/// Whether each edge of the one part is apart from each of the other.
 fn parts_apart(a: &Poly, p: Part, b: &Poly, q: Part, d: i64) -> bool
     requires first { IsRunOf a.now p }
     requires second { IsRunOf b.now q }
@@ -178,7 +178,7 @@ fn parts_apart(a: &Poly, p: Part, b: &Poly, q: Part, d: i64) -> bool
     true
 }
 
-// Whether each edge of the one polygon is apart from each of the other.
+/// Whether each edge of the one polygon is apart from each of the other.
 pub(crate) fn outlines_apart(a: &Poly, b: &Poly, d: i64) -> bool
     requires { IsDistance d }
     ensures { IsTrue result ↔ EachApart d (outline a.now) (outline b.now) }
@@ -186,7 +186,7 @@ pub(crate) fn outlines_apart(a: &Poly, b: &Poly, d: i64) -> bool
     parts_apart(a, whole(a), b, whole(b), d)
 }
 
-// Whether some edge of the path is within d of some of the other, whose box is `far`.
+/// Whether some edge of the path is within d of some of the other, whose box is `far`.
 fn paths_within(
     from: Point,
     part: &[Point],
@@ -210,7 +210,7 @@ fn paths_within(
     false
 }
 
-// Whether some edge of the path, whose box is `far`, is within d of the segment.
+/// Whether some edge of the path, whose box is `far`, is within d of the segment.
 fn far_within(from: Point, part: &[Point], far: Bounds, s: Seg, d: i64) -> bool
     requires far { IsRunBox (path from part.now) far }
     requires range { IsDistance d }
@@ -237,7 +237,7 @@ fn short_within(a: &Poly, p: Part, b: &Poly, q: Part, d: i64) -> bool
     )
 }
 
-// Whether some edge of the one part is within d of some of the other.
+/// Whether some edge of the one part is within d of some of the other.
 fn parts_within(a: &Poly, p: Part, b: &Poly, q: Part, d: i64) -> bool
     requires first { IsRunOf a.now p }
     requires second { IsRunOf b.now q }
@@ -272,7 +272,7 @@ fn parts_within(a: &Poly, p: Part, b: &Poly, q: Part, d: i64) -> bool
     false
 }
 
-// Whether some edge of the one polygon is within d of some of the other.
+/// Whether some edge of the one polygon is within d of some of the other.
 pub(crate) fn outlines_within(a: &Poly, b: &Poly, d: i64) -> bool
     requires { IsDistance d }
     ensures { IsTrue result ↔ SomeReached d (outline a.now) (outline b.now) }

@@ -13,7 +13,7 @@ ghost use Rattle.geo_poly.specs.Runs.{between, LiesClear};
 use crate::edges::{before, path_apart, path_within};
 use geo_seg::{Bounds, FIRST_RUN, FOURTH_RUN, Poly, SECOND_RUN, Seg, THIRD_RUN};
 
-// Where the run of `size` edges from `low` on ends, of so many in all.
+/// Where the run of `size` edges from `low` on ends, of so many in all.
 pub(crate) fn end(low: usize, size: usize, all: usize) -> usize
     requires low { low < all }
     requires size { 0 < size }
@@ -24,8 +24,8 @@ pub(crate) fn end(low: usize, size: usize, all: usize) -> usize
     if all - low > size { low + size } else { all }
 }
 
-// Whether the polygon keeps the box of the run of `size` edges from `low` on, and that box is clear
-// of `near`.
+/// Whether the polygon keeps the box of the run of `size` edges from `low` on, and that box is clear
+/// of `near`.
 fn is_run_clear(poly: &Poly, low: usize, size: usize, near: Bounds, d: i64) -> bool
     requires fits { FitsWithin (pos 1000000000) near }
     requires range { IsUpTo (pos 2000000001) d }
@@ -37,7 +37,7 @@ fn is_run_clear(poly: &Poly, low: usize, size: usize, near: Bounds, d: i64) -> b
     }
 }
 
-// Where the longest such run from `low` on ends, or `low` where there is none.
+/// Where the longest such run from `low` on ends, or `low` where there is none.
 fn clear_end(poly: &Poly, low: usize, near: Bounds, d: i64) -> usize
     requires low { low < length poly.now }
     requires fits { FitsWithin (pos 1000000000) near }
@@ -60,8 +60,8 @@ fn clear_end(poly: &Poly, low: usize, near: Bounds, d: i64) -> usize
     }
 }
 
-// Where a run from `low` on ends of which each edge is apart from the segment, whose box is `near`; or
-// `low` where some edge is not.
+/// Where a run from `low` on ends of which each edge is apart from the segment, whose box is `near`; or
+/// `low` where some edge is not.
 pub(crate) fn apart_until(poly: &Poly, low: usize, s: Seg, near: Bounds, d: i64) -> usize
     requires low { low < length poly.now }
     requires near { IsLeastBox (IsOn s) near }
@@ -85,7 +85,7 @@ pub(crate) fn apart_until(poly: &Poly, low: usize, s: Seg, near: Bounds, d: i64)
     }
 }
 
-// Whether each edge of the polygon is apart from the segment.
+/// Whether each edge of the polygon is apart from the segment.
 pub(crate) fn outline_apart(poly: &Poly, s: Seg, d: i64) -> bool
     requires { IsDistance d }
     ensures { IsTrue result ↔ EachEdge (λ e. IsApart e s d) (outline poly.now) }
@@ -107,8 +107,8 @@ pub(crate) fn outline_apart(poly: &Poly, s: Seg, d: i64) -> bool
     true
 }
 
-// Where a run from `low` on ends of which no edge is within d of the segment, whose box is `near`; or
-// `low` where some edge is.
+/// Where a run from `low` on ends of which no edge is within d of the segment, whose box is `near`; or
+/// `low` where some edge is.
 fn beyond_until(poly: &Poly, low: usize, s: Seg, near: Bounds, d: i64) -> usize
     requires low { low < length poly.now }
     requires near { IsLeastBox (IsOn s) near }
@@ -132,7 +132,7 @@ fn beyond_until(poly: &Poly, low: usize, s: Seg, near: Bounds, d: i64) -> usize
     }
 }
 
-// Whether some edge of the polygon is within d of the segment.
+/// Whether some edge of the polygon is within d of the segment.
 pub(crate) fn outline_within(poly: &Poly, s: Seg, d: i64) -> bool
     requires { IsDistance d }
     ensures { IsTrue result ↔ SomeEdge (λ e. IsReached e s d) (outline poly.now) }

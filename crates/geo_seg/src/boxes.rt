@@ -14,7 +14,7 @@ pub struct Bounds {
     pub bottom: i64,
 }
 
-// Whether the range that ends at `high` ends at least d before the one that begins at `low`.
+/// Whether the range that ends at `high` ends at least d before the one that begins at `low`.
 fn is_before(high: i64, low: i64, d: i64) -> bool
     requires high { unsigned_abs high ≤ 1500000000 }
     requires range { IsUpTo (pos 2000000001) d }
@@ -23,7 +23,7 @@ fn is_before(high: i64, low: i64, d: i64) -> bool
     high + d <= low
 }
 
-// The first box, made to reach as far left as the second.
+/// The first box, made to reach as far left as the second.
 fn to_left(a: Bounds, b: Bounds) -> Bounds
     ensures first { result.left ≤ℤ a.left }
     ensures second { result.left ≤ℤ b.left }
@@ -41,7 +41,7 @@ fn to_left(a: Bounds, b: Bounds) -> Bounds
     }
 }
 
-// The first box, made to reach as far up as the second.
+/// The first box, made to reach as far up as the second.
 fn to_top(a: Bounds, b: Bounds) -> Bounds
     ensures first { result.top ≤ℤ a.top }
     ensures second { result.top ≤ℤ b.top }
@@ -59,7 +59,7 @@ fn to_top(a: Bounds, b: Bounds) -> Bounds
     }
 }
 
-// The first box, made to reach as far right as the second.
+/// The first box, made to reach as far right as the second.
 fn to_right(a: Bounds, b: Bounds) -> Bounds
     ensures first { a.right ≤ℤ result.right }
     ensures second { b.right ≤ℤ result.right }
@@ -77,7 +77,7 @@ fn to_right(a: Bounds, b: Bounds) -> Bounds
     }
 }
 
-// The first box, made to reach as far down as the second.
+/// The first box, made to reach as far down as the second.
 fn to_bottom(a: Bounds, b: Bounds) -> Bounds
     ensures first { a.bottom ≤ℤ result.bottom }
     ensures second { b.bottom ≤ℤ result.bottom }

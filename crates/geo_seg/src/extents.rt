@@ -12,7 +12,7 @@ use crate::boxes::Bounds;
 use crate::points::{Point, Seg};
 use crate::shapes::{Core, Shape};
 
-// The box of a single corner.
+/// The box of a single corner.
 pub fn around(p: Point) -> Bounds
     ensures { IsCornerBox (p ∷ []) result }
 {
@@ -24,7 +24,7 @@ pub fn around(p: Point) -> Bounds
     }
 }
 
-// The box, grown to hold one corner more.
+/// The box, grown to hold one corner more.
 pub fn grown(bounds: Bounds, p: Point) -> Bounds
     requires { FitsWithin (pos 1000000000) bounds }
     ensures { (cs : List Point) → IsCornerBox cs bounds → IsCornerBox (cs ++ p ∷ []) result }
@@ -32,7 +32,7 @@ pub fn grown(bounds: Bounds, p: Point) -> Bounds
     bounds.union(around(p))
 }
 
-// The box with each side moved out by `radius`.
+/// The box with each side moved out by `radius`.
 fn widen(bounds: Bounds, radius: i64) -> Bounds
     requires fits { FitsWithin (pos 1000000000) bounds }
     requires range { IsUpTo (pos 500000000) radius }

@@ -9,7 +9,7 @@ use crate::guesses::guess;
 use crate::near::{boxes_apart, seg_apart};
 use crate::points::Seg;
 
-// Whether the segments are apart at d.
+/// Whether the segments are apart at d.
 fn keeps(a: Seg, b: Seg, d: i64) -> bool
     requires { IsDistance d }
     ensures apart { IsTrue result ↔ AreApart (IsOn a) (IsOn b) d }
@@ -19,7 +19,7 @@ fn keeps(a: Seg, b: Seg, d: i64) -> bool
     seg_apart(a, b, d)
 }
 
-// What is tried next, above `low` and up to `high`: what is nearest to the guess, and after some tries the middle.
+/// What is tried next, above `low` and up to `high`: what is nearest to the guess, and after some tries the middle.
 fn next_of(low: u32, high: u32, guess: u32, tries: u32) -> u32
     requires { low < high }
     ensures above { low < result }
@@ -36,7 +36,7 @@ fn next_of(low: u32, high: u32, guess: u32, tries: u32) -> u32
     }
 }
 
-// `seg_gap` by halves: `low` is kept, and nothing above `high` is. A good guess spares most of them.
+/// `seg_gap` by halves: `low` is kept, and nothing above `high` is. A good guess spares most of them.
 fn greatest(a: Seg, b: Seg, most: u32) -> u32
     requires { most ≤ 2000000000 }
     ensures { IsGap (λ d. AreApart (IsOn a) (IsOn b) d) (pos most) (pos result) }

@@ -5,7 +5,7 @@ use crate::points::{Point, Seg};
 use crate::vectors::{between, cross, dot};
 use std::num::{nearest_i64_to_f64, saturating_f64_to_u32};
 
-// About the squared distance of a point and a segment.
+/// About the squared distance of a point and a segment.
 fn squared(p: Point, s: Seg) -> f64 {
     let way = between(s.a, s.b);
     let from_start = between(s.a, p);
@@ -30,7 +30,7 @@ fn from_ends(ends: Seg, s: Seg) -> f64 {
     lesser(squared(ends.a, s), squared(ends.b, s))
 }
 
-// About the distance of the segments, in half nanometres: that of an end and the other segment.
+/// About the distance of the segments, in half nanometres: that of an end and the other segment.
 pub fn guess(a: Seg, b: Seg) -> u32 {
     if crosses(a, b) {
         return 0;

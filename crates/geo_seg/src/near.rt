@@ -9,14 +9,14 @@ ghost use Rattle.geo_seg.specs.Gap.{IsLeastGap, IsFramed, IsCrossing, IsEndReach
 use crate::points::{Point, Seg};
 use crate::vectors::{between, cross, dot, large_product, product};
 
-// A squared distance, as the fraction top / under.
+/// A squared distance, as the fraction top / under.
 #[derive(Clone, Copy, Drop)]
 struct Gap {
     top: i128,
     under: i64,
 }
 
-// The least squared distance of a point and a segment.
+/// The least squared distance of a point and a segment.
 fn least_gap(p: Point, s: Seg) -> Gap
     ensures least { IsLeastGap p s result.top result.under }
     ensures under_in_range { unsigned_abs result.under ≤ 8000000000000000000 }
@@ -45,7 +45,7 @@ fn least_gap(p: Point, s: Seg) -> Gap
     }
 }
 
-// The square of d, times the denominator of a gap.
+/// The square of d, times the denominator of a gap.
 fn limit(d: i64, under: i64) -> i128
     requires range { IsDistance d }
     requires under_in_range { unsigned_abs under ≤ 8000000000000000000 }
@@ -54,7 +54,7 @@ fn limit(d: i64, under: i64) -> i128
     large_product(product(d, d), under)
 }
 
-// `point_apart` by products.
+/// `point_apart` by products.
 fn is_point_off(p: Point, s: Seg, d: i64) -> bool
     requires { IsDistance d }
     ensures { IsTrue result ↔ AreApart (IsAt p) (IsOn s) d }
@@ -63,7 +63,7 @@ fn is_point_off(p: Point, s: Seg, d: i64) -> bool
     gap.top >= limit(d, gap.under)
 }
 
-// `point_within` by products.
+/// `point_within` by products.
 fn is_point_close(p: Point, s: Seg, d: i64) -> bool
     requires { IsDistance d }
     ensures { IsTrue result ↔ AreWithin (IsAt p) (IsOn s) d }
@@ -96,7 +96,7 @@ fn is_framed(whole: i64, part_a: i64, part_b: i64) -> bool
     0 < whole && 0 <= part_a && part_a <= whole && 0 <= part_b && part_b <= whole
 }
 
-// Whether the segments are not parallel, and meet.
+/// Whether the segments are not parallel, and meet.
 pub fn crosses(a: Seg, b: Seg) -> bool
     ensures { IsTrue result ↔ IsCrossing a b }
 {
@@ -123,7 +123,7 @@ fn ends_apart(ends: Seg, s: Seg, d: i64) -> bool
     point_apart(ends.a, s, d) && point_apart(ends.b, s, d)
 }
 
-// `seg_apart` by products.
+/// `seg_apart` by products.
 fn are_off(a: Seg, b: Seg, d: i64) -> bool
     requires { IsDistance d }
     ensures { IsTrue result ↔ AreApart (IsOn a) (IsOn b) d }
@@ -131,7 +131,7 @@ fn are_off(a: Seg, b: Seg, d: i64) -> bool
     d == 0 || !crosses(a, b) && ends_apart(a, b, d) && ends_apart(b, a, d)
 }
 
-// `seg_within` by products.
+/// `seg_within` by products.
 fn are_close(a: Seg, b: Seg, d: i64) -> bool
     requires { IsDistance d }
     ensures { IsTrue result ↔ AreWithin (IsOn a) (IsOn b) d }
@@ -139,7 +139,7 @@ fn are_close(a: Seg, b: Seg, d: i64) -> bool
     crosses(a, b) || ends_within(a, b, d) || ends_within(b, a, d)
 }
 
-// Whether boxes alone tell that the segments are apart at d. Only a yes is sure.
+/// Whether boxes alone tell that the segments are apart at d. Only a yes is sure.
 pub fn boxes_apart(a: Seg, b: Seg, d: i64) -> bool
     requires { IsDistance d }
     ensures { result ≡ true → AreApart (IsOn a) (IsOn b) d }

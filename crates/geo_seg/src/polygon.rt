@@ -14,8 +14,8 @@ use crate::shifts::{Shift, shift_outline};
 use std::alloc::{AllocError, Global};
 use std::marker::Model;
 
-// The corners, alone or with boxes. Those of many corners stand apart with theirs, so that a polygon
-// takes no more room than a segment where either may stand.
+/// The corners, alone or with boxes. Those of many corners stand apart with theirs, so that a polygon
+/// takes no more room than a segment where either may stand.
 #[derive(Drop)]
 pub enum Outline {
     Plain(Vec<Point>),
@@ -87,7 +87,7 @@ impl Poly {
         }
     }
 
-    // Moves it by so many half nanometres.
+    /// Moves it by so many half nanometres.
     pub(crate) fn shift(&mut self, by: Shift)
         requires { list_all (point_stays by.dx by.dy) self.old ≡ true }
         ensures { AllZip (IsShiftedPoint by.dx by.dy) self.old self.new }

@@ -28,7 +28,7 @@ pub const THIRD_RUN: usize = RUN_PARTS * SECOND_RUN;
 
 pub const FOURTH_RUN: usize = RUN_PARTS * THIRD_RUN;
 
-// Frame `whole` holds all corners. Of each row frame k holds the edges from k times the row's size on, so many as that size is.
+/// Frame `whole` holds all corners. Of each row frame k holds the edges from k times the row's size on, so many as that size is.
 #[derive(Drop)]
 pub struct Indexed {
     pub corners: Vec<Point>,
@@ -50,7 +50,7 @@ pub fn corner_box(first: Point, others: &[Point]) -> Bounds
     bounds
 }
 
-// The box of all corners.
+/// The box of all corners.
 pub fn box_of(corners: &[Point]) -> Bounds
     requires { 0 < length corners.now }
     ensures corners { IsCornerBox corners.now result }
@@ -59,7 +59,7 @@ pub fn box_of(corners: &[Point]) -> Bounds
     corner_box(corners[0], corners)
 }
 
-// The row of frames of the runs of `size` edges.
+/// The row of frames of the runs of `size` edges.
 fn row(alloc: Global, corners: &[Point], size: usize) -> Result<Vec<Frame>, AllocError>
     requires some { 0 < length corners.now }
     requires size { 0 < size }
@@ -82,7 +82,7 @@ fn row(alloc: Global, corners: &[Point], size: usize) -> Result<Vec<Frame>, Allo
     Ok(frames)
 }
 
-// The box of the run that begins at edge `low`, where the row has it.
+/// The box of the run that begins at edge `low`, where the row has it.
 fn at(frames: &[Frame], low: usize, size: usize) -> Option<Bounds>
     requires { 0 < size }
     ensures { (es : List Seg) → AreRuns size frames.now es → IfSome result (λ b. IsRunBox (take size (drop low es)) b) }
@@ -117,7 +117,7 @@ impl Indexed {
         })
     }
 
-    // Moves all corners and frames.
+    /// Moves all corners and frames.
     pub fn shift(&mut self, by: Shift)
         requires some { 0 < length self.old.corners.items }
         requires runs { HasRuns self.old }
@@ -133,7 +133,7 @@ impl Indexed {
         shift_row(&mut self.fourth, by);
     }
 
-    // The box of all corners.
+    /// The box of all corners.
     pub fn bounds(&self) -> Bounds
         requires { HasRuns self.now }
         ensures corners { IsCornerBox self.now.corners.items result }
@@ -142,7 +142,7 @@ impl Indexed {
         self.whole.bounds()
     }
 
-    // The box of the `size` edges from `low` on, where it is kept.
+    /// The box of the `size` edges from `low` on, where it is kept.
     pub fn run_box(&self, low: usize, size: usize) -> Option<Bounds>
         requires { HasRuns self.now }
         ensures { IfSome result (λ b. IsRunBox (take size (drop low (outline self.now.corners.items))) b) }

@@ -22,7 +22,7 @@ pub struct Shift {
     pub dy: i64,
 }
 
-// Whether the coordinate stays in range where it changes by so much.
+/// Whether the coordinate stays in range where it changes by so much.
 fn coordinate_stays(at: i64, by: i64) -> bool
     ensures { result ≡ is_coordinate (at +ℤ by) }
 {
@@ -50,14 +50,14 @@ impl Point {
     }
 }
 
-// Whether all corners stay in range.
+/// Whether all corners stay in range.
 fn corners_stay(corners: &[Point], by: Shift) -> bool
     ensures { result ≡ list_all (point_stays by.dx by.dy) corners.now }
 {
     corners.iter().all(|corner| corner.stays(by))
 }
 
-// Moves each corner.
+/// Moves each corner.
 fn shift_corners(corners: &mut [Point], by: Shift)
     requires { list_all (point_stays by.dx by.dy) corners.old ≡ true }
     ensures { AllZip (IsShiftedPoint by.dx by.dy) corners.old corners.new }
@@ -74,7 +74,7 @@ pub fn shift_outline(corners: &mut Vec<Point>, by: Shift)
     shift_corners(corners, by);
 }
 
-// The nearest number in range.
+/// The nearest number in range.
 #[tactic(auto, unfolding(crate::specs::ShiftedRuns::in_range_of))]
 fn in_range(z: i64) -> i64
     ensures { result ≡ in_range_of z }
@@ -89,7 +89,7 @@ fn in_range(z: i64) -> i64
 }
 
 impl Bounds {
-    // The box moved, and cut to the range of coordinates.
+    /// The box moved, and cut to the range of coordinates.
     fn shifted(self, by: Shift) -> Bounds
         requires fits { FitsWithin (pos 1000000000) self }
         requires dx { unsigned_abs by.dx ≤ 2000000000 }
@@ -109,7 +109,7 @@ impl Bounds {
 }
 
 impl Frame {
-    // What the frame holds is held by the new one, moved.
+    /// What the frame holds is held by the new one, moved.
     fn shifted(self, by: Shift) -> Frame
         requires fits { FitsWithin (pos 1000000000) (sides_of self) }
         requires dx { unsigned_abs by.dx ≤ 2000000000 }
@@ -120,7 +120,7 @@ impl Frame {
     }
 }
 
-// Moves each frame.
+/// Moves each frame.
 fn shift_frames(frames: &mut [Frame], by: Shift)
     requires fits { All (λ frame. FitsWithin (pos 1000000000) (sides_of frame)) frames.old }
     requires dx { unsigned_abs by.dx ≤ 2000000000 }

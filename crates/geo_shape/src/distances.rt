@@ -10,7 +10,7 @@ ghost use Rattle.geo_seg.specs.Distances.{Apart, Meet, IsGap};
 use geo_poly::{poly_apart, poly_gap, poly_seg_apart, poly_seg_gap, poly_seg_within, poly_within};
 use geo_seg::{Core, Poly, Seg, Shape, seg_apart, seg_gap, seg_within};
 
-// `cores_apart` for a segment and any core.
+/// `cores_apart` for a segment and any core.
 fn seg_core_apart(s: Seg, core: &Core, d: i64) -> bool
     requires { IsDistance d }
     ensures { IsTrue result ↔ AreApart (IsPointOf core.now) (IsOn s) d }
@@ -51,7 +51,7 @@ fn poly_core_within(poly: &Poly, core: &Core, d: i64) -> bool
     }
 }
 
-// Whether no points of the cores are nearer to each other than d.
+/// Whether no points of the cores are nearer to each other than d.
 fn cores_apart(a: &Core, b: &Core, d: i64) -> bool
     requires { IsDistance d }
     ensures { IsTrue result ↔ AreApart (IsPointOf a.now) (IsPointOf b.now) d }
@@ -62,7 +62,7 @@ fn cores_apart(a: &Core, b: &Core, d: i64) -> bool
     }
 }
 
-// Whether some points of the cores are at most d apart.
+/// Whether some points of the cores are at most d apart.
 fn cores_within(a: &Core, b: &Core, d: i64) -> bool
     requires { IsDistance d }
     ensures { IsTrue result ↔ AreWithin (IsPointOf a.now) (IsPointOf b.now) d }
@@ -73,7 +73,7 @@ fn cores_within(a: &Core, b: &Core, d: i64) -> bool
     }
 }
 
-// How far apart the cores are where the shapes are c apart.
+/// How far apart the cores are where the shapes are c apart.
 fn reach(a: &Shape, b: &Shape, c: i64) -> i64
     requires { IsUpTo (pos 1000000000) c }
     ensures value { result ≡ a.now.radius +ℤ b.now.radius +ℤ c }
@@ -98,7 +98,7 @@ pub fn meet(a: &Shape, b: &Shape) -> bool
     cores_within(&a.core, &b.core, reach(a, b, 0))
 }
 
-// `cores_gap` for a segment and any core.
+/// `cores_gap` for a segment and any core.
 fn seg_core_gap(s: Seg, core: &Core, most: i64) -> i64
     requires { IsDistance most }
     ensures { IsGap (λ d. AreApart (IsPointOf core.now) (IsOn s) d) most result }
@@ -119,8 +119,8 @@ fn poly_core_gap(poly: &Poly, core: &Core, most: i64) -> i64
     }
 }
 
-// The greatest whole number from 1 to `most` that is a distance at which no points of the cores are nearer to
-// each other, or 0.
+/// The greatest whole number from 1 to `most` that is a distance at which no points of the cores are nearer to
+/// each other, or 0.
 fn cores_gap(a: &Core, b: &Core, most: i64) -> i64
     requires { IsDistance most }
     ensures { IsGap (λ d. AreApart (IsPointOf a.now) (IsPointOf b.now) d) most result }
@@ -131,7 +131,7 @@ fn cores_gap(a: &Core, b: &Core, most: i64) -> i64
     }
 }
 
-// What a distance of the cores leaves between the shapes, in whole nanometres.
+/// What a distance of the cores leaves between the shapes, in whole nanometres.
 fn half_beyond(radii: i64, kept: i64) -> i64
     requires radii { IsUpTo (pos 1000000000) radii }
     requires kept { IsDistance kept }

@@ -11,7 +11,7 @@ use crate::side::{ListedParts, SomeParts};
 use board_items::{Nm, Part};
 use geo_seg::Shape;
 
-// Whether the part is one of those that are listed.
+/// Whether the part is one of those that are listed.
 fn takes(listed: &ListedParts<'_>, part: &Part) -> bool
     ensures { result ≡ is_taken listed.now.layer part.now }
 {
@@ -21,7 +21,7 @@ fn takes(listed: &ListedParts<'_>, part: &Part) -> bool
     }
 }
 
-// Whether none is listed.
+/// Whether none is listed.
 fn lists_none(listed: &ListedParts<'_>) -> bool
     ensures { IsTrue result ↔ (filter (is_taken listed.now.layer) listed.now.parts.now ≡ []) }
 {
@@ -44,7 +44,7 @@ pub fn is_empty(side: &SomeParts<'_>) -> bool
     }
 }
 
-// Whether the shape meets one of those that are listed.
+/// Whether the shape meets one of those that are listed.
 fn meets_listed(shape: &Shape, listed: &ListedParts<'_>) -> bool
     ensures { IsTrue result ↔ Any (λ other. Meet shape.now other.shape) (filter (is_taken listed.now.layer) listed.now.parts.now) }
 {
@@ -56,7 +56,7 @@ fn meets_listed(shape: &Shape, listed: &ListedParts<'_>) -> bool
     false
 }
 
-// Whether the shape meets one of the side.
+/// Whether the shape meets one of the side.
 fn meets_side(shape: &Shape, side: &SomeParts<'_>) -> bool
     ensures { IsTrue result ↔ Any (λ other. Meet shape.now other.shape) (parts_at side.now) }
 {
@@ -67,7 +67,7 @@ fn meets_side(shape: &Shape, side: &SomeParts<'_>) -> bool
     }
 }
 
-// Whether one of those that are listed meets one of the side.
+/// Whether one of those that are listed meets one of the side.
 fn listed_meet(listed: &ListedParts<'_>, side: &SomeParts<'_>) -> bool
     ensures { IsTrue result ↔ Any (λ part. Any (λ other. Meet part.shape other.shape) (parts_at side.now)) (filter (is_taken listed.now.layer) listed.now.parts.now) }
 {
@@ -90,7 +90,7 @@ pub fn sides_meet(own: &SomeParts<'_>, others: &SomeParts<'_>) -> bool
     }
 }
 
-// `geo_shape::gap`, which takes longer, where the two do not keep the greatest distance.
+/// `geo_shape::gap`, which takes longer, where the two do not keep the greatest distance.
 fn shape_gap(a: &Shape, b: &Shape, most: Nm) -> Nm
     requires { IsLength most }
     ensures { IsGap (λ g. Apart a.now b.now (pos 2 *ℤ g)) most result }
@@ -102,7 +102,7 @@ fn shape_gap(a: &Shape, b: &Shape, most: Nm) -> Nm
     }
 }
 
-// The gap between the shape and those that are listed.
+/// The gap between the shape and those that are listed.
 fn gap_to_listed(shape: &Shape, listed: &ListedParts<'_>, most: Nm) -> Nm
     requires { IsLength most }
     ensures { IsGap (λ g. All (λ other. Apart shape.now other.shape (pos 2 *ℤ g)) (filter (is_taken listed.now.layer) listed.now.parts.now)) most result }
@@ -116,7 +116,7 @@ fn gap_to_listed(shape: &Shape, listed: &ListedParts<'_>, most: Nm) -> Nm
     gap
 }
 
-// The gap between the shape and the side.
+/// The gap between the shape and the side.
 fn gap_to_side(shape: &Shape, side: &SomeParts<'_>, most: Nm) -> Nm
     requires { IsLength most }
     ensures { IsGap (λ g. All (λ other. Apart shape.now other.shape (pos 2 *ℤ g)) (parts_at side.now)) most result }
@@ -128,7 +128,7 @@ fn gap_to_side(shape: &Shape, side: &SomeParts<'_>, most: Nm) -> Nm
     }
 }
 
-// The gap between those that are listed and the side.
+/// The gap between those that are listed and the side.
 fn listed_gap(listed: &ListedParts<'_>, side: &SomeParts<'_>, most: Nm) -> Nm
     requires { IsLength most }
     ensures { IsGap (λ g. All (λ part. All (λ other. Apart part.shape other.shape (pos 2 *ℤ g)) (parts_at side.now)) (filter (is_taken listed.now.layer) listed.now.parts.now)) most result }

@@ -14,7 +14,7 @@ pub fn touches(part: &Part, other: &Part) -> bool
     share_layer(part.layers, other.layers) && geo_shape::meet(&part.shape, &other.shape)
 }
 
-// Whether the part touches one of the others.
+/// Whether the part touches one of the others.
 fn touches_some(part: &Part, others: &[Part]) -> bool
     ensures { IsTrue result ↔ Any (λ other. PartsMeet part.now other) others.now }
 {

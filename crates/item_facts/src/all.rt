@@ -81,7 +81,7 @@ pub fn facts_near<'c>(
     facts_among(alloc, board, class, item, room)
 }
 
-// The ids of all areas and bodies.
+/// The ids of all areas and bodies.
 fn all_marks(board: &Board) -> &[u32]
     ensures marks { result.now ≡ marks_of board.now.items }
     ensures sound { IsSound board.now }
@@ -90,7 +90,7 @@ fn all_marks(board: &Board) -> &[u32]
     board.marks()
 }
 
-// The facts of an item, which is asked against all areas and bodies.
+/// The facts of an item, which is asked against all areas and bodies.
 fn facts_of(
     alloc: Global,
     board: &Board,
@@ -113,7 +113,7 @@ pub fn facts(alloc: Global, board: &Board, classes: &Classes, id: u32) -> Result
     facts_of(alloc, board, classes, board.get(id).unwrap())
 }
 
-// How many slots the facts of all items take, about: more where items were taken out.
+/// How many slots the facts of all items take, about: more where items were taken out.
 fn slots_of(board: &Board) -> usize {
     MOST_ITEMS.saturating_sub(board.left()) as usize
 }

@@ -7,7 +7,7 @@ ghost use Rattle.rule_pick.specs.FactsOf.{SomeOn, AreLayersOf};
 use board_items::{Item, Part, What};
 use copper_layers::LayerSet;
 
-// The layers of all the parts.
+/// The layers of all the parts.
 fn union_of(parts: &[Part]) -> LayerSet
     ensures { (layer : ℕ) → (IsTrue (has_layer result layer) ↔ SomeOn layer parts.now) }
 {
@@ -18,7 +18,7 @@ fn union_of(parts: &[Part]) -> LayerSet
     layers
 }
 
-// The set of one layer.
+/// The set of one layer.
 fn only(layer: u32) -> LayerSet
     requires { layer < 32 }
     ensures { (other : ℕ) → (IsTrue (has_layer result other) ↔ (other ≡ layer)) }
@@ -26,7 +26,7 @@ fn only(layer: u32) -> LayerSet
     LayerSet::of(layer)
 }
 
-// F.Cu for an item on the front, else B.Cu.
+/// F.Cu for an item on the front, else B.Cu.
 fn of_side(on_back: bool) -> LayerSet
     ensures { (layer : ℕ) → (IsTrue (has_layer result layer) ↔ (layer ≡ (if on_back then 31 else 0))) }
 {

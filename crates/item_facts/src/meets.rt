@@ -12,7 +12,7 @@ use drc_io::Name;
 use geo_seg::Shape;
 use item_copper::{share_layer, touches};
 
-// Whether one of the parts touches the area.
+/// Whether one of the parts touches the area.
 fn some_touches(parts: &[Part], area: &Part) -> bool
     ensures { IsTrue result ↔ Any (λ part. PartsMeet part area.now) parts.now }
 {
@@ -24,7 +24,7 @@ fn some_touches(parts: &[Part], area: &Part) -> bool
     false
 }
 
-// Whether one of the parts meets the area, wherever they lie.
+/// Whether one of the parts meets the area, wherever they lie.
 fn some_meets(parts: &[Part], area: &Part) -> bool
     ensures { IsTrue result ↔ Any (λ part. Meet part.shape area.now.shape) parts.now }
 {
@@ -36,7 +36,7 @@ fn some_meets(parts: &[Part], area: &Part) -> bool
     false
 }
 
-// Whether the shape meets one of the others.
+/// Whether the shape meets one of the others.
 fn meets_some(shape: &Shape, others: &[Part]) -> bool
     ensures { IsTrue result ↔ Any (λ other. Meet shape.now other.shape) others.now }
 {
@@ -48,7 +48,7 @@ fn meets_some(shape: &Shape, others: &[Part]) -> bool
     false
 }
 
-// Whether one of the parts on the layer meets one of the others.
+/// Whether one of the parts on the layer meets one of the others.
 fn some_meet_on(layer: u32, parts: &[Part], others: &[Part]) -> bool
     requires { layer < 32 }
     ensures { IsTrue result ↔ SomeMeet (on_layer layer parts.now) others.now }
@@ -61,7 +61,7 @@ fn some_meet_on(layer: u32, parts: &[Part], others: &[Part]) -> bool
     false
 }
 
-// Whether the area has the layer, and one of the parts meets it.
+/// Whether the area has the layer, and one of the parts meets it.
 fn meets_on(layer: u32, parts: &[Part], area: &Part) -> bool
     requires { layer < 32 }
     ensures { IsTrue result ↔ MeetsOn layer parts.now area.now }
@@ -69,7 +69,7 @@ fn meets_on(layer: u32, parts: &[Part], area: &Part) -> bool
     area.layers.has(layer) && some_meets(parts, area)
 }
 
-// Whether the hole touches the area.
+/// Whether the hole touches the area.
 fn hole_touches(hole: &Option<Hole>, area: &Part) -> bool
     ensures { IsTrue result ↔ Any (λ part. PartsMeet part area.now) (hole_parts hole.now) }
 {
@@ -81,7 +81,7 @@ fn hole_touches(hole: &Option<Hole>, area: &Part) -> bool
     }
 }
 
-// Whether the copper, or without copper the hole, touches the area.
+/// Whether the copper, or without copper the hole, touches the area.
 fn placed_touches(copper: &[Part], hole: &Option<Hole>, area: &Part) -> bool
     ensures { IsTrue result ↔ Any (λ part. PartsMeet part area.now) (placed_parts copper.now hole.now) }
 {
@@ -92,7 +92,7 @@ fn placed_touches(copper: &[Part], hole: &Option<Hole>, area: &Part) -> bool
     }
 }
 
-// Whether the item meets the area.
+/// Whether the item meets the area.
 fn meets_part(item: &Item, area: &Part) -> bool
     ensures { IsTrue result ↔ MeetsPart item.now item.now.what area.now }
 {
@@ -114,7 +114,7 @@ pub fn area_met<'o>(item: &Item, other: &'o Item) -> Option<&'o Name>
     }
 }
 
-// Whether the hole goes through the layer and meets one of the others.
+/// Whether the hole goes through the layer and meets one of the others.
 fn hole_meets_on(layer: u32, hole: &Option<Hole>, others: &[Part]) -> bool
     requires { layer < 32 }
     ensures { IsTrue result ↔ SomeMeet (on_layer layer (hole_parts hole.now)) others.now }
@@ -125,7 +125,7 @@ fn hole_meets_on(layer: u32, hole: &Option<Hole>, others: &[Part]) -> bool
     }
 }
 
-// Whether the copper, or without copper the hole, meets one of the others on the layer.
+/// Whether the copper, or without copper the hole, meets one of the others on the layer.
 fn placed_meets_on(layer: u32, copper: &[Part], hole: &Option<Hole>, others: &[Part]) -> bool
     requires { layer < 32 }
     ensures { IsTrue result ↔ SomeMeet (on_layer layer (placed_parts copper.now hole.now)) others.now }
@@ -137,7 +137,7 @@ fn placed_meets_on(layer: u32, copper: &[Part], hole: &Option<Hole>, others: &[P
     }
 }
 
-// Whether the item meets a courtyard on F.Cu or on B.Cu.
+/// Whether the item meets a courtyard on F.Cu or on B.Cu.
 fn meets_either(item: &Item, front: &[Part], back: &[Part]) -> bool
     ensures { IsTrue result ↔ MeetsEither item.now front.now back.now }
 {

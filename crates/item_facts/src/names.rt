@@ -12,7 +12,7 @@ use drc_io::Name;
 use rule_pick::Names;
 use std::alloc::{AllocError, Global};
 
-// Appends an equal name, if there is one.
+/// Appends an equal name, if there is one.
 fn push_if(names: &mut Vec<Name>, name: Option<&Name>) -> Result<(), AllocError>
     ensures { OnOk result (names.new.items ≡ names.old.items ++ name_if (option_copied name.entry)) }
 {

@@ -23,7 +23,7 @@ fn is_mark(what: &What) -> bool
     matches!(what, What::Area { .. } | What::Body { .. })
 }
 
-// The bounds, which the index takes.
+/// The bounds, which the index takes.
 fn bounds_of(item: &Item) -> Option<Bounds>
     ensures least { AreBoundsOf (parts_of item.now) result }
     ensures fits { IfSome result (FitsWithin (pos 2000000000)) }
@@ -31,7 +31,7 @@ fn bounds_of(item: &Item) -> Option<Bounds>
     item.bounds()
 }
 
-// Puts the item into the index, if it is an area or a body and has bounds.
+/// Puts the item into the index, if it is an area or a body and has bounds.
 fn put_mark(index: &mut TileIndex, id: u32, item: &Item) -> Result<(), AllocError>
     requires { IsAbsent id index.old.entries }
     ensures { OnOk result (IsMarked id item.now index.old index.new) }
@@ -56,7 +56,7 @@ pub fn index_marks(alloc: Global, board: &Board) -> Result<TileIndex, AllocError
     Ok(index)
 }
 
-// Appends the ids of a tile's entries whose boxes meet this one.
+/// Appends the ids of a tile's entries whose boxes meet this one.
 fn push_tile(
     index: &TileIndex,
     tile: u32,
@@ -73,7 +73,7 @@ fn push_tile(
     Ok(())
 }
 
-// Appends the ids of all entries whose boxes meet this one; an entry of many tiles more than once.
+/// Appends the ids of all entries whose boxes meet this one; an entry of many tiles more than once.
 fn push_near(index: &TileIndex, bounds: Bounds, ids: &mut Vec<u32>) -> Result<(), AllocError>
     requires { FitsWithin (pos 2000000000) bounds }
     ensures { OnOk result (HasReached bounds index.now.entries ids.old.items ids.new.items) }
@@ -88,7 +88,7 @@ fn push_near(index: &TileIndex, bounds: Bounds, ids: &mut Vec<u32>) -> Result<()
     Ok(())
 }
 
-// Puts ids in order, each once. It takes no memory.
+/// Puts ids in order, each once. It takes no memory.
 fn put_in_order(ids: &mut Vec<u32>)
     ensures rise { IsStrictlyIncreasing ids.new.items }
     ensures kept { (id : ℕ) → Contains ids.old.items id → Contains ids.new.items id }
@@ -97,7 +97,7 @@ fn put_in_order(ids: &mut Vec<u32>)
     ids.dedup();
 }
 
-// Whether the id is that of an area or a body.
+/// Whether the id is that of an area or a body.
 fn is_mark_of(board: &Board, id: u32) -> bool
     ensures { result ≡ is_mark_of board.now.items id }
 {
@@ -107,14 +107,14 @@ fn is_mark_of(board: &Board, id: u32) -> bool
     }
 }
 
-// Leaves those of the ids that are areas or bodies.
+/// Leaves those of the ids that are areas or bodies.
 fn keep_marks(board: &Board, ids: &mut Vec<u32>)
     ensures { ids.new.items ≡ filter (λ id. is_mark_of board.now.items id) ids.old.items }
 {
     ids.retain(|id| is_mark_of(board, *id));
 }
 
-// Whether the box meets more tiles than this.
+/// Whether the box meets more tiles than this.
 fn spans_more(index: &TileIndex, bounds: Bounds, count: usize) -> bool
     requires { FitsWithin (pos 2000000000) bounds }
 {
@@ -128,7 +128,7 @@ fn spans_more(index: &TileIndex, bounds: Bounds, count: usize) -> bool
         > count
 }
 
-// Puts the ids of all areas and bodies of the board.
+/// Puts the ids of all areas and bodies of the board.
 fn push_marks(board: &Board, ids: &mut Vec<u32>) -> Result<(), AllocError>
     requires { ids.old.items ≡ [] }
     ensures marks { OnOk result (ids.new.items ≡ marks_of board.now.items) }

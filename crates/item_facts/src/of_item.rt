@@ -16,7 +16,7 @@ use net_class::Class;
 use rule_pick::{Facts, Names};
 use std::alloc::{AllocError, Global};
 
-// The name of a net; empty where it was not declared.
+/// The name of a net; empty where it was not declared.
 fn net_name(alloc: Global, board: &Board, net: u32) -> Result<Name, AllocError>
     ensures { IfOk result (λ name. name ≡ unwrap_or (name_of board.now net) []) }
 {
@@ -26,7 +26,7 @@ fn net_name(alloc: Global, board: &Board, net: u32) -> Result<Name, AllocError>
     }
 }
 
-// The facts of an item of this class that meets these areas and courtyards.
+/// The facts of an item of this class that meets these areas and courtyards.
 pub(crate) fn facts_with(
     alloc: Global,
     board: &Board,

@@ -15,7 +15,7 @@ use board_items::{Board, Item, Nm};
 use cond_lang::{Constraint, Family, Kind, Rule};
 use net_class::{Classes, Mins};
 
-// The greater of the two.
+/// The greater of the two.
 fn raised(n: Length, nm: Length) -> Length
     ensures { IsRaised n.nm (nm.nm ∷ []) result.nm }
 {
@@ -40,7 +40,7 @@ fn raised_if(n: Length, nm: Option<Length>) -> Length
     }
 }
 
-// The least value of the constraint, where its kind is between two items.
+/// The least value of the constraint, where its kind is between two items.
 fn distance_asked(constraint: &Constraint) -> Option<Length>
     ensures { one_if (option_map (λ l. l.nm) result) ≡ distance_asked (plain_constraint constraint.now) }
 {

@@ -20,10 +20,10 @@ use std::alloc::{AllocError, Global};
 use std::collections::BTreeMap;
 use std::thread::Threads;
 
-// From how many slots on threads are worth their start.
+/// From how many slots on threads are worth their start.
 const MANY: u32 = 2_000;
 
-// The classes of all declared nets.
+/// The classes of all declared nets.
 fn classes_of<'c>(
     alloc: Global,
     board: &Board,
@@ -38,7 +38,7 @@ fn classes_of<'c>(
     Ok(known)
 }
 
-// The class of a net, which was mostly sought before.
+/// The class of a net, which was mostly sought before.
 fn class_in<'c>(
     known: &BTreeMap<u32, &'c Class>,
     board: &Board,
@@ -54,7 +54,7 @@ fn class_in<'c>(
     }
 }
 
-// What facts are found by. The classes are those of all declared nets.
+/// What facts are found by. The classes are those of all declared nets.
 #[derive(Clone, Copy)]
 struct Sources<'a, 'c> {
     alloc: Global,
@@ -64,7 +64,7 @@ struct Sources<'a, 'c> {
     known: &'a BTreeMap<u32, &'c Class>,
 }
 
-// The facts of an item.
+/// The facts of an item.
 fn facts_of(sources: &Sources<'_, '_>, item: &Item) -> Result<Facts, AllocError>
     requires { AreReady sources.now }
     ensures { IfOk result (AreFactsOf sources.now.board.now sources.now.classes.now item.now) }
@@ -75,7 +75,7 @@ fn facts_of(sources: &Sources<'_, '_>, item: &Item) -> Result<Facts, AllocError>
     facts_among(sources.alloc, sources.board, class, item, &ids)
 }
 
-// The facts of the item of an id; none where there is no such item, or memory is wanting.
+/// The facts of the item of an id; none where there is no such item, or memory is wanting.
 fn facts_of_id(sources: &Sources<'_, '_>, id: u32) -> Option<Facts>
     requires { AreReady sources.now }
     ensures { IfSome result (AreFacts sources.now.board.now sources.now.classes.now id) }
@@ -86,7 +86,7 @@ fn facts_of_id(sources: &Sources<'_, '_>, id: u32) -> Option<Facts>
     }
 }
 
-// Fills the slots of all ids for which there are items, by as many threads as there are processors.
+/// Fills the slots of all ids for which there are items, by as many threads as there are processors.
 fn fill(rt: &(impl Threads + Sync), sources: &Sources<'_, '_>, slots: &mut [Option<Facts>])
     requires ready { AreReady sources.now }
     requires few { length slots.old < 4294967296 }
@@ -105,7 +105,7 @@ fn fill(rt: &(impl Threads + Sync), sources: &Sources<'_, '_>, slots: &mut [Opti
     );
 }
 
-// So many empty slots.
+/// So many empty slots.
 fn empty_slots(alloc: Global, count: u32) -> Result<Vec<Option<Facts>>, AllocError>
     ensures { IfOk result (λ slots. AreEmpty count slots.items) }
 {
@@ -116,7 +116,7 @@ fn empty_slots(alloc: Global, count: u32) -> Result<Vec<Option<Facts>>, AllocErr
     Ok(slots)
 }
 
-// One above the greatest id of an item.
+/// One above the greatest id of an item.
 fn end_of(board: &Board) -> u32 {
     let mut end = 0;
     for (id, _) in board.iter() {
@@ -125,7 +125,7 @@ fn end_of(board: &Board) -> u32 {
     end
 }
 
-// Whether each item has facts.
+/// Whether each item has facts.
 fn have_all(board: &Board, facts: &FactsById) -> bool
     ensures { result ≡ true → (id : ℕ) (item : PlainItem) → item_at board.now.items id ≡ Some item → IsSome (facts_at facts.now id) }
 {

@@ -17,7 +17,7 @@ use box_index::{TileIndex, push_ids_near, put_in_order};
 use geo_seg::Bounds;
 use std::alloc::{AllocError, Global};
 
-// The bounds, which the index takes.
+/// The bounds, which the index takes.
 fn bounds_of(item: &Item) -> Option<Bounds>
     ensures least { AreBoundsOf (parts_of item.now) result }
     ensures fits { IfSome result (FitsWithin (pos 2000000000)) }
@@ -25,7 +25,7 @@ fn bounds_of(item: &Item) -> Option<Bounds>
     item.bounds()
 }
 
-// Appends the ids of the entries whose boxes meet that of the area or body.
+/// Appends the ids of the entries whose boxes meet that of the area or body.
 fn push_near(index: &TileIndex, mark: Option<&Item>, ids: &mut Vec<u32>) -> Result<(), AllocError>
     ensures { OnOk result (HasNear index.now (option_copied mark.entry) ids.old.items ids.new.items) }
 {
@@ -38,7 +38,7 @@ fn push_near(index: &TileIndex, mark: Option<&Item>, ids: &mut Vec<u32>) -> Resu
     }
 }
 
-// Whether the item of the id, if there is one, has the same name from the one as from the other.
+/// Whether the item of the id, if there is one, has the same name from the one as from the other.
 fn is_unconcerned(board: &Board, id: u32, before: Option<&Item>, now: Option<&Item>) -> bool
     ensures { IsTrue result ↔ ((item : Item) → item_at board.now.items id ≡ Some item → GiveSame item (option_copied before.entry) (option_copied now.entry)) }
 {
@@ -48,7 +48,7 @@ fn is_unconcerned(board: &Board, id: u32, before: Option<&Item>, now: Option<&It
     }
 }
 
-// Appends those of the ids whose items have another name from the one than from the other.
+/// Appends those of the ids whose items have another name from the one than from the other.
 fn push_others(
     board: &Board,
     near: &[u32],
@@ -66,7 +66,7 @@ fn push_others(
     Ok(())
 }
 
-// Appends the ids of all items that have another name from an area or a body than before. `near` is room for ids.
+/// Appends the ids of all items that have another name from an area or a body than before. `near` is room for ids.
 fn push_concerned(
     board: &Board,
     index: &TileIndex,

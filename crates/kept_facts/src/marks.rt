@@ -44,7 +44,7 @@ pub(crate) fn mark_of(marks: &[Option<Item>], place: usize) -> Option<&Item>
     }
 }
 
-// An equal item, if there is one.
+/// An equal item, if there is one.
 fn copy_if(alloc: Global, mark: Option<&Item>) -> Result<Option<Item>, AllocError>
     ensures { IfOk result (λ copy. copy ≡ option_copied mark.entry) }
 {
@@ -54,7 +54,7 @@ fn copy_if(alloc: Global, mark: Option<&Item>) -> Result<Option<Item>, AllocErro
     }
 }
 
-// Equal areas and bodies of these ids, in their order.
+/// Equal areas and bodies of these ids, in their order.
 fn marks_of(alloc: Global, board: &Board, ids: &[u32]) -> Result<Vec<Option<Item>>, AllocError>
     ensures { IfOk result (λ marks. marks.items ≡ map (mark_at board.now) ids.now) }
 {
@@ -77,7 +77,7 @@ pub fn marks_before(
     marks_of(alloc, board, ids)
 }
 
-// The title that the item has from an area, if it meets it.
+/// The title that the item has from an area, if it meets it.
 fn title_if<'o>(item: &Item, mark: Option<&'o Item>) -> Option<&'o Name>
     ensures { IsNameIf (GivesIf (MeetsArea item.now) (option_copied mark.entry)) (option_copied result) }
 {
@@ -87,7 +87,7 @@ fn title_if<'o>(item: &Item, mark: Option<&'o Item>) -> Option<&'o Name>
     }
 }
 
-// The reference that the item has from a body, if it meets one of its courtyards.
+/// The reference that the item has from a body, if it meets one of its courtyards.
 fn reference_if<'o>(item: &Item, mark: Option<&'o Item>) -> Option<&'o Name>
     ensures { IsNameIf (GivesIf (MeetsCourtyard item.now) (option_copied mark.entry)) (option_copied result) }
 {

@@ -22,7 +22,7 @@ use rule_pick::{Facts, FactsById};
 use std::alloc::{AllocError, Global};
 use std::collections::BTreeMap;
 
-// Whether the id is one of the edit's.
+/// Whether the id is one of the edit's.
 fn is_among(ids: &[u32], id: u32) -> bool
     requires { IsStrictlyIncreasing ids.now }
     ensures { result ≡ is_changed ids.now id }
@@ -30,7 +30,7 @@ fn is_among(ids: &[u32], id: u32) -> bool
     ids.binary_search(&id).is_ok()
 }
 
-// Whether these facts were kept.
+/// Whether these facts were kept.
 fn are_kept(kept: Option<&Facts>, facts: &Facts) -> bool
     ensures { IsTrue result ↔ (option_copied kept.entry ≡ Some facts.now) }
 {
@@ -40,7 +40,7 @@ fn are_kept(kept: Option<&Facts>, facts: &Facts) -> bool
     }
 }
 
-// What facts are found by.
+/// What facts are found by.
 #[derive(Clone, Copy)]
 struct Sources<'a> {
     alloc: Global,
@@ -49,8 +49,8 @@ struct Sources<'a> {
     index: &'a TileIndex,
 }
 
-// Finds the facts of the item of an id again, and forgets them where it is gone. It says whether they are others than before.
-// `known` are the classes of nets that were sought, and `room` is room for ids.
+/// Finds the facts of the item of an id again, and forgets them where it is gone. It says whether they are others than before.
+/// `known` are the classes of nets that were sought, and `room` is room for ids.
 fn find_again<'a>(
     sources: &Sources<'a>,
     known: &mut BTreeMap<u32, &'a Class>,
@@ -84,7 +84,7 @@ fn find_again<'a>(
     }
 }
 
-// Finds the facts of all these again, and gives the ids, rising, that are of the edit or have other facts.
+/// Finds the facts of all these again, and gives the ids, rising, that are of the edit or have other facts.
 fn find_all_again(
     sources: &Sources<'_>,
     facts: &mut FactsById,

@@ -13,7 +13,7 @@ use box_index::TileIndex;
 use std::alloc::{AllocError, Global};
 use std::thread::Threads;
 
-// Appends a work for the net.
+/// Appends a work for the net.
 fn push_work(works: &mut Vec<Work>, net: u32) -> Result<(), AllocError>
     ensures { OnOk result ((work : Work) × (work.net ≡ net) × (works.new.items ≡ works.old.items ++ work ∷ [])) }
 {
@@ -26,7 +26,7 @@ fn push_work(works: &mut Vec<Work>, net: u32) -> Result<(), AllocError>
     Ok(())
 }
 
-// A work for each declared net but net 0, in the order of the board.
+/// A work for each declared net but net 0, in the order of the board.
 fn all_works(alloc: Global, board: &Board) -> Result<Vec<Work>, AllocError>
     ensures { IfOk result (λ works. AreAllWorks (real_nets board.now) works.items) }
 {
@@ -39,7 +39,7 @@ fn all_works(alloc: Global, board: &Board) -> Result<Vec<Work>, AllocError>
     Ok(works)
 }
 
-// Appends the part that the work found. It fails where the work met a want of memory.
+/// Appends the part that the work found. It fails where the work met a want of memory.
 fn push_found(parts: &mut Vec<NetPart>, work: Work) -> Result<(), AllocError>
     ensures { OnOk result ((part : PlainNetPart) × (work.part ≡ Some part) × (parts.new.items ≡ parts.old.items ++ part ∷ [])) }
 {
@@ -52,7 +52,7 @@ fn push_found(parts: &mut Vec<NetPart>, work: Work) -> Result<(), AllocError>
     }
 }
 
-// The parts that the works found, in their order.
+/// The parts that the works found, in their order.
 fn parts_of(alloc: Global, works: Vec<Work>) -> Result<Vec<NetPart>, AllocError>
     ensures { IfOk result (λ parts. AllZip (λ work part. work.part ≡ Some part) works.items parts.items) }
 {

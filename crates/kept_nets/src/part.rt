@@ -33,7 +33,7 @@ fn copy_group(alloc: Global, group: &Group) -> Result<Group, AllocError>
     Ok(Group::of(Vec::from_slice(alloc, group.members())?))
 }
 
-// Equal groups.
+/// Equal groups.
 fn copy_groups(alloc: Global, groups: &[Group]) -> Result<Vec<Group>, AllocError>
     ensures { IfOk result (λ copy. copy.items ≡ groups.now) }
 {
@@ -44,7 +44,7 @@ fn copy_groups(alloc: Global, groups: &[Group]) -> Result<Vec<Group>, AllocError
     Ok(copy)
 }
 
-// An equal nest.
+/// An equal nest.
 fn copy_nest(alloc: Global, nest: &Nest) -> Result<Nest, AllocError>
     ensures { IfOk result (λ copy. copy.links ≡ nest.now.links) }
 {

@@ -18,7 +18,7 @@ use box_index::TileIndex;
 use std::alloc::{AllocError, Global};
 use std::thread::Threads;
 
-// Whether the net of the part is one of these.
+/// Whether the net of the part is one of these.
 fn is_touched(part: &NetPart, nets: &[u32]) -> bool
     requires { IsStrictlyIncreasing nets.now }
     ensures { result ≡ is_one_of nets.now part.now.net }
@@ -26,7 +26,7 @@ fn is_touched(part: &NetPart, nets: &[u32]) -> bool
     nets.binary_search(&part.net).is_ok()
 }
 
-// A work for each part whose net is touched.
+/// A work for each part whose net is touched.
 fn works_of(alloc: Global, parts: &[NetPart], nets: &[u32]) -> Result<Vec<Work>, AllocError>
     requires { IsStrictlyIncreasing nets.now }
     ensures { IfOk result (λ works. AreWorksUpTo (map (λ part. part.net) parts.now) nets.now (length parts.now) works.items) }
@@ -45,7 +45,7 @@ fn works_of(alloc: Global, parts: &[NetPart], nets: &[u32]) -> Result<Vec<Work>,
     Ok(works)
 }
 
-// Puts the part that a work found into its place.
+/// Puts the part that a work found into its place.
 fn put(parts: &mut [NetPart], work: Work) -> Result<(), AllocError>
     requires { work.place < length parts.old }
     ensures { OnOk result ((part : PlainNetPart) × (work.part ≡ Some part) × (parts.new ≡ slice_set parts.old work.place part)) }
@@ -60,7 +60,7 @@ fn put(parts: &mut [NetPart], work: Work) -> Result<(), AllocError>
     }
 }
 
-// Puts the parts that were found into their places. It fails where a work met a want of memory.
+/// Puts the parts that were found into their places. It fails where a work met a want of memory.
 fn put_parts(parts: &mut [NetPart], mut works: Vec<Work>) -> Result<(), AllocError>
     requires { All (λ work. work.place < length parts.old) works.items }
     ensures { OnOk result ((board : PlainBoard) (nets : List ℕ) → IsPlan board nets parts.old works.items → AllZip (IsNetPart board) nets parts.new) }

@@ -20,7 +20,7 @@ pub(crate) struct Work {
     pub(crate) part: Option<NetPart>,
 }
 
-// Finds the part of a net. Where memory is wanting there is none.
+/// Finds the part of a net. Where memory is wanting there is none.
 fn find_part(alloc: Global, board: &Board, index: &TileIndex, work: &mut Work)
     requires { HoldsItems board.now index.now }
     ensures place { work.new.place ≡ work.old.place }
@@ -30,7 +30,7 @@ fn find_part(alloc: Global, board: &Board, index: &TileIndex, work: &mut Work)
     work.part = part_of(alloc, board, work.net, index).ok();
 }
 
-// Finds the parts of these nets, one after the other.
+/// Finds the parts of these nets, one after the other.
 fn find_each(alloc: Global, board: &Board, index: &TileIndex, works: &mut [Work])
     requires { HoldsItems board.now index.now }
     ensures { AreFound board.now works.old works.new }

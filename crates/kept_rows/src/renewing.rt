@@ -16,7 +16,7 @@ use row_check::order::put_in_order;
 use row_check::{CheckView, Row, push_singles};
 use std::alloc::{AllocError, Global};
 
-// Whether the id is one of those that changed.
+/// Whether the id is one of those that changed.
 fn is_among(changed: &[u32], id: u32) -> bool
     requires { IsStrictlyIncreasing changed.now }
     ensures { result ≡ is_changed changed.now id }
@@ -24,7 +24,7 @@ fn is_among(changed: &[u32], id: u32) -> bool
     changed.binary_search(&id).is_ok()
 }
 
-// Whether one of the items of the row changed.
+/// Whether one of the items of the row changed.
 fn is_touched(changed: &[u32], row: &Row) -> bool
     requires { IsStrictlyIncreasing changed.now }
     ensures { result ≡ is_touched changed.now row.now }
@@ -32,7 +32,7 @@ fn is_touched(changed: &[u32], row: &Row) -> bool
     is_among(changed, row.first()) || is_among(changed, row.second())
 }
 
-// Drops the rows of what changed. It takes no memory.
+/// Drops the rows of what changed. It takes no memory.
 fn keep_untouched(rows: &mut Vec<Row>, changed: &[u32])
     requires { IsStrictlyIncreasing changed.now }
     ensures { rows.new.items ≡ filter (λ row. not (is_touched changed.now row)) rows.old.items }
@@ -40,7 +40,7 @@ fn keep_untouched(rows: &mut Vec<Row>, changed: &[u32])
     rows.retain(|row| !is_touched(changed, row));
 }
 
-// Appends the rows of each batch.
+/// Appends the rows of each batch.
 fn push_batches(rows: &mut Vec<Row>, batches: &[TileRows]) -> Result<(), AllocError>
     ensures { OnOk result (rows.new.items ≡ rows.old.items ++ flat_map (λ (batch : List PlainRow). batch) batches.now) }
 {

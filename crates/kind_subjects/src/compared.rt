@@ -19,7 +19,7 @@ fn is_graphic(item: &Item) -> bool
     matches!(item.what, What::Graphic)
 }
 
-// The number of a pad; what is no pad has none.
+/// The number of a pad; what is no pad has none.
 fn pad_number(item: &Item) -> &[u8]
     ensures { result.now ≡ pad_number item.now.what }
 {
@@ -29,7 +29,7 @@ fn pad_number(item: &Item) -> &[u8]
     }
 }
 
-// Whether both are pads with one number, which is not empty.
+/// Whether both are pads with one number, which is not empty.
 fn are_pads_of_one_number(a: &Item, b: &Item) -> bool
     ensures { result ≡ are_pads_of_one_number a.now b.now }
 {
@@ -37,14 +37,14 @@ fn are_pads_of_one_number(a: &Item, b: &Item) -> bool
     !number.is_empty() && number == pad_number(b)
 }
 
-// Whether the one is a graphic and the other a pad.
+/// Whether the one is a graphic and the other a pad.
 fn are_graphic_and_pad(a: &Item, b: &Item) -> bool
     ensures { result ≡ are_graphic_and_pad a.now b.now }
 {
     (is_graphic(a) && is_pad(b)) || (is_pad(a) && is_graphic(b))
 }
 
-// Whether they are a graphic and a pad of one footprint, or two of its pads with one number.
+/// Whether they are a graphic and a pad of one footprint, or two of its pads with one number.
 fn belong_together(a: &Item, b: &Item) -> bool
     ensures { result ≡ belong_together a.now b.now }
 {
@@ -58,7 +58,7 @@ pub fn share_net(a: &Item, b: &Item) -> bool
     a.net == b.net && a.net != 0
 }
 
-// Whether the two are compared for a clearance. Most that are not are told by their nets.
+/// Whether the two are compared for a clearance. Most that are not are told by their nets.
 fn may_be_near(a: &Item, b: &Item) -> bool
     ensures { result ≡ may_be_near a.now b.now }
 {
@@ -77,7 +77,7 @@ fn is_micro_via(item: &Item) -> bool
     }
 }
 
-// Whether the core is a single point, so that the shape is a disc.
+/// Whether the core is a single point, so that the shape is a disc.
 fn is_disc(core: &Core) -> bool
     ensures { result ≡ is_disc core.now }
 {
@@ -87,14 +87,14 @@ fn is_disc(core: &Core) -> bool
     }
 }
 
-// Whether both holes are round and go through a layer together.
+/// Whether both holes are round and go through a layer together.
 fn are_round(a: &Hole, b: &Hole) -> bool
     ensures { result ≡ are_round_holes (Some a.now) (Some b.now) }
 {
     a.layers.bits & b.layers.bits != 0 && is_disc(&a.shape.core) && is_disc(&b.shape.core)
 }
 
-// Whether both have holes, which are round and go through a layer together.
+/// Whether both have holes, which are round and go through a layer together.
 fn are_round_holes(a: &Item, b: &Item) -> bool
     ensures { result ≡ are_round_holes a.now.hole b.now.hole }
 {
@@ -104,7 +104,7 @@ fn are_round_holes(a: &Item, b: &Item) -> bool
     }
 }
 
-// Whether an area with these bans keeps out items of this kind.
+/// Whether an area with these bans keeps out items of this kind.
 fn does_ban(bans: Bans, what: &What) -> bool
     ensures { result ≡ does_ban bans what.now }
 {
@@ -117,7 +117,7 @@ fn does_ban(bans: Bans, what: &What) -> bool
     }
 }
 
-// Whether the one is a rule area that keeps out the other.
+/// Whether the one is a rule area that keeps out the other.
 fn keeps_out(area: &Item, other: &Item) -> bool
     ensures { result ≡ keeps_out area.now.what other.now.what }
 {

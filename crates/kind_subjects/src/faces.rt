@@ -28,7 +28,7 @@ pub(crate) fn layers_of(parts: &[Part]) -> LayerSet
     layers
 }
 
-// The layers of both sets.
+/// The layers of both sets.
 fn both(a: LayerSet, b: LayerSet) -> LayerSet
     ensures { (layer : ℕ) → IsTrue (has_layer a layer) → IsTrue (has_layer b layer) → IsTrue (has_layer result layer) }
 {
@@ -37,7 +37,7 @@ fn both(a: LayerSet, b: LayerSet) -> LayerSet
     }
 }
 
-// The layers that the hole goes through, if there is one.
+/// The layers that the hole goes through, if there is one.
 fn layers_through(hole: &Option<Hole>) -> LayerSet
     ensures { (layer : ℕ) → SomeOn layer (hole_parts hole.now) → IsTrue (has_layer result layer) }
 {
@@ -47,7 +47,7 @@ fn layers_through(hole: &Option<Hole>) -> LayerSet
     }
 }
 
-// The layers on which copper of both lies.
+/// The layers on which copper of both lies.
 #[inline(always)]
 fn shared_copper(a: &Item, b: &Item) -> LayerSet
     ensures { (layer : ℕ) → IsUnfaced (facing (copper_on layer a.now) (copper_on layer b.now)) ⊎ IsTrue (has_layer result layer) }
@@ -56,7 +56,7 @@ fn shared_copper(a: &Item, b: &Item) -> LayerSet
     both(own, layers_of(b.copper.as_slice()))
 }
 
-// The layers of the other's copper that the hole of the one goes through.
+/// The layers of the other's copper that the hole of the one goes through.
 #[inline(always)]
 fn holed_copper(a: &Item, b: &Item) -> LayerSet
     ensures { (layer : ℕ) → IsUnfaced (facing (hole_on layer a.now) (copper_on layer b.now)) ⊎ IsTrue (has_layer result layer) }
@@ -65,7 +65,7 @@ fn holed_copper(a: &Item, b: &Item) -> LayerSet
     both(own, layers_of(b.copper.as_slice()))
 }
 
-// The layers of copper of one of them that the hole of the other goes through.
+/// The layers of copper of one of them that the hole of the other goes through.
 #[inline(always)]
 fn holed_beside(a: &Item, b: &Item) -> LayerSet
     ensures there { (layer : ℕ) → IsUnfaced (facing (hole_on layer a.now) (copper_on layer b.now)) ⊎ IsTrue (has_layer result layer) }
@@ -92,7 +92,7 @@ fn has_lines(item: &Item) -> bool
     matches!(item.what, What::Edge { .. })
 }
 
-// The places on which an edge may be near: none where neither is one.
+/// The places on which an edge may be near: none where neither is one.
 fn places_of_lines(a: &Item, b: &Item) -> Places
     ensures bound { result.to ≤ 35 }
     ensures each { (copper : LayerSet) (layer : RowLayer) → IsTried copper layer → AreFacedWithin (faced EdgesAndCopper layer a.now b.now) result.from result.to layer }
@@ -104,7 +104,7 @@ fn places_of_lines(a: &Item, b: &Item) -> Places
     }
 }
 
-// The places of all layers on which any of these parts may face each other.
+/// The places of all layers on which any of these parts may face each other.
 #[inline(always)]
 fn places_of_sides(faces: Faces, a: &Item, b: &Item) -> Places
     ensures bound { result.to ≤ 35 }

@@ -9,7 +9,7 @@ use crate::subject::{Measure, Subject, subject_of};
 use board_items::{Item, Nm, What};
 use cond_lang::Kind;
 
-// Twice the width of the copper round the hole of a via.
+/// Twice the width of the copper round the hole of a via.
 fn ring_of(item: &Item) -> Option<Nm>
     ensures value { result ≡ ring_of item.now.what item.now.hole }
     ensures range { IfSome result IsNearZero }
@@ -73,7 +73,7 @@ pub fn length_of(kind: Kind, item: &Item) -> Option<Nm>
     }
 }
 
-// Whether the length is measured twice: the copper round a hole is, on both sides of it.
+/// Whether the length is measured twice: the copper round a hole is, on both sides of it.
 fn is_twice(kind: Kind) -> bool
     ensures { times kind ≡ (if result then pos 2 else pos 1) }
 {

@@ -34,7 +34,7 @@ pub enum Facings<'a> {
 
 // ---- the parts of an item
 
-// All parts of the list.
+/// All parts of the list.
 fn all(parts: &Parts) -> SomeParts<'_>
     ensures { parts_at result ≡ parts.now }
 {
@@ -44,7 +44,7 @@ fn all(parts: &Parts) -> SomeParts<'_>
     })
 }
 
-// The copper on the layer.
+/// The copper on the layer.
 fn copper_on(item: &Item, layer: u32) -> SomeParts<'_>
     requires { layer < 32 }
     ensures { parts_at result ≡ copper_on layer item.now }
@@ -55,7 +55,7 @@ fn copper_on(item: &Item, layer: u32) -> SomeParts<'_>
     })
 }
 
-// The hole, if there is one.
+/// The hole, if there is one.
 fn whole_hole(hole: &Option<Hole>) -> SomeParts<'_>
     ensures { parts_at result ≡ hole_parts hole.now }
 {
@@ -68,7 +68,7 @@ fn whole_hole(hole: &Option<Hole>) -> SomeParts<'_>
     }
 }
 
-// The hole, where it goes through the layer.
+/// The hole, where it goes through the layer.
 fn hole_on(item: &Item, layer: u32) -> SomeParts<'_>
     requires { layer < 32 }
     ensures { parts_at result ≡ hole_on layer item.now }
@@ -82,7 +82,7 @@ fn hole_on(item: &Item, layer: u32) -> SomeParts<'_>
     }
 }
 
-// The hole of an item without copper.
+/// The hole of an item without copper.
 fn hole_alone(item: &Item) -> SomeParts<'_>
     ensures { parts_at result ≡ hole_alone item.now }
 {
@@ -93,7 +93,7 @@ fn hole_alone(item: &Item) -> SomeParts<'_>
     }
 }
 
-// The lines of an edge of the board.
+/// The lines of an edge of the board.
 fn lines_of(what: &What) -> SomeParts<'_>
     ensures { parts_at result ≡ lines_of what.now }
 {
@@ -103,7 +103,7 @@ fn lines_of(what: &What) -> SomeParts<'_>
     }
 }
 
-// The courtyard of the front.
+/// The courtyard of the front.
 fn front_of(what: &What) -> SomeParts<'_>
     ensures { parts_at result ≡ front_of what.now }
 {
@@ -113,7 +113,7 @@ fn front_of(what: &What) -> SomeParts<'_>
     }
 }
 
-// The courtyard of the back.
+/// The courtyard of the back.
 fn back_of(what: &What) -> SomeParts<'_>
     ensures { parts_at result ≡ back_of what.now }
 {
@@ -123,7 +123,7 @@ fn back_of(what: &What) -> SomeParts<'_>
     }
 }
 
-// The part, where it has the layer.
+/// The part, where it has the layer.
 fn part_on(part: &Part, layer: u32) -> SomeParts<'_>
     requires { layer < 32 }
     ensures { parts_at result ≡ on_layer layer (part.now ∷ []) }
@@ -138,7 +138,7 @@ fn part_on(part: &Part, layer: u32) -> SomeParts<'_>
     }
 }
 
-// A rule area, where it has the layer.
+/// A rule area, where it has the layer.
 fn area_on(what: &What, layer: u32) -> SomeParts<'_>
     requires { layer < 32 }
     ensures { parts_at result ≡ area_on layer what.now }
@@ -149,7 +149,7 @@ fn area_on(what: &What, layer: u32) -> SomeParts<'_>
     }
 }
 
-// The courtyard on the layer: that of the front on F.Cu, and that of the back on B.Cu.
+/// The courtyard on the layer: that of the front on F.Cu, and that of the back on B.Cu.
 fn yard_on<'a>(front: &'a Parts, back: &'a Parts, layer: u32) -> SomeParts<'a>
     ensures { parts_at result ≡ yard_on layer front.now back.now }
 {
@@ -160,7 +160,7 @@ fn yard_on<'a>(front: &'a Parts, back: &'a Parts, layer: u32) -> SomeParts<'a>
     }
 }
 
-// The copper on the layer, or without any copper the hole there.
+/// The copper on the layer, or without any copper the hole there.
 fn asked_on(item: &Item, layer: u32) -> SomeParts<'_>
     requires { layer < 32 }
     ensures { parts_at result ≡ on_layer layer (parts_asked item.now) }
@@ -172,7 +172,7 @@ fn asked_on(item: &Item, layer: u32) -> SomeParts<'_>
     }
 }
 
-// Where the item is on the layer, as an area sees it.
+/// Where the item is on the layer, as an area sees it.
 fn placed_on(item: &Item, layer: u32) -> SomeParts<'_>
     requires { layer < 32 }
     ensures { parts_at result ≡ placed_on layer item.now item.now.what }
@@ -185,7 +185,7 @@ fn placed_on(item: &Item, layer: u32) -> SomeParts<'_>
 
 // ---- what faces what
 
-// The copper of both on the layer.
+/// The copper of both on the layer.
 fn copper_facing<'a>(a: &'a Item, b: &'a Item, layer: u32) -> Facings<'a>
     requires { layer < 32 }
     ensures { facings_of result ≡ copper_facing layer a.now b.now }
@@ -196,7 +196,7 @@ fn copper_facing<'a>(a: &'a Item, b: &'a Item, layer: u32) -> Facings<'a>
     })
 }
 
-// The hole of each and the copper of the other.
+/// The hole of each and the copper of the other.
 fn holes_facing<'a>(a: &'a Item, b: &'a Item, layer: u32) -> Facings<'a>
     requires { layer < 32 }
     ensures { facings_of result ≡ holes_facing layer a.now b.now }
@@ -212,7 +212,7 @@ fn holes_facing<'a>(a: &'a Item, b: &'a Item, layer: u32) -> Facings<'a>
     Facings::BothWays(there, back)
 }
 
-// The lines of an edge and copper on the layer.
+/// The lines of an edge and copper on the layer.
 fn edges_facing<'a>(a: &'a Item, b: &'a Item, layer: u32) -> Facings<'a>
     requires { layer < 32 }
     ensures { facings_of result ≡ both_ways (lines_of a.now.what) (copper_on layer b.now) (lines_of b.now.what) (copper_on layer a.now) }
@@ -228,7 +228,7 @@ fn edges_facing<'a>(a: &'a Item, b: &'a Item, layer: u32) -> Facings<'a>
     Facings::BothWays(there, back)
 }
 
-// The lines of an edge and the hole of an item without copper.
+/// The lines of an edge and the hole of an item without copper.
 fn edges_facing_holes<'a>(a: &'a Item, b: &'a Item) -> Facings<'a>
     ensures { facings_of result ≡ both_ways (lines_of a.now.what) (hole_alone b.now) (lines_of b.now.what) (hole_alone a.now) }
 {
@@ -243,7 +243,7 @@ fn edges_facing_holes<'a>(a: &'a Item, b: &'a Item) -> Facings<'a>
     Facings::BothWays(there, back)
 }
 
-// A rule area and where the other is on the layer.
+/// A rule area and where the other is on the layer.
 fn areas_facing<'a>(a: &'a Item, b: &'a Item, layer: u32) -> Facings<'a>
     requires { layer < 32 }
     ensures { facings_of result ≡ both_ways (area_on layer a.now.what) (placed_on layer b.now b.now.what) (area_on layer b.now.what) (placed_on layer a.now a.now.what) }
@@ -259,7 +259,7 @@ fn areas_facing<'a>(a: &'a Item, b: &'a Item, layer: u32) -> Facings<'a>
     Facings::BothWays(there, back)
 }
 
-// What faces each other on a copper layer.
+/// What faces each other on a copper layer.
 #[inline(always)]
 fn faced_on<'a>(faces: Faces, layer: u32, a: &'a Item, b: &'a Item) -> Facings<'a>
     requires { layer < 32 }
@@ -274,7 +274,7 @@ fn faced_on<'a>(faces: Faces, layer: u32, a: &'a Item, b: &'a Item) -> Facings<'
     }
 }
 
-// What faces each other on no layer.
+/// What faces each other on no layer.
 fn faced_nowhere<'a>(faces: Faces, a: &'a Item, b: &'a Item) -> Facings<'a>
     ensures { facings_of result ≡ faced faces Nowhere a.now b.now }
 {
@@ -288,7 +288,7 @@ fn faced_nowhere<'a>(faces: Faces, a: &'a Item, b: &'a Item) -> Facings<'a>
     }
 }
 
-// What faces each other in the courtyards of the front.
+/// What faces each other in the courtyards of the front.
 fn faced_in_front<'a>(faces: Faces, a: &'a Item, b: &'a Item) -> Facings<'a>
     ensures { facings_of result ≡ faced faces FrontYard a.now b.now }
 {
@@ -305,7 +305,7 @@ fn faced_in_front<'a>(faces: Faces, a: &'a Item, b: &'a Item) -> Facings<'a>
     }
 }
 
-// What faces each other in the courtyards of the back.
+/// What faces each other in the courtyards of the back.
 fn faced_in_back<'a>(faces: Faces, a: &'a Item, b: &'a Item) -> Facings<'a>
     ensures { facings_of result ≡ faced faces BackYard a.now b.now }
 {
@@ -322,7 +322,7 @@ fn faced_in_back<'a>(faces: Faces, a: &'a Item, b: &'a Item) -> Facings<'a>
     }
 }
 
-// Which of these parts face each other on the layer.
+/// Which of these parts face each other on the layer.
 #[inline(always)]
 fn faced_at<'a>(faces: Faces, layer: RowLayer, a: &'a Item, b: &'a Item) -> Facings<'a>
     requires { IsInStack layer }
@@ -351,7 +351,7 @@ pub fn facings_at<'a>(kind: Kind, layer: RowLayer, a: &'a Item, b: &'a Item) -> 
 
 // ---- what is asked of it
 
-// Whether there are parts on both sides.
+/// Whether there are parts on both sides.
 #[inline(always)]
 fn is_faced(faced: &Faced<'_>) -> bool
     ensures { result ≡ false → (parts_at faced.now.own ≡ []) ⊎ (parts_at faced.now.others ≡ []) }
@@ -359,7 +359,7 @@ fn is_faced(faced: &Faced<'_>) -> bool
     !is_empty(&faced.own) && !is_empty(&faced.others)
 }
 
-// Whether anything faces anything. Shapes are not looked at.
+/// Whether anything faces anything. Shapes are not looked at.
 #[inline(always)]
 fn may_meet(facings: &Facings<'_>) -> bool
     ensures meet { result ≡ false → ¬ (SomeFacingMeets (facings_of facings.now)) }
@@ -372,7 +372,7 @@ fn may_meet(facings: &Facings<'_>) -> bool
     }
 }
 
-// Whether some of what faces each other meets.
+/// Whether some of what faces each other meets.
 fn do_meet(facings: &Facings<'_>) -> bool
     ensures { IsTrue result ↔ SomeFacingMeets (facings_of facings.now) }
 {
@@ -385,7 +385,7 @@ fn do_meet(facings: &Facings<'_>) -> bool
     }
 }
 
-// The gap of all that faces each other.
+/// The gap of all that faces each other.
 fn gap_of(facings: &Facings<'_>, most: Nm) -> Nm
     requires { IsLength most }
     ensures { IsGap (AllFacingsKeep (facings_of facings.now)) most result }

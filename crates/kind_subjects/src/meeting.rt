@@ -13,7 +13,7 @@ use board_items::Item;
 use cond_lang::Kind;
 use copper_layers::LayerSet;
 
-// Whether the two meet on the layer.
+/// Whether the two meet on the layer.
 #[inline(always)]
 fn meet_on(kind: Kind, layer: RowLayer, a: &Item, b: &Item) -> bool
     requires { IsInStack layer }

@@ -15,7 +15,7 @@ use board_items::{Item, Part, What};
 use cond_lang::Kind;
 use copper_layers::LayerSet;
 
-// Whether some part lies on the layer.
+/// Whether some part lies on the layer.
 fn some_on(parts: &[Part], layer: u32) -> bool
     requires { layer < 32 }
     ensures { IsTrue result ↔ SomeOn layer parts.now }
@@ -28,7 +28,7 @@ fn some_on(parts: &[Part], layer: u32) -> bool
     false
 }
 
-// Whether copper lies on the layer of the board; what has no copper lies on none.
+/// Whether copper lies on the layer of the board; what has no copper lies on none.
 fn lies_at(copper: LayerSet, parts: &[Part], layer: RowLayer) -> bool
     requires { IsTried copper layer }
     ensures { IsTrue result ↔ LiesAt parts.now layer }
@@ -40,14 +40,14 @@ fn lies_at(copper: LayerSet, parts: &[Part], layer: RowLayer) -> bool
     }
 }
 
-// The copper layer of the side of a body.
+/// The copper layer of the side of a body.
 fn side(on_back: bool) -> u32
     ensures { result ≡ (if on_back then 31 else 0) }
 {
     if on_back { 31 } else { 0 }
 }
 
-// Whether the layer is the copper layer of the side.
+/// Whether the layer is the copper layer of the side.
 fn is_side(on_back: bool, layer: RowLayer) -> bool
     ensures { IsTrue result ↔ (layer ≡ (if on_back then RowLayer.Copper 31 else RowLayer.Copper 0)) }
 {
@@ -77,7 +77,7 @@ fn is_nowhere(layer: RowLayer) -> bool
     matches!(layer, RowLayer::Nowhere)
 }
 
-// Whether some copper lies on the copper layer.
+/// Whether some copper lies on the copper layer.
 fn is_on_copper(copper: LayerSet, parts: &[Part], layer: RowLayer) -> bool
     requires { IsTried copper layer }
     ensures { IsTrue result ↔ IsOnCopper parts.now layer }

@@ -50,7 +50,7 @@ fn refused(error: JsonError) -> ProjectError
     }
 }
 
-// Each type may go to another thread and be shared by threads.
+/// Each type may go to another thread and be shared by threads.
 fn crosses<T: Send + Sync>() {}
 
 fn all_cross() {

@@ -15,7 +15,7 @@ use board_items::{Board, Item};
 use ratsnest::Anchor;
 use std::alloc::{AllocError, Global};
 
-// Appends the anchors of an item.
+/// Appends the anchors of an item.
 fn push_own(anchors: &mut Vec<Anchor>, item: &Item, id: u32, group: u32) -> Result<(), AllocError>
     requires { is_on_board item.now ≡ true }
     ensures { OnOk result (AreOwnAdded item.now id group anchors.old.items anchors.new.items) }
@@ -39,7 +39,7 @@ fn push_own(anchors: &mut Vec<Anchor>, item: &Item, id: u32, group: u32) -> Resu
     Ok(())
 }
 
-// Appends the anchors of the item of an id, if its group has a number.
+/// Appends the anchors of the item of an id, if its group has a number.
 fn push_numbered(
     anchors: &mut Vec<Anchor>,
     board: &Board,
@@ -54,7 +54,7 @@ fn push_numbered(
     }
 }
 
-// The anchors of those of the ids whose groups have numbers.
+/// The anchors of those of the ids whose groups have numbers.
 fn anchors_among(
     alloc: Global,
     board: &Board,
@@ -73,7 +73,7 @@ fn anchors_among(
     Ok(anchors)
 }
 
-// The ids of all items of the net.
+/// The ids of all items of the net.
 fn ids_of(board: &Board, net: u32) -> &[u32]
     ensures ids { result.now ≡ ids_of_net net board.now.items }
     ensures sound { IsSound board.now }

@@ -43,14 +43,14 @@ fn track_end(item: &Item) -> Option<Point>
     }
 }
 
-// The half of a number that is even.
+/// The half of a number that is even.
 fn half(z: i64) -> Option<i64>
     ensures { MatchOption result ((x : ℤ) → pos 2 *ℤ x ≢ z) (λ x. pos 2 *ℤ x ≡ z) }
 {
     if z % 2 == 0 { Some(z / 2) } else { None }
 }
 
-// The point in nanometres. A point between two nanometres is none.
+/// The point in nanometres. A point between two nanometres is none.
 fn spot_at(p: Point) -> Option<Spot>
     ensures { MatchOption result ((x y : ℤ) → ¬ (IsSpot (Some p) x y)) (λ spot. IsSpot (Some p) spot.x spot.y) }
 {

@@ -6,7 +6,7 @@ ghost use Rattle.net_groups.specs.Labels.{label_at, AreGathered};
 use crate::group::Group;
 use std::alloc::{AllocError, Global};
 
-// Groups without members.
+/// Groups without members.
 fn empty_groups(alloc: Global, count: usize) -> Result<Vec<Group>, AllocError>
     ensures { IfOk result (λ groups. groups.items ≡ replicate count []) }
 {

@@ -17,7 +17,7 @@ use crate::touch::touch_on;
 use box_index::{Entry, TileIndex};
 use std::alloc::{AllocError, Global};
 
-// So few rooms are each held against all others, run by run, faster than tiles are made for them.
+/// So few rooms are each held against all others, run by run, faster than tiles are made for them.
 const FEW: usize = 256;
 
 /// The label of each place, and how many labels there are.
@@ -27,7 +27,7 @@ pub(crate) struct Labels {
     pub count: usize,
 }
 
-// Whether the other place has no label yet and the place touches it.
+/// Whether the other place has no label yet and the place touches it.
 fn newly_touched(net: &Conductors<'_>, labels: &[Option<usize>], place: usize, other: usize) -> bool
     requires places { length labels.now ≡ length net.now.ids.now }
     requires place { place < length net.now.ids.now }
@@ -39,7 +39,7 @@ fn newly_touched(net: &Conductors<'_>, labels: &[Option<usize>], place: usize, o
     labels[other].is_none() && touch_on(net.board, net.ids[place], net.ids[other])
 }
 
-// Labels all that the place touches, and puts the new ones on the stack. Each place before the first has a label.
+/// Labels all that the place touches, and puts the new ones on the stack. Each place before the first has a label.
 fn visit_rooms(
     net: &Conductors<'_>,
     first: usize,
@@ -68,7 +68,7 @@ fn visit_rooms(
     Ok(())
 }
 
-// `newly_touched` where the pair is asked for in this tile.
+/// `newly_touched` where the pair is asked for in this tile.
 fn newly_asked(
     net: &Conductors<'_>,
     index: &TileIndex,
@@ -91,7 +91,7 @@ fn newly_asked(
         && newly_touched(net, labels, own.id as usize, other.id as usize)
 }
 
-// Labels those of a tile's entries that are asked for there and that the place touches, and puts the new ones on the stack.
+/// Labels those of a tile's entries that are asked for there and that the place touches, and puts the new ones on the stack.
 fn visit_tile(
     net: &Conductors<'_>,
     index: &TileIndex,
@@ -119,7 +119,7 @@ fn visit_tile(
     Ok(())
 }
 
-// Visits a place in each tile that its room meets.
+/// Visits a place in each tile that its room meets.
 fn visit_tiles(
     net: &Conductors<'_>,
     index: &TileIndex,
@@ -145,7 +145,7 @@ fn visit_tiles(
     Ok(())
 }
 
-// Labels all that the place touches, and puts the new ones on the stack. Each place before the first has a label.
+/// Labels all that the place touches, and puts the new ones on the stack. Each place before the first has a label.
 fn visit(
     net: &Conductors<'_>,
     index: Option<&TileIndex>,
@@ -177,7 +177,7 @@ fn visit(
     }
 }
 
-// Gives the label to all that chains of touches join with the place.
+/// Gives the label to all that chains of touches join with the place.
 fn spread(
     net: &Conductors<'_>,
     index: Option<&TileIndex>,
@@ -206,7 +206,7 @@ fn spread(
     Ok(())
 }
 
-// Labels the places of all groups, in the order of their first places. What touches is found by the index, where there is one.
+/// Labels the places of all groups, in the order of their first places. What touches is found by the index, where there is one.
 fn label_all(
     alloc: Global,
     net: &Conductors<'_>,

@@ -8,7 +8,7 @@ ghost use Rattle.net_groups.specs.Numbering.{number_of, IsEntered, AreNumbered};
 use crate::group::Group;
 use std::alloc::{AllocError, Global};
 
-// The place of an id, found by halves.
+/// The place of an id, found by halves.
 fn sought(ids: &[u32], id: u32) -> usize
     requires rises { Rises ids.now }
     requires listed { Contains ids.now id }
@@ -21,7 +21,7 @@ fn sought(ids: &[u32], id: u32) -> usize
     }
 }
 
-// The place of an id. It is looked for at the guess first.
+/// The place of an id. It is looked for at the guess first.
 fn place_of(ids: &[u32], id: u32, guess: usize) -> usize
     requires rises { Rises ids.now }
     requires listed { Contains ids.now id }
@@ -35,8 +35,8 @@ fn place_of(ids: &[u32], id: u32, guess: usize) -> usize
     }
 }
 
-// Enters the members of a group, of which the first is looked for at the guess. It gives the place after the last, where the next
-// member of a net mostly stands.
+/// Enters the members of a group, of which the first is looked for at the guess. It gives the place after the last, where the next
+/// member of a net mostly stands.
 fn enter(
     ids: &[u32],
     members: &[u32],

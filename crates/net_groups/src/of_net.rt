@@ -15,7 +15,7 @@ use board_items::Board;
 use box_index::TileIndex;
 use std::alloc::{AllocError, Global};
 
-// Whether there is an item of the id and it has copper.
+/// Whether there is an item of the id and it has copper.
 fn has_copper(board: &Board, id: u32) -> bool
     ensures { result ≡ is_copper (item_at board.now.items id) }
 {
@@ -25,7 +25,7 @@ fn has_copper(board: &Board, id: u32) -> bool
     }
 }
 
-// The ids of all items of the net with copper, rising.
+/// The ids of all items of the net with copper, rising.
 fn conductors(alloc: Global, board: &Board, net: u32) -> Result<Vec<u32>, AllocError>
     ensures sound { IsSound board.now }
     ensures ids { IfOk result (λ ids. AreConductors board.now net ids.items) }

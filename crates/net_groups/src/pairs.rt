@@ -7,7 +7,7 @@ ghost use Rattle.net_groups.specs.Asking.{tile_for, is_asked};
 
 use box_index::{Entry, TileIndex, do_boxes_meet};
 
-// The tile that answers for two entries.
+/// The tile that answers for two entries.
 fn tile_for(index: &TileIndex, own: Entry, other: Entry) -> u32
     requires own { FitsWithin (pos 2000000000) own.bounds }
     requires other { FitsWithin (pos 2000000000) other.bounds }

@@ -21,7 +21,7 @@ pub(crate) struct Conductors<'a> {
     pub(crate) runs: &'a [Bounds],
 }
 
-// The room of what takes up none.
+/// The room of what takes up none.
 fn no_room() -> Bounds
     ensures { FitsWithin (pos 1500000000) result }
 {
@@ -33,7 +33,7 @@ fn no_room() -> Bounds
     }
 }
 
-// The bounds of an item, or no room.
+/// The bounds of an item, or no room.
 fn bounds_of(item: &Item) -> Bounds
     ensures fits { FitsWithin (pos 1500000000) result }
     ensures room { parts_of item.now ≢ [] → AreBoundsOf (parts_of item.now) (Some result) }
@@ -44,7 +44,7 @@ fn bounds_of(item: &Item) -> Bounds
     }
 }
 
-// The room of the item of the id.
+/// The room of the item of the id.
 fn room_of(board: &Board, id: u32) -> Bounds
     ensures fits { FitsWithin (pos 1500000000) result }
     ensures room { IsRoom board.now id result }

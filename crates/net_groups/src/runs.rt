@@ -9,10 +9,10 @@ use box_index::do_boxes_meet;
 use geo_seg::Bounds;
 use std::alloc::{AllocError, Global};
 
-// How many rooms are in a run.
+/// How many rooms are in a run.
 const RUN: usize = 8;
 
-// A box around the rooms from one place to another.
+/// A box around the rooms from one place to another.
 fn run_of(rooms: &[Bounds], low: usize, high: usize) -> Bounds
     ensures { (i : ℕ) (d : Bounds) → low ≤ i → i < high → i < length rooms.now → IsPartOf (slice_index_or rooms.now i d) result }
 {
@@ -40,21 +40,21 @@ pub(crate) fn runs_of(alloc: Global, rooms: &[Bounds]) -> Result<Vec<Bounds>, Al
     Ok(runs)
 }
 
-// Whether the boxes share no point.
+/// Whether the boxes share no point.
 fn is_far(own: Bounds, room: Bounds) -> bool
     ensures { IsTrue result → ¬ (BoxesMeet own room) }
 {
     !do_boxes_meet(own, room)
 }
 
-// Whether there is a box around the run, and it is far from this one.
+/// Whether there is a box around the run, and it is far from this one.
 fn is_clear(runs: &[Bounds], run: usize, own: Bounds) -> bool
     ensures { IsTrue result → (run < length runs.now) × ((d : Bounds) → ¬ (BoxesMeet own (slice_index_or runs.now run d))) }
 {
     run < runs.len() && !do_boxes_meet(own, runs[run])
 }
 
-// Whether a run begins at the place, and its box is far from this one.
+/// Whether a run begins at the place, and its box is far from this one.
 fn begins_clear(runs: &[Bounds], place: usize, own: Bounds) -> bool
     ensures { IsTrue result → (run : ℕ) × (run * 8 ≡ place) × (run < length runs.now) × ((d : Bounds) → ¬ (BoxesMeet own (slice_index_or runs.now run d))) }
 {

@@ -11,7 +11,7 @@ use geo_seg::Bounds;
 use std::alloc::{AllocError, Global};
 use std::num::{nearest_i64_to_f64, saturating_f64_to_u32};
 
-// The least box around all rooms, or one that is empty.
+/// The least box around all rooms, or one that is empty.
 fn around(rooms: &[Bounds]) -> Bounds {
     let mut all = Bounds {
         left: 1_500_000_000,
@@ -30,7 +30,7 @@ fn around(rooms: &[Bounds]) -> Bounds {
     all
 }
 
-// About the middle of a range.
+/// About the middle of a range.
 fn middle(low: i64, high: i64) -> i64
     ensures from { neg_ℤ (pos 1500000000) ≤ℤ result }
     ensures to { result ≤ℤ pos 1500000000 }
@@ -40,7 +40,7 @@ fn middle(low: i64, high: i64) -> i64
         .max(-1_500_000_000)
 }
 
-// About the longer side of a room, in thousandths of a tile: the root of the mean of the squares.
+/// About the longer side of a room, in thousandths of a tile: the root of the mean of the squares.
 fn side_of(rooms: &[Bounds]) -> i64 {
     let mut sum: i64 = 0;
     for room in rooms {
@@ -53,13 +53,13 @@ fn side_of(rooms: &[Bounds]) -> i64 {
     i64::from(saturating_f64_to_u32(nearest_i64_to_f64(mean).sqrt()))
 }
 
-// How often a box of this size goes into the tiles, where a room of this side, in thousandths of a tile, gets no larger than a tile, so
-// that rooms lie in a few tiles each.
+/// How often a box of this size goes into the tiles, where a room of this side, in thousandths of a tile, gets no larger than a tile, so
+/// that rooms lie in a few tiles each.
 fn room_for(size: i64, side: i64) -> i64 {
     (2_000_000_000 / size.max(1)).min(1_000 / side.max(1))
 }
 
-// The same, from 1 to 1,000 times.
+/// The same, from 1 to 1,000 times.
 fn times_in(size: i64, side: i64) -> i64
     ensures from { pos 1 ≤ℤ result }
     ensures to { result ≤ℤ pos 1000 }
@@ -67,7 +67,7 @@ fn times_in(size: i64, side: i64) -> i64
     room_for(size, side).min(1_000).max(1)
 }
 
-// What spreads the rooms over the tiles.
+/// What spreads the rooms over the tiles.
 fn stretch_for(rooms: &[Bounds]) -> Stretch {
     let all = around(rooms);
     let wide = all.right.saturating_sub(all.left);
@@ -79,7 +79,7 @@ fn stretch_for(rooms: &[Bounds]) -> Stretch {
     }
 }
 
-// A room that was moved and stretched, but not farther than to the edge.
+/// A room that was moved and stretched, but not farther than to the edge.
 fn stretched(stretch: Stretch, room: Bounds) -> Bounds
     requires { FitsWithin (pos 1500000000) room }
     ensures { result ≡ stretched stretch room }

@@ -6,7 +6,7 @@ ghost use Rattle.net_groups.specs.Touching.{Touching, TouchOn};
 use board_items::{Board, Item};
 use item_copper::copper_meets;
 
-// Whether the two have one net and their copper meets on some layer.
+/// Whether the two have one net and their copper meets on some layer.
 fn touch(a: &Item, b: &Item) -> bool
     ensures { IsTrue result ↔ Touching a.now b.now }
 {

@@ -29,7 +29,7 @@ pub(crate) const ANYTHING: Asked = Asked {
     physical_hole_clearance: true,
 };
 
-// Whether the rule asks something of the kind.
+/// Whether the rule asks something of the kind.
 fn asks(rule: &Rule, kind: Kind) -> bool
     ensures { result ≡ asks kind rule.now }
 {
@@ -46,7 +46,7 @@ pub(crate) fn some_asks(rules: &[Rule], kind: Kind) -> bool
     rules.iter().any(|rule| asks(rule, kind))
 }
 
-// Whether anything may be asked of the kind. Only what it answers no to is sure.
+/// Whether anything may be asked of the kind. Only what it answers no to is sure.
 fn may_ask(view: &CheckView, kind: Kind) -> bool
     ensures { result ≡ false → AsksNothing (deciders (checked_by view.now)) kind }
 {

@@ -7,7 +7,7 @@ use crate::asked::Asked;
 use board_items::{Item, What};
 use kind_subjects::share_net;
 
-// Whether it is copper: no edge, no area, no footprint and no note.
+/// Whether it is copper: no edge, no area, no footprint and no note.
 fn is_copper(what: &What) -> bool
     ensures { result ≡ is_copper what.now }
 {

@@ -28,14 +28,14 @@ pub use single::{single_at, test_item};
 pub use steps::Steps;
 pub use view::CheckView;
 
-// A row may go to another thread and be shared by threads.
+/// A row may go to another thread and be shared by threads.
 fn crosses<T: Send + Sync>() {}
 
 fn rows_cross() {
     crosses::<Row>();
 }
 
-// All that a view lends may.
+/// All that a view lends may.
 fn boards_cross<'a>() {
     crosses::<&'a Board>();
 }

@@ -32,7 +32,7 @@ use rule_pick::{Source, pick};
 use std::alloc::Global;
 use std::sync::ledger::Ledger;
 
-// What is broken on the layer, if anything is.
+/// What is broken on the layer, if anything is.
 #[inline(always)]
 fn near_at(view: &CheckView, kind: Kind, pair: Pair<'_>, layer: RowLayer) -> Option<Near>
     requires few { length view.now.rules.now < 4294967295 }
@@ -61,7 +61,7 @@ fn near_at(view: &CheckView, kind: Kind, pair: Pair<'_>, layer: RowLayer) -> Opt
     Some(Near { layer, picked, gap })
 }
 
-// The first layer on which the two are too near. No layer is tried before the first on which they face each other, or after the last.
+/// The first layer on which the two are too near. No layer is tried before the first on which they face each other, or after the last.
 #[inline(always)]
 fn first_near(view: &CheckView, kind: Kind, pair: Pair<'_>) -> Option<Near>
     requires few { length view.now.rules.now < 4294967295 }
@@ -80,7 +80,7 @@ fn first_near(view: &CheckView, kind: Kind, pair: Pair<'_>) -> Option<Near>
     None
 }
 
-// That the two meet: always an error, whatever the rules say.
+/// That the two meet: always an error, whatever the rules say.
 #[inline(always)]
 fn meeting_row(view: &CheckView, kind: Kind, first: u32, second: u32, pair: Pair<'_>) -> Option<Row>
     requires meets { family kind ≡ Family.Meets }
@@ -105,7 +105,7 @@ fn meeting_row(view: &CheckView, kind: Kind, first: u32, second: u32, pair: Pair
     })
 }
 
-// That the two are too near.
+/// That the two are too near.
 #[inline(always)]
 fn near_row(view: &CheckView, kind: Kind, first: u32, second: u32, pair: Pair<'_>) -> Option<Row>
     requires few { length view.now.rules.now < 4294967295 }
@@ -130,7 +130,7 @@ fn near_row(view: &CheckView, kind: Kind, first: u32, second: u32, pair: Pair<'_
     })
 }
 
-// Appends the row of a kind that measures, if the two break it.
+/// Appends the row of a kind that measures, if the two break it.
 #[inline(always)]
 fn add_measured(
     view: &CheckView,
@@ -155,7 +155,7 @@ fn add_measured(
     }
 }
 
-// As `add_measured`, where anything is asked of the kind and the two are compared for it.
+/// As `add_measured`, where anything is asked of the kind and the two are compared for it.
 #[inline(always)]
 fn add_near(
     view: &CheckView,
@@ -181,7 +181,7 @@ fn add_near(
     }
 }
 
-// Appends the row of a short, or those of a clearance and of that of a hole, whose place it takes.
+/// Appends the row of a short, or those of a clearance and of that of a hole, whose place it takes.
 fn add_of_nets(
     view: &CheckView,
     asked: Asked,
@@ -215,7 +215,7 @@ fn add_of_nets(
     }
 }
 
-// Appends the row of an area that keeps the other item out.
+/// Appends the row of an area that keeps the other item out.
 fn add_keepout(view: &CheckView, first: u32, second: u32, pair: Pair<'_>, rows: &mut PairRows)
     requires ordered { first < second }
     requires room { length rows.old < 8 }
@@ -228,7 +228,7 @@ fn add_keepout(view: &CheckView, first: u32, second: u32, pair: Pair<'_>, rows: 
     }
 }
 
-// The rows of the pair, in a list that had none.
+/// The rows of the pair, in a list that had none.
 fn add_all(
     view: &CheckView,
     asked: Asked,

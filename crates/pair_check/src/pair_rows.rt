@@ -55,14 +55,14 @@ impl PairRows {
         }
     }
 
-    // Takes all rows out. It takes no memory.
+    /// Takes all rows out. It takes no memory.
     pub(crate) fn clear(&mut self)
         ensures { self.new ≡ [] }
     {
         self.list.clear();
     }
 
-    // Appends a row, which has a place. It takes no memory.
+    /// Appends a row, which has a place. It takes no memory.
     pub(crate) fn push(&mut self, row: Row)
         requires { length self.old < 8 }
         ensures { self.new ≡ self.old ++ row ∷ [] }

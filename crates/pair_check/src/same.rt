@@ -5,7 +5,7 @@ ghost use Rattle.pair_check.specs.SameRows.{same_places, same_lengths, same_caus
 
 use crate::row::Row;
 
-// Whether both are of the same items, and of the same kind and layer.
+/// Whether both are of the same items, and of the same kind and layer.
 fn same_places(a: &Row, b: &Row) -> bool
     ensures { result ≡ same_places a.now b.now }
 {

@@ -41,7 +41,7 @@ pub fn single_at<'a>(view: &CheckView<'a>, id: u32) -> Option<Single<'a>>
     Some(Single { item, facts })
 }
 
-// The limit that the measured length breaks.
+/// The limit that the measured length breaks.
 fn broken_limit(kind: Kind, n: Nm, picked: Picked) -> Option<Limit>
     requires { IsNearZero n }
     ensures broken { MatchOption result ((over : Bool) (limit : ℤ) → ¬ (BreaksLimit kind n (pick_of picked) over limit)) (λ l. BreaksLimit kind n (pick_of picked) l.over l.nm) }
@@ -68,7 +68,7 @@ fn broken_limit(kind: Kind, n: Nm, picked: Picked) -> Option<Limit>
     }
 }
 
-// The limit that is broken on the layer, if one is.
+/// The limit that is broken on the layer, if one is.
 fn off_at(view: &CheckView, kind: Kind, single: Single<'_>, n: Nm, layer: RowLayer) -> Option<Off>
     requires few { length view.now.rules.now < 4294967295 }
     requires limit { family kind ≡ Family.Limits }
@@ -100,7 +100,7 @@ fn off_at(view: &CheckView, kind: Kind, single: Single<'_>, n: Nm, layer: RowLay
     })
 }
 
-// The first layer on which a limit is broken. Only places where the kind is measured are tried.
+/// The first layer on which a limit is broken. Only places where the kind is measured are tried.
 fn first_off(view: &CheckView, kind: Kind, single: Single<'_>, n: Nm) -> Option<Off>
     requires few { length view.now.rules.now < 4294967295 }
     requires limit { family kind ≡ Family.Limits }
@@ -120,7 +120,7 @@ fn first_off(view: &CheckView, kind: Kind, single: Single<'_>, n: Nm) -> Option<
     None
 }
 
-// That a limit is broken.
+/// That a limit is broken.
 fn limit_row(view: &CheckView, kind: Kind, id: u32, single: Single<'_>) -> Option<Row>
     requires few { length view.now.rules.now < 4294967295 }
     requires limit { family kind ≡ Family.Limits }
@@ -142,7 +142,7 @@ fn limit_row(view: &CheckView, kind: Kind, id: u32, single: Single<'_>) -> Optio
     })
 }
 
-// Whether the bans are against items of this kind.
+/// Whether the bans are against items of this kind.
 fn bans_what(bans: Disallow, what: &What) -> bool
     ensures { result ≡ bans_what bans what.now }
 {
@@ -159,14 +159,14 @@ fn bans_what(bans: Disallow, what: &What) -> bool
     }
 }
 
-// Whether the bans are against the item: by its kind, or by its hole.
+/// Whether the bans are against the item: by its kind, or by its hole.
 fn bans_item(bans: Disallow, item: &Item) -> bool
     ensures { result ≡ bans_item bans item.now }
 {
     bans_what(bans, &item.what) || (item.hole.is_some() && bans.holes)
 }
 
-// Whether what was picked forbids the item.
+/// Whether what was picked forbids the item.
 fn forbids(kind: Kind, picked: Picked, item: &Item) -> bool
     ensures { IsTrue result ↔ Forbids kind (pick_of picked) item.now }
 {
@@ -177,7 +177,7 @@ fn forbids(kind: Kind, picked: Picked, item: &Item) -> bool
     }
 }
 
-// What forbids the item on the layer, if anything does.
+/// What forbids the item on the layer, if anything does.
 fn forbidden_at(
     view: &CheckView,
     kind: Kind,
@@ -208,7 +208,7 @@ fn forbidden_at(
     }
 }
 
-// The first layer on which the item is forbidden.
+/// The first layer on which the item is forbidden.
 fn first_forbidden(view: &CheckView, kind: Kind, single: Single<'_>) -> Option<Forbidden>
     requires few { length view.now.rules.now < 4294967295 }
     requires ban { family kind ≡ Family.Forbids }
@@ -227,7 +227,7 @@ fn first_forbidden(view: &CheckView, kind: Kind, single: Single<'_>) -> Option<F
     None
 }
 
-// That the item is forbidden.
+/// That the item is forbidden.
 fn ban_row(view: &CheckView, kind: Kind, id: u32, single: Single<'_>) -> Option<Row>
     requires few { length view.now.rules.now < 4294967295 }
     requires ban { family kind ≡ Family.Forbids }
@@ -248,7 +248,7 @@ fn ban_row(view: &CheckView, kind: Kind, id: u32, single: Single<'_>) -> Option<
     })
 }
 
-// Appends the row of a kind that limits a length, if the item breaks it.
+/// Appends the row of a kind that limits a length, if the item breaks it.
 fn add_limit(view: &CheckView, kind: Kind, id: u32, single: Single<'_>, rows: &mut PairRows)
     requires few { length view.now.rules.now < 4294967295 }
     requires limit { family kind ≡ Family.Limits }
@@ -262,7 +262,7 @@ fn add_limit(view: &CheckView, kind: Kind, id: u32, single: Single<'_>, rows: &m
     }
 }
 
-// Appends the row of a kind that forbids, if the item is forbidden.
+/// Appends the row of a kind that forbids, if the item is forbidden.
 #[inline(never)]
 fn add_forbidden(view: &CheckView, kind: Kind, id: u32, single: Single<'_>, rows: &mut PairRows)
     requires few { length view.now.rules.now < 4294967295 }
@@ -277,7 +277,7 @@ fn add_forbidden(view: &CheckView, kind: Kind, id: u32, single: Single<'_>, rows
     }
 }
 
-// As `add_forbidden`; where no rule asks for the kind nothing is forbidden.
+/// As `add_forbidden`; where no rule asks for the kind nothing is forbidden.
 #[inline(always)]
 fn add_ban(view: &CheckView, kind: Kind, id: u32, single: Single<'_>, rows: &mut PairRows)
     requires few { length view.now.rules.now < 4294967295 }
@@ -292,7 +292,7 @@ fn add_ban(view: &CheckView, kind: Kind, id: u32, single: Single<'_>, rows: &mut
     }
 }
 
-// The rows of the item.
+/// The rows of the item.
 fn rows_of(alloc: Global, view: &CheckView, id: u32, single: Single<'_>) -> PairRows
     requires few { length view.now.rules.now < 4294967295 }
     ensures { AreRowsWhere (IsOfSingle (deciders (checked_by view.now)) single.entry.item.now single.entry.facts.now id) result }

@@ -7,7 +7,7 @@ ghost use Rattle.part_read.specs.Circles.{root, radius_between, square_between};
 use crate::numbers::Spot;
 use board_items::Nm;
 
-// The square of the distance.
+/// The square of the distance.
 fn square_between(a: Spot, b: Spot) -> u128
     requires a { IsWithin 1000000000000 a }
     requires b { IsWithin 1000000000000 b }
@@ -19,7 +19,7 @@ fn square_between(a: Spot, b: Spot) -> u128
     dx * dx + dy * dy
 }
 
-// The greatest whole number whose square is not above this one.
+/// The greatest whole number whose square is not above this one.
 fn root(square: u128) -> u128
     requires { square ≤ 8000000000000 * 1000000000000 }
     ensures value { result ≡ root square }

@@ -41,7 +41,7 @@ pub struct Drawing {
 
 // ---- cores
 
-// The lines between the corners, of which there is one at least.
+/// The lines between the corners, of which there is one at least.
 fn side_cores(alloc: Global, corners: &[Point]) -> Result<Vec<Core>, AllocError>
     requires { 1 ≤ length corners.now }
     ensures { IfOk result (λ cores. cores.items ≡ line_cores (sides corners.now)) }
@@ -172,7 +172,7 @@ fn push_part(list: &mut SmallVec<Part, 2>, layers: LayerSet, shape: Shape) -> Re
     Ok(())
 }
 
-// The cores with the radius around them, on these layers.
+/// The cores with the radius around them, on these layers.
 fn push_around(
     layers: LayerSet,
     radius: Radius,
@@ -187,7 +187,7 @@ fn push_around(
     Ok(())
 }
 
-// The radius in half nanometres.
+/// The radius in half nanometres.
 fn radius_with(drawing: &Drawing) -> Nm
     requires { IsDrawable drawing.now }
     ensures { result ≡ radius_with drawing.now.width drawing.now.figure }

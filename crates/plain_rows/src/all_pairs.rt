@@ -12,14 +12,14 @@ use std::alloc::{AllocError, Global};
 use std::marker::Brand;
 use std::sync::ledger::{Blank, Ledger};
 
-// Whether the items of the row are on the board.
+/// Whether the items of the row are on the board.
 fn has_items(board: &Board, row: &Row) -> bool
     ensures { IsTrue result → HasItems board.now row.now }
 {
     board.get(row.first()).is_some() && board.get(row.second()).is_some()
 }
 
-// Whether a rule that asks for what the row says is there.
+/// Whether a rule that asks for what the row says is there.
 fn has_source(view: &CheckView<'_>, row: &Row) -> bool
     ensures { IsTrue result → HasSource (map plain_rule view.now.rules.now) row.now }
 {
@@ -29,7 +29,7 @@ fn has_source(view: &CheckView<'_>, row: &Row) -> bool
     }
 }
 
-// Appends a row that can be written. One that cannot is left out, so that it is missed where rows are compared.
+/// Appends a row that can be written. One that cannot is left out, so that it is missed where rows are compared.
 fn push_row(view: &CheckView<'_>, row: &Row, rows: &mut Vec<Row>) -> Result<(), AllocError>
     requires items { All (HasItems view.now.board.now) rows.old.items }
     requires sources { All (HasSource (map plain_rule view.now.rules.now)) rows.old.items }
@@ -42,7 +42,7 @@ fn push_row(view: &CheckView<'_>, row: &Row, rows: &mut Vec<Row>) -> Result<(), 
     Ok(())
 }
 
-// Appends rows that can be written.
+/// Appends rows that can be written.
 fn push_rows(view: &CheckView<'_>, found: &[Row], rows: &mut Vec<Row>) -> Result<(), AllocError>
     requires items { All (HasItems view.now.board.now) rows.old.items }
     requires sources { All (HasSource (map plain_rule view.now.rules.now)) rows.old.items }
@@ -55,7 +55,7 @@ fn push_rows(view: &CheckView<'_>, found: &[Row], rows: &mut Vec<Row>) -> Result
     Ok(())
 }
 
-// Appends the rows of a pair.
+/// Appends the rows of a pair.
 fn push_pair<L: Ledger>(
     alloc: Global,
     view: &CheckView<'_>,
@@ -77,7 +77,7 @@ fn push_pair<L: Ledger>(
     Ok(())
 }
 
-// Appends the rows of an item with all later ones.
+/// Appends the rows of an item with all later ones.
 fn push_pairs<L: Ledger>(
     alloc: Global,
     view: &CheckView<'_>,
@@ -97,7 +97,7 @@ fn push_pairs<L: Ledger>(
     Ok(())
 }
 
-// Appends the rows of an item alone.
+/// Appends the rows of an item alone.
 fn push_item(
     alloc: Global,
     view: &CheckView<'_>,

@@ -44,7 +44,7 @@ fn higher(a: i64, b: i64) -> i64
     if a < b { b } else { a }
 }
 
-// The span with this coordinate.
+/// The span with this coordinate.
 fn with(span: Span, z: i64) -> Span
     requires { IsInReach z }
     ensures here { Covers result z }
@@ -56,7 +56,7 @@ fn with(span: Span, z: i64) -> Span
     }
 }
 
-// The area with this anchor.
+/// The area with this anchor.
 fn with_anchor(area: Area, anchor: Anchor) -> Area
     ensures here { IsInside result anchor }
     ensures rest { (a : Anchor) → IsInside area a → IsInside result a }
@@ -86,7 +86,7 @@ pub(crate) fn width(span: Span) -> i64 {
     span.high.saturating_sub(span.low)
 }
 
-// How far a coordinate is from a span, at least.
+/// How far a coordinate is from a span, at least.
 fn gap(span: Span, z: i64) -> u64
     requires { IsInReach z }
     ensures least { (w : ℤ) → Covers span w → result ≤ unsigned_abs (z -ℤ w) }

@@ -13,7 +13,7 @@ use crate::links::Nest;
 use crate::places::{count_groups, group_of, link_of};
 use std::alloc::{AllocError, Global};
 
-// All links, the shorter second place first.
+/// All links, the shorter second place first.
 fn all_links(alloc: Global, anchors: &[Anchor]) -> Result<Vec<Link>, AllocError>
     requires few { length anchors.now < 2 ^ 32 }
     ensures sound { IfOk result (λ v. (l : Link) → Mem l v.items → IsLink anchors.now l) }
@@ -30,7 +30,7 @@ fn all_links(alloc: Global, anchors: &[Anchor]) -> Result<Vec<Link>, AllocError>
     Ok(links)
 }
 
-// Puts one label for another.
+/// Puts one label for another.
 fn relabel(labels: &mut [usize], from: usize, to: usize)
     ensures { (k : ℕ) → k < length labels.new → slice_index labels.new k ≡ (if slice_index labels.old k == from then to else slice_index labels.old k) }
 {
@@ -41,7 +41,7 @@ fn relabel(labels: &mut [usize], from: usize, to: usize)
     }
 }
 
-// Puts the links in order, each once.
+/// Puts the links in order, each once.
 fn put_in_order(links: &mut Vec<Link>) -> Result<(), AllocError>
     requires fits { (l : Link) → Mem l links.old.items → (l.first < 2 ^ 32) × (l.second < 2 ^ 32) }
     ensures climbs { OnOk result (Climbs rank links.new.items) }
@@ -53,7 +53,7 @@ fn put_in_order(links: &mut Vec<Link>) -> Result<(), AllocError>
     Ok(())
 }
 
-// Joins the labels of the ends of each link in turn, and keeps each link whose ends had two.
+/// Joins the labels of the ends of each link in turn, and keeps each link whose ends had two.
 fn join(
     anchors: &[Anchor],
     links: &[Link],

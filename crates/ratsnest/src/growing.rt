@@ -18,10 +18,10 @@ use crate::rounds::join_groups;
 use crate::waiting::{Waiting, all_waiting, least, reach};
 use std::alloc::{AllocError, Global};
 
-// So many anchors are joined faster by growing one group, which needs no tree.
+/// So many anchors are joined faster by growing one group, which needs no tree.
 const FEW: usize = 800;
 
-// The place of a link in the order, found by halves.
+/// The place of a link in the order, found by halves.
 fn place_for(links: &[Link], link: Link) -> usize
     requires { Climbs rank links.now }
     ensures within { result ≤ length links.now }
@@ -41,7 +41,7 @@ fn place_for(links: &[Link], link: Link) -> usize
     low
 }
 
-// Puts a link where it belongs in the order.
+/// Puts a link where it belongs in the order.
 fn add_link(links: &mut Vec<Link>, link: Link) -> Result<(), AllocError>
     requires climbs { Climbs rank links.old.items }
     requires other { (l : Link) → Mem l links.old.items → rank l ≢ rank link }
@@ -55,7 +55,7 @@ fn add_link(links: &mut Vec<Link>, link: Link) -> Result<(), AllocError>
     Ok(())
 }
 
-// The group of what waits with the least link is reached, by that link.
+/// The group of what waits with the least link is reached, by that link.
 fn take_in(
     anchors: &[Anchor],
     reached: &mut [bool],
@@ -77,7 +77,7 @@ fn take_in(
     Ok(())
 }
 
-// Grows until all is reached.
+/// Grows until all is reached.
 fn grow_on(
     anchors: &[Anchor],
     reached: &mut [bool],
@@ -97,7 +97,7 @@ fn grow_on(
     Ok(())
 }
 
-// Only the first anchor's group is reached.
+/// Only the first anchor's group is reached.
 fn start(
     anchors: &[Anchor],
     reached: &mut [bool],
@@ -116,7 +116,7 @@ fn start(
     Ok(())
 }
 
-// The links of the nest.
+/// The links of the nest.
 #[tactic(auto, using(crate::proofs::Grown::chosen_few, crate::proofs::Grown::some_anchor))]
 fn grow(alloc: Global, anchors: &[Anchor]) -> Result<Vec<Link>, AllocError>
     requires rise { AnchorsRise anchors.now }
@@ -137,7 +137,7 @@ fn grow(alloc: Global, anchors: &[Anchor]) -> Result<Vec<Link>, AllocError>
     Ok(links)
 }
 
-// The links of the nest, found by growing one group or in rounds, whichever is faster for so many anchors.
+/// The links of the nest, found by growing one group or in rounds, whichever is faster for so many anchors.
 fn choose(alloc: Global, anchors: &[Anchor]) -> Result<Vec<Link>, AllocError>
     requires rise { AnchorsRise anchors.now }
     requires occur { GroupsOccur anchors.now }

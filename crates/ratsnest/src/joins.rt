@@ -18,7 +18,7 @@ pub(crate) struct Members {
     pub(crate) groups: Vec<usize>,
 }
 
-// Gives the label to these groups.
+/// Gives the label to these groups.
 fn relabel(labels: &mut [usize], groups: &[usize], to: usize)
     requires { (k : ℕ) → k < length groups.now → slice_index_or groups.now k 0 < length labels.old }
     ensures given { (k : ℕ) → k < length groups.now → label_at labels.new (slice_index_or groups.now k 0) ≡ to }
@@ -29,7 +29,7 @@ fn relabel(labels: &mut [usize], groups: &[usize], to: usize)
     }
 }
 
-// Those of one label have the other.
+/// Those of one label have the other.
 fn merge(
     alloc: Global,
     labels: &mut [usize],
@@ -50,7 +50,7 @@ fn merge(
     Ok(())
 }
 
-// Merges the label of fewer groups into the other.
+/// Merges the label of fewer groups into the other.
 fn merge_smaller(
     alloc: Global,
     labels: &mut [usize],
@@ -74,7 +74,7 @@ fn merge_smaller(
     }
 }
 
-// The label of the group of an anchor.
+/// The label of the group of an anchor.
 fn label_of(anchors: &[Anchor], labels: &[usize], place: u32) -> usize
     requires { place < length anchors.now }
     ensures { result ≡ label_at labels.now (group_at anchors.now place) }
@@ -82,7 +82,7 @@ fn label_of(anchors: &[Anchor], labels: &[usize], place: u32) -> usize
     label_at(labels, group_of(anchors, place as usize) as usize)
 }
 
-// Joins the labels of the ends of a link, if it has two.
+/// Joins the labels of the ends of a link, if it has two.
 fn join(
     alloc: Global,
     anchors: &[Anchor],

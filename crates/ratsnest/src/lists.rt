@@ -12,7 +12,7 @@ fn is_before(a: Anchor, b: Anchor) -> bool
     a.id < b.id || a.id == b.id && a.number < b.number
 }
 
-// Whether the one place's anchor stands before the other's.
+/// Whether the one place's anchor stands before the other's.
 fn stand_in_order(anchors: &[Anchor], i: usize, j: usize) -> bool
     requires i { i < length anchors.now }
     requires j { j < length anchors.now }
@@ -21,7 +21,7 @@ fn stand_in_order(anchors: &[Anchor], i: usize, j: usize) -> bool
     is_before(anchors[i], anchors[j])
 }
 
-// Whether each anchor stands before the next one.
+/// Whether each anchor stands before the next one.
 fn do_rise(anchors: &[Anchor]) -> bool
     ensures { IsTrue result ↔ AnchorsRise anchors.now }
 {
@@ -44,7 +44,7 @@ fn has_group(anchors: &[Anchor], group: usize) -> bool
     false
 }
 
-// Whether each group up to the greatest has an anchor.
+/// Whether each group up to the greatest has an anchor.
 fn do_groups_occur(anchors: &[Anchor]) -> bool
     ensures { IsTrue result ↔ GroupsOccur anchors.now }
 {

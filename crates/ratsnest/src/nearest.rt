@@ -38,7 +38,7 @@ fn label_of(labels: &[usize], spot: &Spot) -> usize
     label_at(labels, spot.anchor.group as usize)
 }
 
-// The label that all of a part have.
+/// The label that all of a part have.
 fn name_of_all(tree: &Tree, labels: &[usize], low: usize, high: usize) -> Option<usize>
     ensures { IfSome result (IsNamed tree.now.spots.items labels.now low high) }
 {
@@ -66,14 +66,14 @@ fn node_at(tree: &Tree, node: usize) -> Option<&Node>
     tree.nodes.get(node)
 }
 
-// Whether the node is that of the part.
+/// Whether the node is that of the part.
 fn is_of(node: &Node, low: usize, high: usize) -> bool
     ensures { IsTrue result → (node.now.low ≡ low) × (node.now.high ≡ high) }
 {
     node.low == low && node.high == high
 }
 
-// The name of a node whose part is all of the parts of two nodes.
+/// The name of a node whose part is all of the parts of two nodes.
 fn name_of_both(
     tree: &Tree,
     labels: &[usize],
@@ -97,7 +97,7 @@ fn name_of_both(
     }
 }
 
-// The name of a node.
+/// The name of a node.
 fn name_of(tree: &Tree, labels: &[usize], names: &[Option<usize>], node: usize) -> Option<usize>
     requires { AreNames tree.now.spots.items labels.now tree.now.nodes.items names.now }
     ensures { IfSome result (λ c. (d : Node) → IsNamed tree.now.spots.items labels.now (slice_index_or tree.now.nodes.items node d).low (slice_index_or tree.now.nodes.items node d).high c) }
@@ -134,7 +134,7 @@ pub(crate) fn all_names(
     Ok(names)
 }
 
-// Whether all of the part of a node have the label.
+/// Whether all of the part of a node have the label.
 fn is_named(names: &[Option<usize>], node: usize, label: usize) -> bool
     ensures { IsTrue result → slice_index_or names.now node None ≡ Some label }
 {
@@ -144,7 +144,7 @@ fn is_named(names: &[Option<usize>], node: usize, label: usize) -> bool
     }
 }
 
-// Whether no anchor of the part has a lesser link than the one that is kept.
+/// Whether no anchor of the part has a lesser link than the one that is kept.
 fn is_passed(
     tree: &Tree,
     labels: &[usize],
@@ -168,7 +168,7 @@ fn is_passed(
     }
 }
 
-// Looks at each anchor of a part.
+/// Looks at each anchor of a part.
 fn look_at_each(
     tree: &Tree,
     labels: &[usize],
@@ -196,7 +196,7 @@ fn square_of_part(tree: &Tree, from: &Spot, part: Part) -> u64 {
     }
 }
 
-// The halves of a part, the nearer one first.
+/// The halves of a part, the nearer one first.
 fn nearer_first(tree: &Tree, from: &Spot, part: Part) -> Halves
     requires { part.low + 1 < part.high }
     ensures { AreHalves part result.left result.right }
@@ -212,7 +212,7 @@ fn nearer_first(tree: &Tree, from: &Spot, part: Part) -> Halves
     }
 }
 
-// Keeps the least link to an anchor of the part that has another label, if it is less than the one that is kept.
+/// Keeps the least link to an anchor of the part that has another label, if it is less than the one that is kept.
 fn look(
     tree: &Tree,
     labels: &[usize],
@@ -239,7 +239,7 @@ fn look(
     look(tree, labels, names, from, own, halves.right, best);
 }
 
-// For each label the least link that leaves it.
+/// For each label the least link that leaves it.
 fn seek(tree: &Tree, labels: &[usize], names: &[Option<usize>], best: &mut [Link])
     requires nodes { AreNodes tree.now.spots.items tree.now.nodes.items }
     requires names { AreNames tree.now.spots.items labels.now tree.now.nodes.items names.now }

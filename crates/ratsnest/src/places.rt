@@ -16,7 +16,7 @@ pub(crate) fn group_of(anchors: &[Anchor], i: usize) -> u32
     anchors[i].group
 }
 
-// The square of the difference.
+/// The square of the difference.
 fn square_apart(a: i64, b: i64) -> u64
     requires a { IsInReach a }
     requires b { IsInReach b }
@@ -27,7 +27,7 @@ fn square_apart(a: i64, b: i64) -> u64
     (apart * apart) as u64
 }
 
-// The square of the distance.
+/// The square of the distance.
 pub(crate) fn square(a: Anchor, b: Anchor) -> u64
     ensures { result ≡ square_of a b }
 {
@@ -43,7 +43,7 @@ fn square_at(anchors: &[Anchor], i: usize, j: usize) -> u64
     square(anchors[i], anchors[j])
 }
 
-// The link of two anchors.
+/// The link of two anchors.
 #[tactic(auto, unfolding(crate::specs::Grow::link_at))]
 pub(crate) fn link_of(anchors: &[Anchor], i: usize, j: usize) -> Link
     requires few { length anchors.now < 2 ^ 32 }
@@ -60,7 +60,7 @@ pub(crate) fn link_of(anchors: &[Anchor], i: usize, j: usize) -> Link
     }
 }
 
-// Whether the link a stands before b.
+/// Whether the link a stands before b.
 pub(crate) fn precedes(a: Link, b: Link) -> bool
     ensures { IsTrue result ↔ (rank a < rank b) }
 {
@@ -68,14 +68,14 @@ pub(crate) fn precedes(a: Link, b: Link) -> bool
         || a.square == b.square && (a.first < b.first || a.first == b.first && a.second < b.second)
 }
 
-// Whether the link stands before all links of this square.
+/// Whether the link stands before all links of this square.
 pub(crate) fn is_below(link: Link, square: u64) -> bool
     ensures { IsTrue result → rank link < square * 18446744073709551616 }
 {
     link.square < square
 }
 
-// How many groups there are.
+/// How many groups there are.
 #[tactic(auto, unfolding(crate::specs::NestOf::group_count))]
 pub(crate) fn count_groups(anchors: &[Anchor]) -> usize
     ensures { result ≡ group_count anchors.now }

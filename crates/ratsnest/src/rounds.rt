@@ -17,7 +17,7 @@ use crate::places::count_groups;
 use crate::tree::{Tree, tree_of};
 use std::alloc::{AllocError, Global};
 
-// Takes the least link that leaves each label. Answers whether there was one.
+/// Takes the least link that leaves each label. Answers whether there was one.
 fn take_round(
     alloc: Global,
     anchors: &[Anchor],
@@ -45,7 +45,7 @@ fn take_round(
     Ok(before < links.len())
 }
 
-// Takes rounds until all groups have one label.
+/// Takes rounds until all groups have one label.
 fn take_rounds(
     alloc: Global,
     anchors: &[Anchor],
@@ -69,7 +69,7 @@ fn take_rounds(
     Ok(())
 }
 
-// Puts the links in order.
+/// Puts the links in order.
 fn put_in_order(links: &mut Vec<Link>) -> Result<(), AllocError>
     requires fits { (l : Link) → Mem l links.old.items → (l.first < 2 ^ 32) × (l.second < 2 ^ 32) }
     ensures climbs { OnOk result (Climbs rank links.new.items) }
@@ -82,7 +82,7 @@ fn put_in_order(links: &mut Vec<Link>) -> Result<(), AllocError>
     Ok(())
 }
 
-// Links that join all labels, in order.
+/// Links that join all labels, in order.
 fn join_from(
     alloc: Global,
     anchors: &[Anchor],

@@ -17,7 +17,7 @@ pub(crate) struct Spot {
     pub(crate) place: u32,
 }
 
-// The link of two anchors.
+/// The link of two anchors.
 #[tactic(auto, unfolding(crate::specs::Forest::link_between))]
 fn link_between(from: &Spot, to: &Spot) -> Link
     ensures { result ≡ link_between from.now to.now }
@@ -29,7 +29,7 @@ fn link_between(from: &Spot, to: &Spot) -> Link
     }
 }
 
-// Whether the distance alone says that the link is no less than the one that is kept.
+/// Whether the distance alone says that the link is no less than the one that is kept.
 fn is_farther(best: Link, from: &Spot, to: &Spot) -> bool
     ensures { IsTrue result → rank best ≤ rank (link_between from.now to.now) }
 {

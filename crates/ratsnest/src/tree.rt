@@ -9,7 +9,7 @@ use crate::area::{Area, area_of, width};
 use crate::spot::{Spot, all_spots};
 use std::alloc::{AllocError, Global};
 
-// Parts of at most so many anchors have no halves.
+/// Parts of at most so many anchors have no halves.
 const FEW: usize = 8;
 
 /// The anchors from `low` on, before `high`. `node` is the place of its node, if it has one.
@@ -49,7 +49,7 @@ pub(crate) fn is_small(low: usize, high: usize) -> bool
     high <= low || high - low <= FEW
 }
 
-// The place in the middle.
+/// The place in the middle.
 fn middle(low: usize, high: usize) -> usize
     requires { low + 1 < high }
     ensures past { low < result }
@@ -79,7 +79,7 @@ pub(crate) fn halves_of(part: Part) -> Halves
     }
 }
 
-// Puts the anchors in the order of one coordinate: that in which they lie farther apart.
+/// Puts the anchors in the order of one coordinate: that in which they lie farther apart.
 fn sort_part(spots: &mut [Spot])
     ensures { IsPermutation spots.old spots.new }
 {
@@ -91,7 +91,7 @@ fn sort_part(spots: &mut [Spot])
     }
 }
 
-// Puts near ones together.
+/// Puts near ones together.
 fn put_together(spots: &mut [Spot], low: usize, high: usize)
     requires { high ≤ length spots.old }
     ensures { IsPermutation spots.old spots.new }
@@ -115,7 +115,7 @@ fn node_of(spots: &[Spot], low: usize, high: usize) -> Node
     }
 }
 
-// The part of a place of a node: the half of the part of another.
+/// The part of a place of a node: the half of the part of another.
 fn part_at(nodes: &[Node], node: usize) -> Option<Part> {
     let parent = nodes.get(node.saturating_sub(1) / 2)?;
     if is_small(parent.low, parent.high) {
@@ -133,7 +133,7 @@ fn part_at(nodes: &[Node], node: usize) -> Option<Part> {
     }
 }
 
-// The node of a place. Where it has no part it is empty.
+/// The node of a place. Where it has no part it is empty.
 fn next_node(spots: &[Spot], nodes: &[Node], node: usize) -> Node
     ensures { IsNode spots.now result }
 {
@@ -143,7 +143,7 @@ fn next_node(spots: &[Spot], nodes: &[Node], node: usize) -> Node
     }
 }
 
-// How many nodes there are for so many anchors: as if each part had halves of the greater length.
+/// How many nodes there are for so many anchors: as if each part had halves of the greater length.
 fn count_nodes(len: usize) -> usize {
     let mut count: usize = 1;
     let mut left = len;

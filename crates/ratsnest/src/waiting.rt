@@ -10,7 +10,7 @@ use crate::link::Link;
 use crate::places::{is_below, link_of, precedes, square};
 use std::alloc::{AllocError, Global};
 
-// Among so many that wait an anchor is looked for at the spot of the next: an end of a track mostly stands at one of the last before it.
+/// Among so many that wait an anchor is looked for at the spot of the next: an end of a track mostly stands at one of the last before it.
 const LAST: usize = 4;
 
 /// An anchor that is not reached, its place in the list of anchors, and its least link from an anchor that is reached.
@@ -21,7 +21,7 @@ pub(crate) struct Waiting {
     pub(crate) link: Link,
 }
 
-// The link of two anchors.
+/// The link of two anchors.
 #[tactic(auto, unfolding(crate::specs::Grow::link_between))]
 fn link_between(from: &Waiting, to: &Waiting) -> Link
     ensures { result ≡ link_between from.now to.now }
@@ -33,14 +33,14 @@ fn link_between(from: &Waiting, to: &Waiting) -> Link
     }
 }
 
-// Whether the distance alone says that the link is no less than the one that is kept.
+/// Whether the distance alone says that the link is no less than the one that is kept.
 fn is_farther(held: &Waiting, from: &Waiting) -> bool
     ensures { IsTrue result → rank held.now.link ≤ rank (link_between from.now held.now) }
 {
     is_below(held.link, square(from.anchor, held.anchor))
 }
 
-// Keeps the link from this anchor if it is less.
+/// Keeps the link from this anchor if it is less.
 fn draw(held: &mut Waiting, from: &Waiting)
     ensures { IsDrawn from.now held.old held.new }
 {
@@ -61,7 +61,7 @@ fn draw_near(waiting: &mut [Waiting], from: &Waiting)
     }
 }
 
-// Whether the first stands at the very spot of the second, at a lower place in the list: then its links are less.
+/// Whether the first stands at the very spot of the second, at a lower place in the list: then its links are less.
 fn is_lower_twin(first: &Waiting, second: &Waiting) -> bool
     ensures { IsTrue result → (first.now.place < second.now.place) × (first.now.anchor.x ≡ second.now.anchor.x) × (first.now.anchor.y ≡ second.now.anchor.y) }
 {
@@ -70,7 +70,7 @@ fn is_lower_twin(first: &Waiting, second: &Waiting) -> bool
         && first.place < second.place
 }
 
-// Whether one of these anchors has lesser links than this one for that reason.
+/// Whether one of these anchors has lesser links than this one for that reason.
 fn is_doubled(joined: &[Waiting], from: &Waiting) -> bool
     ensures { IsTrue result → IsDoubled joined.now from.now }
 {
@@ -82,8 +82,8 @@ fn is_doubled(joined: &[Waiting], from: &Waiting) -> bool
     false
 }
 
-// Keeps the links from one of these anchors, unless those from another of them are less. Ends of tracks often stand at the
-// spot of another end; that is looked for only where it is far cheaper than to measure.
+/// Keeps the links from one of these anchors, unless those from another of them are less. Ends of tracks often stand at the
+/// spot of another end; that is looked for only where it is far cheaper than to measure.
 fn draw_once(waiting: &mut [Waiting], joined: &[Waiting], from: &Waiting)
     ensures { (k : ℕ) (d : Waiting) → k < length waiting.new → IsTold joined.now from.now (slice_index_or waiting.old k d) (slice_index_or waiting.new k d) }
 {
@@ -93,7 +93,7 @@ fn draw_once(waiting: &mut [Waiting], joined: &[Waiting], from: &Waiting)
     draw_near(waiting, from);
 }
 
-// Keeps the least of the links from these anchors and the one that is kept.
+/// Keeps the least of the links from these anchors and the one that is kept.
 fn draw_to_all(waiting: &mut [Waiting], joined: &[Waiting])
     ensures { (k : ℕ) (d : Waiting) → k < length waiting.new → IsDrawnToAll joined.now (slice_index_or waiting.old k d) (slice_index_or waiting.new k d) }
 {
@@ -102,7 +102,7 @@ fn draw_to_all(waiting: &mut [Waiting], joined: &[Waiting])
     }
 }
 
-// Takes out the anchors of a group.
+/// Takes out the anchors of a group.
 fn take_out(
     waiting: &mut Vec<Waiting>,
     joined: &mut Vec<Waiting>,
@@ -124,7 +124,7 @@ fn take_out(
     Ok(())
 }
 
-// The anchors of a group are reached: those that still wait keep their least links from them, too.
+/// The anchors of a group are reached: those that still wait keep their least links from them, too.
 pub(crate) fn reach(
     waiting: &mut Vec<Waiting>,
     joined: &mut Vec<Waiting>,
@@ -138,7 +138,7 @@ pub(crate) fn reach(
     Ok(())
 }
 
-// The one that waits with the least link.
+/// The one that waits with the least link.
 pub(crate) fn least(waiting: &[Waiting]) -> usize
     requires { 0 < length waiting.now }
     ensures within { result < length waiting.now }
@@ -153,14 +153,14 @@ pub(crate) fn least(waiting: &[Waiting]) -> usize
     least
 }
 
-// Whether the one that waits is of the group of the anchor and at its spot.
+/// Whether the one that waits is of the group of the anchor and at its spot.
 fn leads(held: &Waiting, anchor: Anchor) -> bool
     ensures { IsTrue result → (held.now.anchor.group ≡ anchor.group) × (held.now.anchor.x ≡ anchor.x) × (held.now.anchor.y ≡ anchor.y) }
 {
     held.anchor.x == anchor.x && held.anchor.y == anchor.y && held.anchor.group == anchor.group
 }
 
-// Whether one of the last that wait leads the anchor.
+/// Whether one of the last that wait leads the anchor.
 fn is_led(waiting: &[Waiting], anchor: Anchor) -> bool
     ensures { IsTrue result → IsLed waiting.now anchor }
 {
@@ -172,7 +172,7 @@ fn is_led(waiting: &[Waiting], anchor: Anchor) -> bool
     false
 }
 
-// The anchor with its link from the first.
+/// The anchor with its link from the first.
 fn first_of(anchors: &[Anchor], j: usize) -> Waiting
     requires few { length anchors.now < 2 ^ 32 }
     requires j { j < length anchors.now }

@@ -11,7 +11,7 @@ use std::alloc::{AllocError, Global};
 /// How many entries have one box.
 pub(crate) const BLOCK: usize = 32;
 
-// A box that holds the first and the others.
+/// A box that holds the first and the others.
 fn box_with(first: &Entry, others: &[Entry]) -> Bounds
     ensures { All (λ e. IsPartOf e.bounds result) (first.now ∷ others.now) }
 {
@@ -22,7 +22,7 @@ fn box_with(first: &Entry, others: &[Entry]) -> Bounds
     bounds
 }
 
-// A box that holds all of the block.
+/// A box that holds all of the block.
 fn box_of(block: &[Entry]) -> Bounds
     ensures { All (λ e. IsPartOf e.bounds result) block.now }
 {

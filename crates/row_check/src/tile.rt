@@ -21,10 +21,10 @@ use pair_check::{Asked, CheckView, PairRows, Row, Steps, test_two};
 use std::alloc::{AllocError, Global};
 use std::sync::ledger::Ledger;
 
-// How many entries change where all items are looked up first.
+/// How many entries change where all items are looked up first.
 const MANY: usize = 256;
 
-// What is tested, what is asked for at all, and items that are at hand.
+/// What is tested, what is asked for at all, and items that are at hand.
 #[derive(Clone, Copy)]
 struct Tested<'a, 'b> {
     view: &'a CheckView<'b>,
@@ -32,7 +32,7 @@ struct Tested<'a, 'b> {
     hands: &'a [Hand<'b>],
 }
 
-// A tile of an index, and the boxes of the blocks of the entries that are walked there.
+/// A tile of an index, and the boxes of the blocks of the entries that are walked there.
 #[derive(Clone, Copy)]
 struct At<'a> {
     index: &'a TileIndex,
@@ -40,14 +40,14 @@ struct At<'a> {
     boxes: &'a [Bounds],
 }
 
-// The rows so far, and a list for those of one pair.
+/// The rows so far, and a list for those of one pair.
 #[derive(Drop)]
 struct Sheet {
     pair: PairRows,
     rows: Vec<Row>,
 }
 
-// Whether the id is one of those that changed.
+/// Whether the id is one of those that changed.
 fn is_changed(changed: &[u32], id: u32) -> bool
     requires { IsStrictlyIncreasing changed.now }
     ensures { result ≡ is_changed changed.now id }
@@ -59,7 +59,7 @@ fn is_changed(changed: &[u32], id: u32) -> bool
     }
 }
 
-// The entries that changed.
+/// The entries that changed.
 fn touched_of(alloc: Global, near: &[Entry], changed: &[u32]) -> Result<Vec<Entry>, AllocError>
     requires { IsStrictlyIncreasing changed.now }
     ensures { IfOk result (λ touched. touched.items ≡ filter (λ (e : Entry). is_changed changed.now e.id) near.now) }
@@ -73,7 +73,7 @@ fn touched_of(alloc: Global, near: &[Entry], changed: &[u32]) -> Result<Vec<Entr
     Ok(touched)
 }
 
-// Whether the two are near, and the tile answers for them. Boxes decide first.
+/// Whether the two are near, and the tile answers for them. Boxes decide first.
 fn is_owned(index: &TileIndex, tile: u32, first: &Entry, second: &Entry) -> bool
     requires first { FitsWithin (pos 2000000000) first.now.bounds }
     requires second { FitsWithin (pos 2000000000) second.now.bounds }
@@ -82,8 +82,8 @@ fn is_owned(index: &TileIndex, tile: u32, first: &Entry, second: &Entry) -> bool
     index.are_near(first.bounds, second.bounds) && index.owner(first.bounds, second.bounds) == tile
 }
 
-// With which of the later entries the first is tested, with their boxes, and those of the later that changed. `touched` has
-// the entries that changed, the first among them; they have no boxes.
+/// With which of the later entries the first is tested, with their boxes, and those of the later that changed. `touched` has
+/// the entries that changed, the first among them; they have no boxes.
 fn partners<'a>(
     first: &Entry,
     later: &'a [Entry],
@@ -106,7 +106,7 @@ fn partners<'a>(
     }
 }
 
-// Appends the rows of a pair.
+/// Appends the rows of a pair.
 fn push_pair<L: Ledger>(
     tested: &Tested<'_, '_>,
     one: Hand<'_>,
@@ -136,7 +136,7 @@ fn push_pair<L: Ledger>(
     Ok(())
 }
 
-// The others from the first for which the tile answers. Blocks that are far are passed over whole.
+/// The others from the first for which the tile answers. Blocks that are far are passed over whole.
 fn owned_from<'a>(at: &At<'_>, first: &Entry, others: &'a [Entry]) -> &'a [Entry]
     requires fits { All (λ e. FitsWithin (pos 2000000000) e.bounds) (first.now ∷ others.now) }
     requires blocks { AreBlocks at.now.boxes.now others.now }
@@ -156,7 +156,7 @@ fn owned_from<'a>(at: &At<'_>, first: &Entry, others: &'a [Entry]) -> &'a [Entry
     left
 }
 
-// Appends the rows of an entry, whose item is at hand, with others, for the first of which the tile answers.
+/// Appends the rows of an entry, whose item is at hand, with others, for the first of which the tile answers.
 fn push_beside<L: Ledger>(
     tested: &Tested<'_, '_>,
     at: &At<'_>,
@@ -191,7 +191,7 @@ fn push_beside<L: Ledger>(
     Ok(())
 }
 
-// Appends the rows of an entry with others. Its item is looked up once, and only where there is something to test.
+/// Appends the rows of an entry with others. Its item is looked up once, and only where there is something to test.
 fn push_rows<L: Ledger>(
     tested: &Tested<'_, '_>,
     at: &At<'_>,
@@ -221,7 +221,7 @@ fn push_rows<L: Ledger>(
     push_beside(tested, at, first, one, owned, sheet, steps)
 }
 
-// The items of all entries, where enough of them changed: a pair is then a look less.
+/// The items of all entries, where enough of them changed: a pair is then a look less.
 fn hands_if<'a>(
     alloc: Global,
     view: &CheckView<'a>,

@@ -18,7 +18,7 @@ use std::alloc::{AllocError, Global};
 use std::marker::Brand;
 use std::sync::ledger::{Blank, Ledger};
 
-// The ids of all items, which rise.
+/// The ids of all items, which rise.
 fn ids_of(alloc: Global, board: &Board) -> Result<Vec<u32>, AllocError>
     ensures ids { IfOk result (λ ids. ids.items ≡ ids_of board.now) }
     ensures rise { IfOk result (λ ids. IsStrictlyIncreasing ids.items) }
@@ -30,7 +30,7 @@ fn ids_of(alloc: Global, board: &Board) -> Result<Vec<u32>, AllocError>
     Ok(ids)
 }
 
-// Appends the rows of a tile.
+/// Appends the rows of a tile.
 fn push_tile<L: Ledger>(
     alloc: Global,
     view: &CheckView,
@@ -50,7 +50,7 @@ fn push_tile<L: Ledger>(
     Ok(())
 }
 
-// The rows of the pairs that the tiles answer for.
+/// The rows of the pairs that the tiles answer for.
 fn rows_of_tiles<L: Ledger>(
     alloc: Global,
     view: &CheckView,
@@ -73,7 +73,7 @@ fn rows_of_tiles<L: Ledger>(
     Ok(rows)
 }
 
-// Appends the rows of a single item, if there is one of the id.
+/// Appends the rows of a single item, if there is one of the id.
 fn push_single(
     alloc: Global,
     view: &CheckView,
@@ -111,7 +111,7 @@ pub fn push_singles(
     Ok(())
 }
 
-// As `rows_of_changed`, with where steps are counted.
+/// As `rows_of_changed`, with where steps are counted.
 fn rows_counted<L: Ledger>(
     alloc: Global,
     view: &CheckView,

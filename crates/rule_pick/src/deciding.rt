@@ -18,7 +18,7 @@ pub(crate) struct Decided<'r> {
     pub(crate) constraint: &'r Constraint,
 }
 
-// What the rule asks of the kind.
+/// What the rule asks of the kind.
 fn asked_by(kind: Kind, rule: &Rule) -> Option<&Constraint>
     ensures { option_map (λ c. plain_constraint c.now) result ≡ asked_by kind (plain_rule rule.now) }
 {
@@ -36,7 +36,7 @@ fn is_outer(layer: u32) -> bool
     layer == 0 || layer == 31
 }
 
-// Whether the rule acts on the layer.
+/// Whether the rule acts on the layer.
 fn admits(rule_layer: RuleLayer, layer: Option<u32>) -> bool
     ensures { result ≡ admits rule_layer layer }
 {
@@ -67,7 +67,7 @@ fn applies(cond: &Option<Cond>, a: &Facts, b: Option<&Facts>) -> bool
     }
 }
 
-// What the rule asks of the kind, where it matches.
+/// What the rule asks of the kind, where it matches.
 #[tactic(auto, unfolding(crate::specs::Deciding::matches_rule))]
 fn matching<'r>(
     kind: Kind,

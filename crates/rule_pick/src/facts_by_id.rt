@@ -24,7 +24,7 @@ impl Model for FactsById {
     ghost view = { λ facts. facts.slots.items };
 }
 
-// The facts in the slot, if there is such a slot.
+/// The facts in the slot, if there is such a slot.
 #[tactic(auto, unfolding(crate::specs::ById::facts_at))]
 fn facts_at(slots: &[Option<Facts>], place: usize) -> Option<&Facts>
     ensures { option_copied result ≡ facts_at slots.now place }
@@ -35,7 +35,7 @@ fn facts_at(slots: &[Option<Facts>], place: usize) -> Option<&Facts>
     }
 }
 
-// Appends empty slots until there are that many.
+/// Appends empty slots until there are that many.
 fn fill_up(slots: &mut Vec<Option<Facts>>, count: usize) -> Result<(), AllocError>
     ensures filled { OnOk result (count ≤ length slots.new.items) }
     ensures same { HasSameFacts slots.old.items slots.new.items }
@@ -46,7 +46,7 @@ fn fill_up(slots: &mut Vec<Option<Facts>>, count: usize) -> Result<(), AllocErro
     Ok(())
 }
 
-// Puts facts into a slot that is there.
+/// Puts facts into a slot that is there.
 fn put(slots: &mut [Option<Facts>], place: usize, facts: Facts)
     requires { place < length slots.old }
     ensures { IsPut place (Some facts) slots.old slots.new }
@@ -54,7 +54,7 @@ fn put(slots: &mut [Option<Facts>], place: usize, facts: Facts)
     slots[place] = Some(facts);
 }
 
-// Empties a slot, and gives what was in it.
+/// Empties a slot, and gives what was in it.
 fn take(slots: &mut [Option<Facts>], place: usize) -> Option<Facts>
     ensures taken { result ≡ facts_at slots.old place }
     ensures rest { IsPut place None slots.old slots.new }

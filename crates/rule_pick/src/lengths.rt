@@ -37,7 +37,7 @@ impl Model for LengthIf {
     ghost invariant = { λ length. IsLengthIfSome (length_of length.kept) };
 }
 
-// The number under which a length is kept.
+/// The number under which a length is kept.
 #[tactic(auto, using(crate::proofs::KeptLengths::kept_some))]
 fn kept_of(nm: Nm) -> i32
     requires { IsLength nm }

@@ -30,7 +30,7 @@ pub use names::Names;
 pub use picked::Picked;
 pub use picking::pick;
 
-// Each type may go to another thread and be shared by threads.
+/// Each type may go to another thread and be shared by threads.
 fn crosses<T: Send + Sync>() {}
 
 fn all_cross() {

@@ -16,7 +16,7 @@ use copper_layers::{LayerSet, layer_name};
 use drc_io::Name;
 use net_class::wild;
 
-// Whether two texts agree. A literal on the right is a pattern.
+/// Whether two texts agree. A literal on the right is a pattern.
 fn do_agree(right_term: &Term, left: &[u8], right: &[u8]) -> bool
     ensures { result ≡ do_agree right_term.now left.now right.now }
 {
@@ -68,7 +68,7 @@ fn compares(left: &Term, op: Op, right: &Term, a: &Facts, b: Option<&Facts>) -> 
     compare_values(op, right, value_of(left, a, b), value_of(right, a, b))
 }
 
-// Whether the name of some layer of the set matches, case kept.
+/// Whether the name of some layer of the set matches, case kept.
 fn some_layer(pattern: &[u8], layers: LayerSet) -> bool
     ensures { result ≡ some_layer (matches false pattern.now) layers 0 layer_names }
 {

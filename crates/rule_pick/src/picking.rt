@@ -50,7 +50,7 @@ fn local_if(facts: Option<&Facts>) -> Option<Length>
     }
 }
 
-// The greater, where there are two.
+/// The greater, where there are two.
 fn greater_if(nm: Option<Length>, other: Option<Length>) -> Option<Length>
     ensures { option_map (λ l. l.nm) result ≡ greater_if (option_map (λ l. l.nm) nm) (option_map (λ l. l.nm) other) }
 {
@@ -61,7 +61,7 @@ fn greater_if(nm: Option<Length>, other: Option<Length>) -> Option<Length>
     }
 }
 
-// The greatest that the items have of their own, where the kind has such values.
+/// The greatest that the items have of their own, where the kind has such values.
 fn local_of(kind: Kind, a: &Facts, b: Option<&Facts>) -> Option<Length>
     ensures { option_map (λ l. l.nm) result ≡ local_of kind a.now (option_copied b.entry) }
 {
@@ -99,7 +99,7 @@ fn default_least(least: Length, kind: Kind, a: &Facts, b: Option<&Facts>) -> Len
     }
 }
 
-// Without a rule.
+/// Without a rule.
 fn pick_least(source: Source, least: Length) -> Picked
     ensures { pick_of result ≡ pick_least source least.nm }
 {
@@ -113,7 +113,7 @@ fn pick_least(source: Source, least: Length) -> Picked
     }
 }
 
-// What an assertion claims of a alone.
+/// What an assertion claims of a alone.
 fn claim_holds(constraint: &Constraint, a: &Facts) -> bool
     ensures { result ≡ claim_holds (plain_constraint constraint.now).claim a.now }
 {
@@ -123,7 +123,7 @@ fn claim_holds(constraint: &Constraint, a: &Facts) -> bool
     }
 }
 
-// A missing least value is 0.
+/// A missing least value is 0.
 fn asked_least(constraint: &Constraint) -> Length
     ensures { result.nm ≡ asked_least (plain_constraint constraint.now) }
 {
@@ -133,7 +133,7 @@ fn asked_least(constraint: &Constraint) -> Length
     }
 }
 
-// What the rule asks, but not below the board's minimum.
+/// What the rule asks, but not below the board's minimum.
 fn pick_of_rule(least: Length, a: &Facts, decided: Decided<'_>) -> Picked
     ensures { pick_of result ≡ pick_of_rule least.nm a.now decided.entry.place (plain_rule decided.entry.rule.now) (plain_constraint decided.entry.constraint.now) }
 {

@@ -92,7 +92,7 @@ fn list_here(alloc: Global, text: &[u8]) -> Result<Rules, RuleError>
     }
 }
 
-// Each type may go to another thread and be shared by threads.
+/// Each type may go to another thread and be shared by threads.
 fn crosses<T: Send + Sync>() {}
 
 fn all_cross() {

@@ -14,7 +14,7 @@ use std::alloc::{AllocError, Global};
 use std::thread::Threads;
 use tile_pool::{Gate, TileWork};
 
-// A worker for each seat.
+/// A worker for each seat.
 fn crew_of<X: Drop>(
     alloc: Global,
     others: &[Other],
@@ -95,7 +95,7 @@ fn disband<X: Drop>(alloc: Global, crew: Vec<Member<X>>) -> Result<Left<X>, Allo
     })
 }
 
-// Workers run side by side: a crew that is handed over and comes back.
+/// Workers run side by side: a crew that is handed over and comes back.
 fn run_members<R: Threads + Sync, T: TileWork, G: Gate>(
     rt: &R,
     job: &Job<'_, T, G>,
@@ -112,7 +112,7 @@ fn run_members<R: Threads + Sync, T: TileWork, G: Gate>(
     crew
 }
 
-// The workers run side by side, and leave what they have.
+/// The workers run side by side, and leave what they have.
 pub(crate) fn run_crew<R: Threads + Sync, T: TileWork, G: Gate>(
     rt: &R,
     job: &Job<'_, T, G>,

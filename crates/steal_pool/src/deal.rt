@@ -8,7 +8,7 @@ ghost use Rattle.steal_pool.specs.Seats.{AreOwners, AreLines, AreUnused, pushed_
 use crate::rule::{Line, Other, Own, Puts, Share, Takes};
 use std::alloc::{AllocError, Global};
 
-// A deque for each worker. Each begins with `room` slots.
+/// A deque for each worker. Each begins with `room` slots.
 pub(crate) fn deques(
     alloc: Global,
     workers: u32,
@@ -28,7 +28,7 @@ pub(crate) fn deques(
     Ok((others, owners))
 }
 
-// Gives each number below `tiles` to the worker that it leaves over, rising.
+/// Gives each number below `tiles` to the worker that it leaves over, rising.
 pub(crate) fn give_out(others: &[Other], owners: &mut [Own], tiles: u32) -> Result<(), AllocError>
     requires some { 0 < length others.now }
     requires owners { AreOwners 0 1024 others.now owners.old }
@@ -46,7 +46,7 @@ pub(crate) fn give_out(others: &[Other], owners: &mut [Own], tiles: u32) -> Resu
     Ok(())
 }
 
-// A seat's passes, one of each deque.
+/// A seat's passes, one of each deque.
 pub(crate) fn lines_of(
     alloc: Global,
     others: &[Other],
@@ -68,7 +68,7 @@ pub(crate) fn lines_of(
     Ok(lines)
 }
 
-// A seat's passes go back to the owners.
+/// A seat's passes go back to the owners.
 pub(crate) fn give_back(
     others: &[Other],
     owners: &mut [Own],
@@ -88,7 +88,7 @@ pub(crate) fn give_back(
     }
 }
 
-// Each seat's passes.
+/// Each seat's passes.
 fn all_lines(
     alloc: Global,
     others: &[Other],
@@ -110,7 +110,7 @@ fn all_lines(
     Ok(all)
 }
 
-// All passes go back.
+/// All passes go back.
 pub(crate) fn all_back(others: &[Other], owners: &mut [Own], mut all: Vec<Vec<Line>>, tiles: u32)
     requires workers { vec_len all ≤ 64 }
     requires owners { AreOwners tiles (1024 - vec_len all) others.now owners.old }
@@ -132,7 +132,7 @@ pub(crate) struct Dealing {
     pub(crate) all: Vec<Vec<Line>>,
 }
 
-// Gives the numbers out, and makes the passes.
+/// Gives the numbers out, and makes the passes.
 pub(crate) fn deal_out(alloc: Global, workers: u32, tiles: u32) -> Result<Dealing, AllocError>
     requires workers { (0 < workers) × (workers ≤ 64) }
     ensures owners { IfOk result (λ dealing. AreOwners tiles (1024 - workers) dealing.others.items dealing.owners.items × (length dealing.owners.items ≡ workers)) }

@@ -14,7 +14,7 @@ use std::thread;
 use std::thread::Threads;
 use tile_pool::{Gate, TileWork};
 
-// Takes from the own deque until it is empty.
+/// Takes from the own deque until it is empty.
 fn take_own<T: TileWork, G: Gate>(job: &Job<'_, T, G>, own: &mut Own, share: &mut Share<T::Out>)
     requires ready { T.ready job.now.work.now }
     requires count { job.now.tiles ≤ T.count job.now.work.now }
@@ -35,7 +35,7 @@ fn take_own<T: TileWork, G: Gate>(job: &Job<'_, T, G>, own: &mut Own, share: &mu
     }
 }
 
-// Steals one number from one deque, if it can. A try that was lost to another is not repeated.
+/// Steals one number from one deque, if it can. A try that was lost to another is not repeated.
 fn steal_one(others: &[Other], lines: &mut [Line], at: usize, tiles: u32) -> Option<u32>
     requires at { at < length others.now }
     requires lines { AreLines tiles others.now lines.old }
@@ -50,7 +50,7 @@ fn steal_one(others: &[Other], lines: &mut [Line], at: usize, tiles: u32) -> Opt
     }
 }
 
-// Sweeps the other deques in rising order, and says whether any gave a number.
+/// Sweeps the other deques in rising order, and says whether any gave a number.
 fn sweep<T: TileWork, G: Gate>(
     job: &Job<'_, T, G>,
     lines: &mut [Line],
@@ -78,7 +78,7 @@ fn sweep<T: TileWork, G: Gate>(
     gave
 }
 
-// Sweeps until two sweeps gave nothing. At most `tiles` sweeps can give a number.
+/// Sweeps until two sweeps gave nothing. At most `tiles` sweeps can give a number.
 fn steal_all<T: TileWork, G: Gate>(
     job: &Job<'_, T, G>,
     lines: &mut [Line],
@@ -125,7 +125,7 @@ fn run_member<T: TileWork, G: Gate>(job: &Job<'_, T, G>, member: &mut Member<T::
     steal_all(job, lines, seat, &mut member.share);
 }
 
-// The workers run side by side.
+/// The workers run side by side.
 pub(crate) fn run_all<R: Threads + Sync, T: TileWork, G: Gate>(
     rt: &R,
     job: &Job<'_, T, G>,

@@ -18,7 +18,7 @@ use std::thread::Threads;
 use tile_pool::gather::{place, slots_of, take_all};
 use tile_pool::{Gate, TileWork};
 
-// The workers run, and then the caller takes what is left.
+/// The workers run, and then the caller takes what is left.
 fn run_seats<R: Threads + Sync, T: TileWork, G: Gate>(
     rt: &R,
     job: &Job<'_, T, G>,
@@ -38,7 +38,7 @@ fn run_seats<R: Threads + Sync, T: TileWork, G: Gate>(
     with_rest(job, left)
 }
 
-// Each number below the number of tiles gets its value.
+/// Each number below the number of tiles gets its value.
 fn place_all<T: TileWork>(
     work: &T,
     slots: &mut [Option<T::Out>],
@@ -56,7 +56,7 @@ fn place_all<T: TileWork>(
     }
 }
 
-// The answers, in the order of the numbers.
+/// The answers, in the order of the numbers.
 fn gathered<T: TileWork>(
     alloc: Global,
     work: &T,

@@ -16,7 +16,7 @@ use crate::share::{Share, take};
 use std::alloc::AllocError;
 use tile_pool::{Gate, TileWork};
 
-// Who has every part of a deque takes what is left in it.
+/// Who has every part of a deque takes what is left in it.
 fn drain<T: TileWork, G: Gate>(
     job: &Job<'_, T, G>,
     mut own: Own,
@@ -36,7 +36,7 @@ fn drain<T: TileWork, G: Gate>(
     Ok(())
 }
 
-// All deques, once all passes are back.
+/// All deques, once all passes are back.
 fn take_rest<T: TileWork, G: Gate>(
     job: &Job<'_, T, G>,
     mut owners: Vec<Own>,
@@ -63,7 +63,7 @@ pub(crate) struct Taken<X> {
     pub(crate) failed: bool,
 }
 
-// Passes go back to the owners, of whom each then has all parts.
+/// Passes go back to the owners, of whom each then has all parts.
 fn whole(others: &[Other], mut owners: Vec<Own>, all: Vec<Vec<Line>>, tiles: u32) -> Vec<Own>
     requires workers { vec_len all ≤ 64 }
     requires owners { AreOwners tiles (1024 - vec_len all) others.now owners.items }
@@ -76,7 +76,7 @@ fn whole(others: &[Other], mut owners: Vec<Own>, all: Vec<Vec<Line>>, tiles: u32
     owners
 }
 
-// When a crew has left, the caller takes what is left in the deques.
+/// When a crew has left, the caller takes what is left in the deques.
 pub(crate) fn with_rest<T: TileWork, G: Gate>(
     job: &Job<'_, T, G>,
     left: Left<T::Out>,

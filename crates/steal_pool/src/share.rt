@@ -17,7 +17,7 @@ pub(crate) struct Share<X> {
 }
 
 impl<X: Drop> Share<X> {
-    // There is room for all numbers.
+    /// There is room for all numbers.
     pub(crate) fn new(alloc: Global, tiles: u32) -> Result<Share<X>, AllocError>
         ensures { IfOk result (λ s. (s.hand.items ≡ []) × (s.batch.items ≡ []) × (s.failed ≡ false) × (tiles ≤ vec_capacity s.hand)) }
     {
@@ -35,7 +35,7 @@ impl<X: Drop> Share<X> {
     }
 }
 
-// Takes a number to the end of the hand and tests it. After a want of memory it is taken and not tested.
+/// Takes a number to the end of the hand and tests it. After a want of memory it is taken and not tested.
 pub(crate) fn take<T: TileWork, G: Gate>(
     job: &Job<'_, T, G>,
     number: u32,
@@ -60,7 +60,7 @@ pub(crate) fn take<T: TileWork, G: Gate>(
     job.gate.after(number);
 }
 
-// Tests a number, and says whether there was memory for its value.
+/// Tests a number, and says whether there was memory for its value.
 fn add<T: TileWork>(alloc: Global, work: &T, number: u32, batch: &mut Vec<T::Out>) -> bool
     requires ready { T.ready work.now }
     requires number { number < T.count work.now }

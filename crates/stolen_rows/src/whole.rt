@@ -19,7 +19,7 @@ use std::thread::Threads;
 use tile_pool::Gate;
 use tile_rows::{Tiles, ids_of};
 
-// All rows of what is checked: all tiles that hold an item are gone through.
+/// All rows of what is checked: all tiles that hold an item are gone through.
 fn steal_all<R: Threads + Sync, G: Gate>(
     rt: &R,
     alloc: Global,

@@ -14,7 +14,7 @@ use std::alloc::{AllocError, Global};
 use std::thread;
 use std::thread::Threads;
 
-// A worker's seat, and what it made of the numbers that it was given.
+/// A worker's seat, and what it made of the numbers that it was given.
 #[derive(Drop)]
 struct Worker<X> {
     seat: DealSeat,
@@ -22,7 +22,7 @@ struct Worker<X> {
     failed: bool,
 }
 
-// Draws numbers and tests each, until none is left. After a want of memory it draws on and tests no more.
+/// Draws numbers and tests each, until none is left. After a want of memory it draws on and tests no more.
 fn draw_all<T: TileWork, G: Gate>(
     alloc: Global,
     deal: &Deal,
@@ -51,7 +51,7 @@ fn draw_all<T: TileWork, G: Gate>(
     }
 }
 
-// Tests a number, and says whether there was memory for its value.
+/// Tests a number, and says whether there was memory for its value.
 fn add<T: TileWork>(alloc: Global, work: &T, number: u32, batch: &mut Vec<T::Out>) -> bool
     requires ready { T.ready work.now }
     requires number { number < T.count work.now }
@@ -63,7 +63,7 @@ fn add<T: TileWork>(alloc: Global, work: &T, number: u32, batch: &mut Vec<T::Out
     batch.push(value).is_ok()
 }
 
-// A worker for each seat.
+/// A worker for each seat.
 fn crew_of<X: Drop>(alloc: Global, seats: Vec<DealSeat>) -> Result<Vec<Worker<X>>, AllocError>
     ensures seats { IfOk result (λ crew. map (λ w. w.seat) crew.items ≡ seats.items) }
     ensures fresh { IfOk result (λ crew. All (λ w. (w.batch.items ≡ []) × (w.failed ≡ false)) crew.items) }
@@ -79,7 +79,7 @@ fn crew_of<X: Drop>(alloc: Global, seats: Vec<DealSeat>) -> Result<Vec<Worker<X>
     Ok(crew)
 }
 
-// What a crew leaves.
+/// What a crew leaves.
 #[derive(Drop)]
 struct Left<X> {
     seats: Vec<DealSeat>,
@@ -116,7 +116,7 @@ fn disband<X: Drop>(
     }
 }
 
-// The workers run side by side, each over its own seat and batch.
+/// The workers run side by side, each over its own seat and batch.
 fn run_crew<R: Threads + Sync, T: TileWork, G: Gate>(
     rt: &R,
     alloc: Global,
@@ -143,7 +143,7 @@ fn run_crew<R: Threads + Sync, T: TileWork, G: Gate>(
     );
 }
 
-// The same of a crew that is handed over and comes back.
+/// The same of a crew that is handed over and comes back.
 fn run_all<R: Threads + Sync, T: TileWork, G: Gate>(
     rt: &R,
     alloc: Global,
@@ -164,7 +164,7 @@ fn run_all<R: Threads + Sync, T: TileWork, G: Gate>(
     crew
 }
 
-// Ends the deal of seats that are done, and puts the batches that they made in the order of the numbers.
+/// Ends the deal of seats that are done, and puts the batches that they made in the order of the numbers.
 fn gathered<T: TileWork>(
     work: &T,
     deal: Deal,

@@ -24,7 +24,7 @@ pub struct Tiles<'a> {
     pub changed: &'a [u32],
 }
 
-// The rows of a tile, on a counter of its own.
+/// The rows of a tile, on a counter of its own.
 fn rows_counted<L: Ledger>(
     alloc: Global,
     view: &CheckView,
@@ -45,7 +45,7 @@ fn rows_counted<L: Ledger>(
     test_tile(alloc, view, index, tile, changed, &mut steps)
 }
 
-// The rows of a tile.
+/// The rows of a tile.
 fn rows_of_tile(
     alloc: Global,
     view: &CheckView,

@@ -43,7 +43,7 @@ impl Answer {
     }
 }
 
-// Tries the command alone on a session that is lent.
+/// Tries the command alone on a session that is lent.
 fn answer_to<R: Threads + Sync + AllocGlobal>(
     rt: &R,
     session: &Session,

@@ -24,7 +24,7 @@ use std::io::Print;
 use std::thread::Threads;
 use tile_pool::NoGate;
 
-// Surveys by one worker, by 64, and by two, of which the one that has the first command needs the other to go on.
+/// Surveys by one worker, by 64, and by two, of which the one that has the first command needs the other to go on.
 fn survey_all<R: AllocGlobal + Print + Threads + Sync>(
     rt: &R,
     session: &Session,
@@ -42,7 +42,7 @@ fn survey_all<R: AllocGlobal + Print + Threads + Sync>(
     println!(rt; "gave up: {gave_up}")
 }
 
-// Trials, surveys, and the board that is written.
+/// Trials, surveys, and the board that is written.
 fn try_on<R: AllocGlobal + Print + Threads + Sync>(
     rt: &R,
     session: &Session,
@@ -57,7 +57,7 @@ fn try_on<R: AllocGlobal + Print + Threads + Sync>(
     writing::write_each(rt, commands)
 }
 
-// All but the session that may meet a want of memory.
+/// All but the session that may meet a want of memory.
 fn try_all<R: AllocGlobal + Print + Threads + Sync>(rt: &R) -> io::Result<()> {
     let session = opening::session(rt)?;
     let commands = opening::commands(rt.alloc())?;

@@ -55,7 +55,7 @@ pub fn commands(alloc: Global) -> Result<Vec<Command<'static>>, AllocError>
     }
 }
 
-// No rules.
+/// No rules.
 fn no_rules(alloc: Global) -> Rules
     ensures { length result.rules ≤ 64 }
 {

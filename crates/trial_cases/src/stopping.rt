@@ -14,7 +14,7 @@ use std::io::Print;
 use std::thread::Threads;
 use tile_pool::NoGate;
 
-// Carries a command out on a session that met a want of memory, and prints whether it answers that it is stopped.
+/// Carries a command out on a session that met a want of memory, and prints whether it answers that it is stopped.
 fn carry_out_again<R: AllocGlobal + Print + Threads + Sync>(
     rt: &R,
     session: &mut Session,
@@ -30,7 +30,7 @@ fn carry_out_again<R: AllocGlobal + Print + Threads + Sync>(
     println!(rt; "stopped: {stopped}")
 }
 
-// Carries a command out, and prints how many rows there are then.
+/// Carries a command out, and prints how many rows there are then.
 fn carry_out_one<R: AllocGlobal + Print + Threads + Sync>(
     rt: &R,
     session: &mut Session,
@@ -49,7 +49,7 @@ fn carry_out_one<R: AllocGlobal + Print + Threads + Sync>(
     }
 }
 
-// Carries the command of this place out.
+/// Carries the command of this place out.
 fn carry_out_at<R: AllocGlobal + Print + Threads + Sync>(
     rt: &R,
     session: &mut Session,

@@ -13,7 +13,7 @@ use std::thread::Threads;
 use tile_pool::Gate;
 use what_if::survey;
 
-// Prints a count behind a space.
+/// Prints a count behind a space.
 fn tell_count<R: Print>(rt: &R, count: Option<u64>) -> io::Result<()> {
     match count {
         Some(count) => print!(rt; " {count}"),
@@ -21,7 +21,7 @@ fn tell_count<R: Print>(rt: &R, count: Option<u64>) -> io::Result<()> {
     }
 }
 
-// Prints which of the commands leaves the fewest rows.
+/// Prints which of the commands leaves the fewest rows.
 fn tell_least<R: Print>(rt: &R, least: Option<u32>) -> io::Result<()> {
     match least {
         Some(place) => println!(rt; "least at {place}"),

@@ -36,14 +36,14 @@ impl<'a, R: Threads + Sync> TileWork for Trials<'a, R> {
 
     ghost gives = { λ _ _ _. Unit {0} };
 
-    // That the runtime gives an allocator is known of the thread alone that it was passed to.
+    /// That the runtime gives an allocator is known of the thread alone that it was passed to.
     fn test(&self, alloc: Global, number: u32) -> Result<Answer, AllocError> {
         let rt = (self.rt, alloc);
         answer_at(&rt, self.session, self.commands, number as usize)
     }
 }
 
-// Prints an answer, and whether a caller alone has the same.
+/// Prints an answer, and whether a caller alone has the same.
 fn tell<R: AllocGlobal + Print + Threads + Sync>(
     rt: &R,
     session: &Session,
@@ -62,7 +62,7 @@ fn tell<R: AllocGlobal + Print + Threads + Sync>(
     }
 }
 
-// The answers that two workers get.
+/// The answers that two workers get.
 fn answers_of<R: AllocGlobal + Threads + Sync>(
     rt: &R,
     session: &Session,

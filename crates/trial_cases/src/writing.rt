@@ -19,7 +19,7 @@ const ROOM: usize = 4096;
 /// The most bytes that one write takes, so that a text takes many.
 const PIECE: usize = 7;
 
-// Prints how many bytes were written, and what they are.
+/// Prints how many bytes were written, and what they are.
 fn tell<R: Print>(rt: &R, bytes: &[u8]) -> io::Result<()> {
     let count = bytes.len();
     println!(rt; "{count} bytes")?;
@@ -29,8 +29,8 @@ fn tell<R: Print>(rt: &R, bytes: &[u8]) -> io::Result<()> {
     }
 }
 
-// Writes the board of the text after the commands, and prints how many were refused or why it is not written, and what was written. The
-// writes of these numbers fail.
+/// Writes the board of the text after the commands, and prints how many were refused or why it is not written, and what was written. The
+/// writes of these numbers fail.
 fn write<R: AllocGlobal + Print>(
     rt: &R,
     text: &[u8],

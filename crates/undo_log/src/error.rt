@@ -33,7 +33,7 @@ pub struct InThree {
     pub rest: InTwo,
 }
 
-// What a refusal is called and its number, each in three pieces, and its byte of the text where it has one.
+/// What a refusal is called and its number, each in three pieces, and its byte of the text where it has one.
 #[derive(Clone, Copy, Drop)]
 struct ReasonInThree {
     name: InThree,
@@ -41,14 +41,14 @@ struct ReasonInThree {
     place: Option<u32>,
 }
 
-// The reason of a refusal that carries no other and has no place.
+/// The reason of a refusal that carries no other and has no place.
 fn alone(name: &'static str, code: &'static str) -> ReasonInThree
     ensures { three_in_one result ≡ reason_alone name.now code.now }
 {
     behind("", "", ReasonInTwo::alone(name, code))
 }
 
-// The reason of a refusal that carries another, whose reason stands behind its name and its number.
+/// The reason of a refusal that carries another, whose reason stands behind its name and its number.
 fn behind(name: &'static str, code: &'static str, of_other: ReasonInTwo) -> ReasonInThree
     ensures { three_in_one result ≡ reason_behind name.now code.now (reason_in_one of_other) }
 {

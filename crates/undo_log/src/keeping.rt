@@ -18,7 +18,7 @@ use std::alloc::{AllocError, AllocGlobal};
 use std::thread::Threads;
 use tile_pool::Gate;
 
-// Keeps the change that leads back, and nothing leads on any more. Of a report again nothing is kept.
+/// Keeps the change that leads back, and nothing leads on any more. Of a report again nothing is kept.
 fn keep(command: &Command<'_>, change: Change, back: &mut Vec<Change>, on: &mut Vec<Change>)
     requires room { vec_len back.old < vec_capacity back.old }
     ensures again { is_again (plain_command command.now) ≡ true → (back.new.items ≡ back.old.items) × (on.new.items ≡ on.old.items) }

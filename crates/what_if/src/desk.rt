@@ -44,8 +44,8 @@ impl<'a> Model for Desk<'a> {
     ghost invariant = { λ d. IsDesk d.session.now d.copy };
 }
 
-// Whether a copy that took the command is turned back. After a list that is added it cannot be, since the numbers that come next do not go
-// back; and to check the whole board again under the rules from before takes longer than a copy.
+/// Whether a copy that took the command is turned back. After a list that is added it cannot be, since the numbers that come next do not go
+/// back; and to check the whole board again under the rules from before takes longer than a copy.
 fn is_turned_back(command: &Command<'_>) -> bool
     ensures { result ≡ true → adds (plain_command command.now) ≡ false }
 {
@@ -75,7 +75,7 @@ impl<'a> Desk<'a> {
         self.session
     }
 
-    // The copy, which is kept no more, or a new one.
+    /// The copy, which is kept no more, or a new one.
     fn take_copy(&mut self) -> Result<Session, AllocError>
         ensures same { self.new ≡ self.old }
         ensures running { IfOk result (λ copy. copy.stopped ≡ false) }
@@ -87,7 +87,7 @@ impl<'a> Desk<'a> {
         }
     }
 
-    // The copy once it took the command, and the change that leads back.
+    /// The copy once it took the command, and the change that leads back.
     fn take<R: Threads + Sync + AllocGlobal, G: Gate>(
         &mut self,
         rt: &R,
@@ -114,7 +114,7 @@ impl<'a> Desk<'a> {
         }
     }
 
-    // Turns a copy that took the command back to where it was, and keeps it, or throws it away, as it does where memory runs out.
+    /// Turns a copy that took the command back to where it was, and keeps it, or throws it away, as it does where memory runs out.
     fn turn_back<R: Threads + Sync + AllocGlobal>(
         &mut self,
         rt: &R,

@@ -10,7 +10,7 @@ use pair_check::laws::one_row;
 use row_check::Row;
 use std::alloc::{AllocError, Global};
 
-// Whether the one row comes before the other: by the first item, then by the second, then by the kind.
+/// Whether the one row comes before the other: by the first item, then by the second, then by the kind.
 fn comes_before(row: &Row, other: &Row) -> bool
     ensures { IsTrue result ↔ Before row.now other.now }
 {
@@ -23,7 +23,7 @@ fn comes_before(row: &Row, other: &Row) -> bool
     row.kind().number() < other.kind().number()
 }
 
-// The first place, from this one on, at which no row stands that comes before the given one.
+/// The first place, from this one on, at which no row stands that comes before the given one.
 fn past(others: &[Row], from: usize, row: &Row) -> usize
     requires { from ≤ length others.now }
     ensures range { (from ≤ result) × (result ≤ length others.now) }
@@ -38,7 +38,7 @@ fn past(others: &[Row], from: usize, row: &Row) -> usize
     others.len()
 }
 
-// Whether the row stands at the place.
+/// Whether the row stands at the place.
 fn stands_at(others: &[Row], at: usize, row: &Row) -> bool
     ensures { MatchBool result (slice_get others.now at ≡ Some row.now) (slice_get others.now at ≢ Some row.now) }
 {
@@ -49,7 +49,7 @@ fn stands_at(others: &[Row], at: usize, row: &Row) -> bool
     }
 }
 
-// Appends the row where it does not stand among the others. `at` is the first place there at which no row stands that comes before it.
+/// Appends the row where it does not stand among the others. `at` is the first place there at which no row stands that comes before it.
 fn push_missing(only: &mut Vec<Row>, others: &[Row], at: usize, row: &Row) -> Result<(), AllocError>
     requires ordered { AllPairs Before others.now }
     requires before { (k : ℕ) (d : PlainRow) → k < at → Before (slice_index_or others.now k d) row.now }

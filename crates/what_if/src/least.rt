@@ -11,7 +11,7 @@ pub(crate) struct Fewest {
     pub(crate) count: u64,
 }
 
-// The first of the least counts once there is one more, at the place behind them.
+/// The first of the least counts once there is one more, at the place behind them.
 fn fewer(fewest: Option<Fewest>, place: u32, count: Option<u64>) -> Option<Fewest>
     ensures { (before : List (Option ℕ)) → length before ≡ place → IsFewest before fewest → IsFewest (before ++ count ∷ []) result }
 {

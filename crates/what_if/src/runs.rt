@@ -10,7 +10,7 @@ use drc_session::Session;
 use edit_script::Command;
 use std::alloc::{AllocError, Global};
 
-// The count of the command of this place, which stands in one of the runs.
+/// The count of the command of this place, which stands in one of the runs.
 fn count_of(
     session: &Session,
     commands: &[Command<'_>],

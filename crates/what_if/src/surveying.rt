@@ -16,7 +16,7 @@ use std::alloc::{AllocError, AllocGlobal};
 use std::thread::Threads;
 use tile_pool::{Gate, NoGate, run_tiles};
 
-// How many rows there are after each command alone.
+/// How many rows there are after each command alone.
 fn counts_of<R: Threads + Sync + AllocGlobal, G: Gate>(
     session: &Session,
     rt: &R,

@@ -19,7 +19,7 @@ use std::alloc::{AllocError, AllocGlobal, Global};
 use std::thread::Threads;
 use tile_pool::Gate;
 
-// Carries the command out, which has this place among all of them.
+/// Carries the command out, which has this place among all of them.
 fn take_one<R: Threads + Sync + AllocGlobal, G: Gate>(
     session: &mut Session,
     rt: &R,
@@ -42,7 +42,7 @@ fn take_one<R: Threads + Sync + AllocGlobal, G: Gate>(
     }
 }
 
-// Carries the commands out one after another, up to the first that is refused.
+/// Carries the commands out one after another, up to the first that is refused.
 fn take_all<R: Threads + Sync + AllocGlobal, G: Gate>(
     session: &mut Session,
     rt: &R,
@@ -79,7 +79,7 @@ pub(crate) fn difference(
     Ok((come, gone))
 }
 
-// A copy of the session that took the commands.
+/// A copy of the session that took the commands.
 fn taken<R: Threads + Sync + AllocGlobal, G: Gate>(
     session: &Session,
     rt: &R,

@@ -23,7 +23,7 @@ pub(crate) struct Trials<'a, R, G> {
     pub(crate) stride: u32,
 }
 
-// How many rows there are after the command of this place alone.
+/// How many rows there are after the command of this place alone.
 fn count_at<R: Threads + Sync + AllocGlobal>(
     desk: &mut Desk<'_>,
     rt: &R,
@@ -53,8 +53,8 @@ impl<'a, R: Threads + Sync, G: Gate> TileWork for Trials<'a, R, G> {
 
     ghost gives = { λ work number counts. AreCountsFrom work.session.now.state (map plain_command work.commands.now) work.stride number counts.items };
 
-    // The runtime goes beside the allocator of the work. That it gives one itself is known of the thread alone that calls for the survey,
-    // and a trial starts threads.
+    /// The runtime goes beside the allocator of the work. That it gives one itself is known of the thread alone that calls for the survey,
+    /// and a trial starts threads.
     fn test(&self, alloc: Global, number: u32) -> Result<Vec<Option<u64>>, AllocError> {
         let rt = (self.rt, alloc);
         let mut desk = Desk::new(self.session);
