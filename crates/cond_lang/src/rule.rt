@@ -36,3 +36,19 @@ pub struct Disallow {
     pub footprints: bool,
     pub texts: bool,
 }
+
+impl Disallow {
+    /// Nothing is banned.
+    pub const NONE: Disallow = Disallow {
+        tracks: false,
+        vias: false,
+        micro_vias: false,
+        buried_vias: false,
+        pads: false,
+        zones: false,
+        graphics: false,
+        holes: false,
+        footprints: false,
+        texts: false,
+    };
+}

@@ -4,6 +4,7 @@ ghost use Rattle.std.specs.Prelude.{◌≡◌, ◌++◌, ◌∷◌, [], IfOk, Al
 ghost use Rattle.part_read.specs.Figures.{HasReach};
 
 use part_read::{Figure, Spot};
+use plain_types::Listed;
 use std::alloc::{AllocError, Global};
 use std::marker::Model;
 
@@ -12,46 +13,6 @@ use std::marker::Model;
 pub struct Course {
     pub a: Spot,
     pub b: Spot,
-}
-
-/// Contracts see the list.
-#[derive(Drop)]
-pub struct Courses {
-    list: Vec<Course>,
-}
-
-impl Model for Courses {
-    ghost use Rattle.std.specs.Prelude.{List};
-    ghost use Rattle.footprint_read.specs.declared.sides.Course.{Course};
-
-    ghost Value = { List Course };
-
-    ghost view = { λ c. c.list.items };
-}
-
-impl Courses {
-    pub fn new(alloc: Global) -> Courses
-        ensures { result ≡ [] }
-    {
-        Courses {
-            list: Vec::new(alloc),
-        }
-    }
-
-    /// With one more.
-    pub fn with(self, course: Course) -> Result<Courses, AllocError>
-        ensures { IfOk result (λ all. all ≡ self ++ course ∷ []) }
-    {
-        let mut list = self.list;
-        list.push(course)?;
-        Ok(Courses { list })
-    }
-
-    pub fn as_slice(&self) -> &[Course]
-        ensures { result.now ≡ self.now }
-    {
-        &self.list
-    }
 }
 
 /// Figures in nanometres, relative to the footprint. Contracts see the list.
@@ -105,7 +66,7 @@ pub struct CourtSide {
     /// It has a curve.
     pub curved: bool,
     pub figures: Figures,
-    pub lines: Courses,
+    pub lines: Listed<Course>,
 }
 
 impl CourtSide {
@@ -118,7 +79,7 @@ impl CourtSide {
         CourtSide {
             curved: false,
             figures: Figures::new(alloc),
-            lines: Courses::new(alloc),
+            lines: Listed::new(alloc),
         }
     }
 

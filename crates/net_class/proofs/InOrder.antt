@@ -14,21 +14,9 @@ use Rattle.net_class.proofs.Named.{find_last}
 -- what passes two tests passes the one that stands for both
 both_tests : {A : Type 0} → (p q r : A → Bool) → ((x : A) → r x ≡ (q x && p x)) → (xs : List A) → filter p (filter q xs) ≡ filter r xs
 both_tests p q r h [] = refl
-both_tests {A = A} p q r h (x ∷ xs) = by (q x) (h x) (both_tests p q r h xs)
-  where
-    by_both : (b c : Bool) → c ≡ b → filter p (filter q xs) ≡ filter r xs → cond b (x ∷ filter p (filter q xs)) (filter p (filter q xs)) ≡ cond c (x ∷ filter r xs) (filter r xs)
-    by_both true true e k = ap (λ (l : List A). x ∷ l) k
-    by_both true false e k = cc
-    by_both false true e k = cc
-    by_both false false e k = k
-
-    by_none : (c : Bool) → c ≡ false → filter p (filter q xs) ≡ filter r xs → filter p (filter q xs) ≡ cond c (x ∷ filter r xs) (filter r xs)
-    by_none true e k = cc
-    by_none false e k = k
-
-    by : (a : Bool) → r x ≡ (a && p x) → filter p (filter q xs) ≡ filter r xs → filter p (cond a (x ∷ filter q xs) (filter q xs)) ≡ cond (r x) (x ∷ filter r xs) (filter r xs)
-    by true e k = by_both (p x) (r x) e k
-    by false e k = by_none (r x) e k
+both_tests p q r h (x ∷ xs) =
+    rw (h x) (elim (q x) as (λ b. filter p (cond b (x ∷ filter q xs) (filter q xs)) ≡ cond (b && p x) (x ∷ filter r xs) (filter r xs))
+    [ true ↦ ap (λ l. cond (p x) (x ∷ l) l) (both_tests p q r h xs) | false ↦ both_tests p q r h xs ])
 
 -- ---- classes
 

@@ -3,6 +3,7 @@
 ghost use Rattle.std.specs.Prelude.{◌≡◌, IfOk};
 
 use crate::facts::Facts;
+use crate::names::copy_names;
 use std::alloc::AllocError;
 
 impl Facts {
@@ -24,8 +25,8 @@ impl Facts {
             blind: self.blind,
             local: self.local.copy(),
             class_clearance: self.class_clearance,
-            areas: self.areas.copy()?,
-            courtyards: self.courtyards.copy()?,
+            areas: copy_names(&self.areas)?,
+            courtyards: copy_names(&self.courtyards)?,
         })
     }
 }

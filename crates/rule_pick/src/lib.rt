@@ -25,12 +25,12 @@ pub use facts_by_id::FactsById;
 pub use kinds::{ItemKind, Source};
 pub use lengths::LengthIf;
 pub use meaning::holds;
-pub use minimums::has_default;
+pub use minimums::{board_minimum, has_default};
 pub use names::Names;
 pub use picked::Picked;
 pub use picking::pick;
 
-/// Each type may go to another thread and be shared by threads.
+/// Takes a type that may go to another thread and be shared by threads. The calls of it show that each type may.
 fn crosses<T: Send + Sync>() {}
 
 fn all_cross() {

@@ -1,11 +1,13 @@
 //! What a board allows at least.
 
-ghost use Rattle.std.specs.Prelude.{◌≡◌, pos, if◌then◌else◌};
+ghost use Rattle.std.specs.Prelude.{◌≡◌, pos, false, if◌then◌else◌};
 ghost use Rattle.std.specs.Int.{int_max};
+ghost use Rattle.plain_types.specs.Lengths.{IsLength};
 ghost use Rattle.net_class.specs.Views.{mins_of};
 ghost use Rattle.rule_pick.specs.Deciding.{minimum, has_default};
 
 use crate::lengths::Length;
+use board_items::Nm;
 use cond_lang::Kind;
 use net_class::Mins;
 
@@ -71,6 +73,15 @@ pub(crate) fn minimum(mins: &Mins, micro: bool, kind: Kind) -> Length
         | Kind::PhysicalHoleClearance
         | Kind::Assertion => Length { nm: 0 },
     }
+}
+
+/// The board's minimum of the kind, in nanometres; 0 where it has none. That of a micro via is never greater. Classes and items may ask
+/// for more.
+pub fn board_minimum(mins: &Mins, kind: Kind) -> Nm
+    ensures least { result ≡ minimum (mins_of mins.now) false kind }
+    ensures in_range { IsLength result }
+{
+    minimum(mins, false, kind).nm
 }
 
 /// Whether something may be asked of the kind without a rule.

@@ -19,19 +19,6 @@ use crate::picked::Picked;
 use cond_lang::{Constraint, Disallow, Kind, Rule, Severity};
 use net_class::Mins;
 
-const NO_BANS: Disallow = Disallow {
-    tracks: false,
-    vias: false,
-    micro_vias: false,
-    buried_vias: false,
-    pads: false,
-    zones: false,
-    graphics: false,
-    holes: false,
-    footprints: false,
-    texts: false,
-};
-
 fn own_clearance(facts: &Facts) -> Option<Length>
     ensures { option_map (λ l. l.nm) result ≡ facts.now.local }
 {
@@ -99,14 +86,14 @@ fn default_least(least: Length, kind: Kind, a: &Facts, b: Option<&Facts>) -> Len
     }
 }
 
-/// Without a rule.
+/// What is picked without a rule: so much at least, as an error.
 fn pick_least(source: Source, least: Length) -> Picked
     ensures { pick_of result ≡ pick_least source least.nm }
 {
     Picked {
         least: least.nm,
         most: None,
-        bans: NO_BANS,
+        bans: Disallow::NONE,
         source,
         severity: Severity::Error,
         holds: true,
@@ -123,7 +110,7 @@ fn claim_holds(constraint: &Constraint, a: &Facts) -> bool
     }
 }
 
-/// A missing least value is 0.
+/// The least value of the constraint; 0 where it has none.
 fn asked_least(constraint: &Constraint) -> Length
     ensures { result.nm ≡ asked_least (plain_constraint constraint.now) }
 {

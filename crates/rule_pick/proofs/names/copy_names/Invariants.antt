@@ -1,5 +1,5 @@
 use Rattle.std.proofs.Common.{◌≡◌, take}
-use Rattle.rule_pick.proofs.names.Names.copy.Given as goal
+use Rattle.rule_pick.proofs.names.copy_names.Given as goal
 
 abbrev pub invariant-loop-name : goal.invariant-loop-name
 invariant-loop-name l = l.list.items ≡ take l.name-index l.name-items
