@@ -19,8 +19,9 @@ use Rattle.list_read.specs.Heads.{place, has_head}
 use Rattle.list_read.specs.Elements.{element}
 use Rattle.part_read.specs.NetsOf.{net_of}
 use Rattle.part_read.specs.Graphics.{ground_of, one_item, graphic_by, curve_by, text_by}
+use Rattle.part_read.specs.Room.{has_room_after}
 use Rattle.part_read.proofs.Reach.{both_ok}
-use Rattle.zone_read.specs.ZoneOf.{as_it_is, zone_layers, title_of, area_of, has_room_after, bans_in, polygon_of, area_in_room, rule_area, is_thin, fill_layer, fill_on, fill_in_room, with_fill, fills_after, zone_by, zone_of}
+use Rattle.zone_read.specs.ZoneOf.{as_it_is, zone_layers, title_of, area_of, bans_in, polygon_of, area_in_room, rule_area, is_thin, fill_layer, fill_on, fill_in_room, with_fill, fills_after, zone_by, zone_of}
 use Rattle.draw_alike.proofs.Placed.{same_ok}
 use Rattle.foot_alike.proofs.Feet.{foot_few}
 use Rattle.pcb_read.specs.declared.sorts.Sort.{Sort}

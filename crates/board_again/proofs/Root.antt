@@ -1,8 +1,7 @@
 -- The root of a board's text: what it is read as, and that its trees may be written.
-use Rattle.std.proofs.Common.{◌≡◌, ◌∙◌, refl, sym, ap, subst, ℕ, suc, ◌≤◌, arith, Bool, true, List, length, codes, IsUtf8, Option, None, Result, Ok, Err}
+use Rattle.std.proofs.Common.{◌≡◌, ◌∙◌, refl, sym, ap, subst, ℕ, suc, ◌≤◌, arith, Bool, true, List, length, codes, IsUtf8, None, Result, Ok, Err}
 use Rattle.std.specs.Prelude.{slice_range}
 use Rattle.sexpr_read.specs.declared.place.Span.{Span}
-use Rattle.sexpr_read.specs.declared.place.TextError.{TextError}
 use Rattle.sexpr_read.specs.Tree.{Forest, none, atom, list, Tree, leaf, branch, trees, parts, levels_in}
 use Rattle.sexpr_read.specs.Spelling.{Spells}
 use Rattle.sexpr_read.specs.Refusals.{refusal_of_one}
@@ -20,7 +19,7 @@ use Rattle.tree_text.proofs.Utf8.{utf8_apart}
 use Rattle.tree_text.proofs.Whole.{take_all_of}
 use Rattle.pcb_read.specs.BoardOf.{Reading, unread, header_in, SaysParts, board_in, SaysAfter, SaysBoard}
 use Rattle.pcb_read.specs.BoardText.{BoardSays}
-use Rattle.pcb_read.specs.BoardText as text_of
+use Rattle.pcb_read.proofs.Parting.{says_tree}
 use Rattle.board_alike.proofs.Heading.{holds}
 
 -- ---- what a root that is accepted says
@@ -99,8 +98,8 @@ text_accepted text s f spelled low = refusal_of_utf8 text spelled.0 ∙ accepted
 pub text_says : (text : List ℕ) (s : Span) (f : Forest) (reading : Reading) → Spells text (branch s f) → suc (levels_in f) ≤ 64 → header_in (branch s f) ≡ Ok tt → SaysParts unread (trees f) (Ok reading) → reading.layered ≡ true
     → BoardSays text (Ok reading.board)
 text_says text s f reading spelled low header says layered =
-    subst (λ (o : Option TextError). text_of.TextSaysAfter text o (Ok reading.board)) (sym (text_accepted text s f spelled low))
-    (branch s f, spelled, subst (λ (a : Result (Unit {0}) BoardError). SaysAfter (branch s f) a (Ok reading.board)) (sym header) (Ok reading, says, board_says))
+    says_tree text (branch s f) (Ok reading.board) (text_accepted text s f spelled low) spelled
+    (subst (λ (a : Result (Unit {0}) BoardError). SaysAfter (branch s f) a (Ok reading.board)) (sym header) (Ok reading, says, board_says))
   where
     board_says : Ok reading.board ≡ board_in (branch s f) (Ok reading)
     board_says = ap (λ (b : Bool). check (Missing (place (branch s f))) b >>= λ layered. Ok reading.board) (sym layered)

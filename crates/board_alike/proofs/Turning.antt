@@ -2,10 +2,11 @@
 use Rattle.std.proofs.Common.{◌≡◌, ◌∙◌, refl, sym, ap, subst, ℕ, ℤ, Bool, true, false, cond, List, [], ◌∷◌, Option, None, Some, Result, Ok, Err}
 use Rattle.sexpr_read.specs.declared.place.TextError.{TextError}
 use Rattle.sexpr_read.specs.Tree.{Tree, parts, is_list}
+use Rattle.sexpr_read.specs.Spelling.{SpellsAll}
 use Rattle.sexpr_read.specs.Refusals.{refusal_of_all}
 use Rattle.sexpr_read.proofs.Unique.{unique_forms}
 use Rattle.board_errors.specs.declared.errors.BoardError.{BoardError}
-use Rattle.board_errors.specs.declared.errors.BoardError.TheVariants.{OutOfBoard}
+use Rattle.board_errors.specs.declared.errors.BoardError.TheVariants.{OutOfBoard, Text as TextRefused}
 use Rattle.board_items.specs.declared.found.Found.{Found}
 use Rattle.board_items.specs.declared.found.Found.TheVariants.{None as NoUnit, Shared, Inside, Unit as OneUnit}
 use Rattle.board_items.specs.declared.item.Item.{Item}
@@ -13,7 +14,8 @@ use Rattle.board_items.specs.Boards.{PlainBoard}
 use Rattle.board_items.specs.Moves.{unit_stays}
 use Rattle.board_items.specs.Units.{found_of}
 use Rattle.edit_script.specs.Commands.{PlainCommand, add, delete, move, rules, again}
-use Rattle.pcb_read.specs.ItemText.{answer_further, alone, SaysList, SaysAlone, ItemSaysAfter, SaysText}
+use Rattle.list_read.specs.Texts.{Behind}
+use Rattle.pcb_read.specs.ItemText.{answer_further, alone, SaysList, SaysAlone, SaysForms, SaysText}
 use Rattle.board_edits.specs.declared.refusal.Refusal.{Refusal}
 use Rattle.board_edits.specs.declared.refusal.Refusal.TheVariants.{Item as ItemRefused}
 use Rattle.board_edits.specs.Deeds.{PlainDeed, nothing, append, put_back, take_out, shift, After, appended, to_unit, shifted, Does, IsLeft, DoAll}
@@ -25,7 +27,7 @@ said_alone : (board : PlainBoard) (unit : ℕ) (list : Tree) (items : List Item)
 said_alone board unit list items e true says = says
 said_alone board unit list items e false says = absurd cc
 
-said_after : (board : PlainBoard) (unit : ℕ) (text : List ℕ) (list : Tree) (items : List Item) (o : Option TextError) → IsListIn text list → ItemSaysAfter board unit text o (Ok items) → SaysList board unit list (Ok items)
+said_after : (board : PlainBoard) (unit : ℕ) (text : List ℕ) (list : Tree) (items : List Item) (o : Option TextError) → IsListIn text list → Behind TextRefused (SpellsAll text) (SaysForms board unit) o (Ok items) → SaysList board unit list (Ok items)
 said_after board unit text list items (Some e) is says = absurd cc
 said_after board unit text list items None (forms, spelled, single) (others, read, says) =
     let same : others ≡ forms = unique_forms text others forms read spelled in

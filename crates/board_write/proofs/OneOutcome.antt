@@ -1,15 +1,15 @@
 -- A text and commands have one outcome.
-use Rattle.std.proofs.Common.{◌≡◌, ◌∙◌, ap, sym, subst, refl, ℕ, List, [], ◌∷◌, None, Result, Ok, Err}
+use Rattle.std.proofs.Common.{◌≡◌, ◌∙◌, ap, sym, subst, refl, ℕ, List, [], ◌∷◌, Result, Ok, Err}
 use Rattle.sexpr_read.specs.Tree.{Tree, parts}
 use Rattle.sexpr_read.specs.Spelling.{Spells, SpellsAll}
-use Rattle.sexpr_read.specs.Refusals.{refusal_of_one}
 use Rattle.board_errors.specs.declared.errors.BoardError.{BoardError}
 use Rattle.board_items.specs.Boards.{PlainBoard}
 use Rattle.tree_text.specs.Anew.{Fate}
 use Rattle.pcb_read.specs.Sorts.{sort_of}
-use Rattle.pcb_read.specs.BoardOf.{Reading, SaysBoard, unread}
-use Rattle.pcb_read.specs.BoardText.{BoardSays, TextSaysAfter}
+use Rattle.pcb_read.specs.BoardOf.{Reading, unread}
+use Rattle.pcb_read.specs.BoardText.{BoardSays}
 use Rattle.pcb_read.proofs.OneReading.{one_part}
+use Rattle.pcb_read.proofs.Parting.{says_tree}
 use Rattle.edit_script.specs.Commands.{PlainCommand, add, delete, move, rules, again}
 use Rattle.board_edits.specs.declared.refusal.Refusal.{Refusal}
 use Rattle.board_edits.specs.Deeds.{PlainDeed, nothing, append, put_back, take_out, shift, Does, After, IsLeft, DoAll}
@@ -88,13 +88,10 @@ module _ (one_tree : (text : List ℕ) (s t : Tree) → Spells text s → Spells
     (one_reading : (text : List ℕ) (a b : Result PlainBoard BoardError) → BoardSays text a → BoardSays text b → a ≡ b)
     (one_deed : (board : PlainBoard) (command : PlainCommand) (a b : Result PlainDeed Refusal) → Does board command a → Does board command b → a ≡ b)
     (one_board : (old : PlainBoard) (deed : PlainDeed) (a b : PlainBoard) → After old deed a → After old deed b → a ≡ b) where
-  says : (text : List ℕ) (root : Tree) (board : PlainBoard) → refusal_of_one text ≡ None → Spells text root → SaysBoard root (Ok board) → BoardSays text (Ok board)
-  says text root board accepted spelled of = subst (λ r. TextSaysAfter text r (Ok board)) (sym accepted) (root, spelled, of)
-
   one_text : (text : List ℕ) (commands : List PlainCommand) (o p : List ℕ) (x y : PlainBoard) (v : IsWritten text commands o x) (w : IsWritten text commands p y) → (v.answers ≡ w.answers) × (o ≡ p)
   one_text text commands o p x y v w =
       let root : v.root ≡ w.root = one_tree text v.root w.root v.spelled w.spelled in
-      let board : v.board ≡ w.board = same_ok (one_reading text (Ok v.board) (Ok w.board) (says text v.root v.board v.accepted v.spelled v.says) (says text w.root w.board w.accepted w.spelled w.says)) in
+      let board : v.board ≡ w.board = same_ok (one_reading text (Ok v.board) (Ok w.board) (says_tree text v.root (Ok v.board) v.accepted v.spelled v.says) (says_tree text w.root (Ok w.board) w.accepted w.spelled w.says)) in
       let answers : v.answers ≡ w.answers = one_answers one_deed one_board commands w.board v.answers w.answers x y (subst (λ (b : PlainBoard). DoAll b commands v.answers x) board v.done) w.done in
       let changes : v.changes ≡ w.changes =
       one_changes one_forms commands w.answers v.changes w.changes (subst (λ (found : List (Result PlainDeed Refusal)). AreChanges commands found v.changes) answers v.are_changes) w.are_changes in

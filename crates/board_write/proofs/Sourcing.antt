@@ -1,6 +1,5 @@
 -- Why no board is read of a text, from its tree.
-use Rattle.std.proofs.Common.{◌≡◌, ◌∙◌, refl, sym, ap, subst, ◌⊎◌, inl, inr, ℕ, List, Option, None, Result, Ok, Err}
-use Rattle.sexpr_read.specs.declared.place.TextError.{TextError}
+use Rattle.std.proofs.Common.{◌≡◌, ◌∙◌, refl, sym, ap, subst, ◌⊎◌, inl, inr, ℕ, List, None, Result, Ok, Err}
 use Rattle.sexpr_read.specs.Tree.{Tree}
 use Rattle.sexpr_read.specs.Spelling.{Spells}
 use Rattle.sexpr_read.specs.Refusals.{refusal_of_one}
@@ -8,15 +7,12 @@ use Rattle.board_errors.specs.declared.errors.BoardError.{BoardError}
 use Rattle.board_errors.specs.declared.errors.BoardError.TheVariants.{Text, NotABoard, Version, Missing, BadNumber, OutOfBoard, Arc, Turned, PadShape, Ring, UnknownNet, UnknownLayer, ThickFill, TooMany, OutOfMemory as NoMemory}
 use Rattle.board_items.specs.Boards.{PlainBoard}
 use Rattle.pcb_read.specs.BoardOf.{SaysBoard}
-use Rattle.pcb_read.specs.BoardText.{BoardSays, TextSaysAfter}
+use Rattle.pcb_read.specs.BoardText.{BoardSays}
+use Rattle.pcb_read.proofs.Parting.{says_tree}
 use Rattle.board_write.specs.declared.error.WriteError.{WriteError}
 use Rattle.board_write.specs.declared.error.WriteError.TheVariants.{Board, OutOfMemory}
 use Rattle.board_write.specs.Answers.{IsCauseBefore}
 use Rattle.board_write.specs.Causes.{write_error}
-
--- what the tree of a text says, the text says
-pub tree_says : (text : List ℕ) (tree : Tree) (answer : Result PlainBoard BoardError) → refusal_of_one text ≡ None → Spells text tree → SaysBoard tree answer → BoardSays text answer
-tree_says text tree answer none spelled h = subst (λ (refused : Option TextError). TextSaysAfter text refused answer) (sym none) (tree, spelled, h)
 
 one_of_two : (e : BoardError) → (write_error e ≡ OutOfMemory) ⊎ (write_error e ≡ Board e)
 one_of_two (Text x) = inr refl
@@ -42,7 +38,7 @@ module _ (text : List ℕ) (tree : Tree) (e : BoardError) (none : refusal_of_one
       by : (e ≡ NoMemory) ⊎ SaysBoard tree (Err e) → (write_error e ≡ OutOfMemory) ⊎ (write_error e ≡ Board e) → IsCauseBefore text (write_error e)
       by (inl gone) w = subst (λ (x : BoardError). IsCauseBefore text (write_error x)) (sym gone) tt
       by (inr says) (inl w) = subst (IsCauseBefore text) (sym w) tt
-      by (inr says) (inr w) = subst (IsCauseBefore text) (sym w) (tree_says text tree (Err e) none spelled says)
+      by (inr says) (inr w) = subst (IsCauseBefore text) (sym w) (says_tree text tree (Err e) none spelled says)
 
   -- and where the text is refused, this is its refusal
   pub tree_refused : ((a b : Result PlainBoard BoardError) → BoardSays text a → BoardSays text b → a ≡ b) → (why : BoardError) → BoardSays text (Err why) → (write_error e ≡ Board why) ⊎ (write_error e ≡ OutOfMemory)
@@ -52,7 +48,7 @@ module _ (text : List ℕ) (tree : Tree) (e : BoardError) (none : refusal_of_one
       by (inl gone) w = inr (ap write_error gone)
       by (inr says) (inl w) = inr w
       by (inr says) (inr w) =
-          let both : (let r : Result PlainBoard BoardError = Err e in r) ≡ Err why = one (Err e) (Err why) (tree_says text tree (Err e) none spelled says) told in
+          let both : (let r : Result PlainBoard BoardError = Err e in r) ≡ Err why = one (Err e) (Err why) (says_tree text tree (Err e) none spelled says) told in
           let same : e ≡ why = cc in
           inl (w ∙ ap Board same)
 
@@ -60,7 +56,7 @@ module _ (text : List ℕ) (tree : Tree) (e : BoardError) (none : refusal_of_one
 pub read_not_refused : (text : List ℕ) (tree : Tree) (board : PlainBoard) (why : BoardError) → refusal_of_one text ≡ None → Spells text tree → SaysBoard tree (Ok board)
     → ((a b : Result PlainBoard BoardError) → BoardSays text a → BoardSays text b → a ≡ b) → BoardSays text (Err why) → ⊥
 read_not_refused text tree board why none spelled says one told =
-    let both : (let r : Result PlainBoard BoardError = Ok board in r) ≡ Err why = one (Ok board) (Err why) (tree_says text tree (Ok board) none spelled says) told in
+    let both : (let r : Result PlainBoard BoardError = Ok board in r) ≡ Err why = one (Ok board) (Err why) (says_tree text tree (Ok board) none spelled says) told in
     cc
 
 -- the refusal with which the call ends

@@ -9,6 +9,7 @@ use Rattle.std.proofs.lemmas.List.Elements.{All-append, All-cons, All-nil}
 use Rattle.sexpr_read.specs.declared.place.TextError.{TextError}
 use Rattle.sexpr_read.specs.declared.place.TextError.TheVariants.{ExtraText}
 use Rattle.list_read.specs.Heads.{place}
+use Rattle.list_read.specs.Texts.{Behind}
 use Rattle.sexpr_read.specs.Tree.{Tree, parts, is_list}
 use Rattle.sexpr_read.specs.Refusals.{refusal_of_all}
 use Rattle.sexpr_read.specs.Spelling.{SpellsAll}
@@ -25,7 +26,7 @@ use Rattle.board_items.specs.Units.{found_of}
 use Rattle.part_read.specs.Ready.{IsReady}
 use Rattle.edit_script.specs.Commands.{PlainCommand, add, delete, move, rules, again}
 use Rattle.read_alike.specs.Alike.{Shift}
-use Rattle.pcb_read.specs.ItemText.{answer_further, alone, SaysAlone, ItemSaysAfter, SaysText}
+use Rattle.pcb_read.specs.ItemText.{answer_further, alone, SaysAlone, SaysForms, SaysText}
 use Rattle.board_edits.specs.declared.refusal.Refusal.{Refusal}
 use Rattle.board_edits.specs.declared.refusal.Refusal.TheVariants.{Item as ItemRefused}
 use Rattle.board_edits.specs.Deeds.{PlainDeed, nothing, append, put_back, take_out, shift, After, appended, to_unit, shifted, Does, IsLeft, DoAll}
@@ -54,7 +55,7 @@ said_list board unit (t ∷ u ∷ us) items says = by_test (is_list t) says
     by_test true says = absurd cc
     by_test false says = absurd cc
 
-said_after : (board : PlainBoard) (unit : ℕ) (text : List ℕ) (items : List Item) (forms : Tree) (o : Option TextError) → SpellsAll text forms → ItemSaysAfter board unit text o (Ok items) → (t : Tree) × (parts forms ≡ t ∷ [])
+said_after : (board : PlainBoard) (unit : ℕ) (text : List ℕ) (items : List Item) (forms : Tree) (o : Option TextError) → SpellsAll text forms → Behind Text (SpellsAll text) (SaysForms board unit) o (Ok items) → (t : Tree) × (parts forms ≡ t ∷ [])
 said_after board unit text items forms (Some e) spelled says = absurd cc
 said_after board unit text items forms None spelled (others, read, says) =
     let same : others ≡ forms = unique_forms text others forms read spelled in

@@ -121,7 +121,7 @@ fn done<'t>(
     Ok(())
 }
 
-/// What holds of each board.
+/// Shows that the board is sound, as each is. It does nothing.
 fn is_sound(board: &Board)
     ensures { IsSound board.now }
 {
@@ -150,7 +150,7 @@ fn carry_out<'t>(
     }
 }
 
-/// Nothing is done yet.
+/// A course on which nothing is done yet.
 fn begin<'t>(alloc: Global, board: Board) -> Result<Course<'t>, AllocError>
     ensures { IfOk result (Reached board []) }
 {

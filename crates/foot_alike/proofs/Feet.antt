@@ -18,6 +18,7 @@ use Rattle.list_read.specs.Answers.{◌>>=◌, check}
 use Rattle.list_read.specs.Heads.{place, has_head}
 use Rattle.part_read.specs.Elements.{name_in}
 use Rattle.part_read.specs.Graphics.{ground_of, one_item, graphic_by, curve_by, text_by, note_of}
+use Rattle.part_read.specs.Room.{has_room_after}
 use Rattle.part_read.proofs.Reach.{both_ok}
 use Rattle.pad_read.specs.declared.head.Head.{Head}
 use Rattle.pad_read.specs.PadOf.{pad_of}
@@ -28,7 +29,7 @@ use Rattle.footprint_read.specs.declared.courts.Court.TheVariants.{Unchecked, Pa
 use Rattle.footprint_read.specs.Courtyards.{with_graphic, IsCourt}
 use Rattle.footprint_read.specs.FootHead.{head_of}
 use Rattle.footprint_read.specs.declared.contents.Given.{Given}
-use Rattle.footprint_read.specs.FootprintOf.{given_at, with_items, adding, at_front, at_back, with_drawn, with_arc, drawn_kind, is_curve, is_writing, with_other, with_child_by, with_child, with_children, empty, body_of, court_notes, all_given, items_of, with_room, is_placed, has_room_after, finished, contents_of, SaysInside, SaysWithHead, FootprintSays}
+use Rattle.footprint_read.specs.FootprintOf.{given_at, with_items, adding, at_front, at_back, with_drawn, with_arc, drawn_kind, is_curve, is_writing, with_other, with_child_by, with_child, with_children, empty, body_of, court_notes, all_given, items_of, with_room, is_placed, finished, contents_of, SaysInside, SaysWithHead, FootprintSays}
 use Rattle.footprint_read.proofs.Standing.{items_append, placed_fits}
 use Rattle.read_alike.specs.Carried.{ItemsOf}
 use Rattle.draw_alike.proofs.Placed.{same_ok, one_item_of, graphic_of, note_stands, text_of_unit, curve_of_unit}

@@ -1,7 +1,7 @@
 -- The items of a footprint may stand on the board.
-use Rattle.std.proofs.Common.{◌≡◌, ◌∙◌, refl, ap, sym, subst, ℕ, zero, suc, ◌+◌, ◌≤◌, ◌<◌, arith, List, [], ◌∷◌, ◌++◌, length, drop, All, Bool, true, false, ◌&&◌, cond, ltb, is_some, Result, Ok, Err, codes}
+use Rattle.std.proofs.Common.{◌≡◌, ◌∙◌, refl, ap, sym, subst, ℕ, zero, suc, ◌+◌, ◌≤◌, ◌<◌, arith, List, [], ◌∷◌, ◌++◌, length, drop, All, Bool, true, false, ◌&&◌, cond, is_some, Result, Ok, Err, codes}
 use Rattle.std.specs.List.{list_all}
-use Rattle.std.proofs.lemmas.Bool.{ltb-true, and_from, and_parts}
+use Rattle.std.proofs.lemmas.Bool.{and_from, and_parts}
 use Rattle.std.proofs.lemmas.List.Elements.{All-nil, All-cons, All-head, All-tail, All-append}
 use Rattle.sexpr_read.specs.Tree.{Tree}
 use Rattle.board_errors.specs.declared.errors.BoardError.{BoardError}
@@ -20,8 +20,10 @@ use Rattle.part_read.specs.Elements.{name_in}
 use Rattle.part_read.specs.OnBoard.{fits_board}
 use Rattle.part_read.specs.Stances.{IsWithin}
 use Rattle.part_read.specs.Ready.{IsReady, AreReady}
+use Rattle.part_read.specs.Room.{has_room_after}
 use Rattle.part_read.proofs.Layering.{none_within}
 use Rattle.part_read.proofs.Graphical.{note_ready}
+use Rattle.part_read.proofs.Rooming.{room_by}
 use Rattle.pad_read.specs.declared.head.Head.{Head}
 use Rattle.footprint_read.specs.declared.contents.Given.{Given}
 use Rattle.footprint_read.specs.declared.courts.Court.{Court}
@@ -29,7 +31,7 @@ use Rattle.footprint_read.specs.declared.courts.Court.TheVariants.{Unchecked, Pa
 use Rattle.footprint_read.specs.Bare.{AreBare}
 use Rattle.footprint_read.proofs.Bared.{IsBare}
 use Rattle.footprint_read.specs.Courtyards.{parts_in, lies_on_board}
-use Rattle.footprint_read.specs.FootprintOf.{given_at, items_of, is_placed, body_of, court_notes, all_given, has_room_after, with_room, in_room}
+use Rattle.footprint_read.specs.FootprintOf.{given_at, items_of, is_placed, body_of, court_notes, all_given, with_room, in_room}
 
 -- ---- parts on no layer
 
@@ -105,11 +107,6 @@ wider s h =
     record { x = omega (arith, x); y = omega (arith, y) }
 
 -- ---- room
-
-room_by : (found : ℕ) (board : PlainBoard) (unit : ℕ) → has_room_after found board unit ≡ true → (found < room_of board) × (unit < 4294967295)
-room_by found board unit h =
-    let both = and_parts (ltb found (room_of board)) (ltb unit 4294967295) h in
-    (ltb-true found (room_of board) both.0, ltb-true unit 4294967295 both.1)
 
 record HasRoom (board : PlainBoard) (unit before : ℕ) (given : List Given) : Type 0 where
   room : before + length given ≤ room_of board

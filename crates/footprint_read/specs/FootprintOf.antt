@@ -1,7 +1,7 @@
 -- Footprints: the items that (footprint .. (layer F.Cu) (at X Y ANGLE) ..) gives: its body, then its pads, graphics, edges and notes in
 -- the order of the text, then a note for each side whose courtyard is not checked, front first. Spots of its parts are relative to its
 -- position, and turned by its angle.
-use Rattle.std.specs.Prelude.{◌≡◌, ◌⊎◌, Vec, ℕ, suc, nat_lt, Bool, ◌&&◌, ◌||◌, List, [], ◌∷◌, ◌++◌, map, codes, Option, None, Some, Result, Ok, Err, refl, if◌then◌else◌}
+use Rattle.std.specs.Prelude.{◌≡◌, ◌⊎◌, Vec, ℕ, suc, Bool, ◌&&◌, ◌||◌, List, [], ◌∷◌, ◌++◌, map, codes, Option, None, Some, Result, Ok, Err, refl, if◌then◌else◌}
 use Rattle.std.specs.declared.alloc.Global.{Global}
 use Rattle.sexpr_read.specs.Tree.{Tree, parts}
 use Rattle.board_errors.specs.declared.errors.BoardError.{BoardError}
@@ -10,7 +10,6 @@ use Rattle.board_items.specs.declared.item.About.TheVariants.{Text, Courtyard, F
 use Rattle.board_items.specs.declared.item.What.TheVariants.{Body}
 use Rattle.board_items.specs.declared.item.Item.{Item}
 use Rattle.board_items.specs.Boards.{PlainBoard}
-use Rattle.board_items.specs.Refusals.{room_of}
 use Rattle.part_read.specs.declared.drawings.GraphicKind.{GraphicKind}
 use Rattle.part_read.specs.declared.drawings.GraphicKind.TheVariants.{Line, Rect, Circle, Outline}
 use Rattle.part_read.specs.declared.graphics.Ground.{Ground}
@@ -20,6 +19,7 @@ use Rattle.list_read.specs.Heads.{place, has_head}
 use Rattle.part_read.specs.Elements.{name_in}
 use Rattle.part_read.specs.OnBoard.{fits_board}
 use Rattle.part_read.specs.PlainItems.{plain_item}
+use Rattle.part_read.specs.Room.{has_room_after}
 use Rattle.part_read.specs.Graphics.{ground_of, graphic_by, curve_by, text_by, note_of}
 use Rattle.pad_read.specs.declared.head.Head.{Head}
 use Rattle.footprint_read.specs.declared.sides.CourtSide.{CourtSide}
@@ -119,10 +119,6 @@ all_given unit head tree given front back =
 
 abbrev pub items_of : List Given → List Item
 items_of given = map (λ g. g.item) given
-
--- room for an item more after so many, and a number for its unit
-abbrev pub has_room_after : ℕ → PlainBoard → ℕ → Bool
-has_room_after items board unit = nat_lt items (room_of board) && nat_lt unit 4294967295
 
 -- the first item for which there is no room is refused at the list that gives it; so many come before
 abbrev pub with_room : PlainBoard → ℕ → ℕ → List Given → Result (Unit {0}) BoardError

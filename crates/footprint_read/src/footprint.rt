@@ -8,7 +8,7 @@ ghost use Rattle.part_read.specs.OnBoard.{fits_board};
 ghost use Rattle.part_read.specs.Ready.{IsReady, AreReady};
 ghost use Rattle.footprint_read.specs.Courtyards.{parts_in, lies_on_board};
 ghost use Rattle.footprint_read.specs.Bare.{AreBare};
-ghost use Rattle.footprint_read.specs.FootprintOf.{items_of, body_of, court_notes, all_given, has_room_after, with_room, in_room, is_placed, finished, SaysItems};
+ghost use Rattle.footprint_read.specs.FootprintOf.{items_of, body_of, court_notes, all_given, with_room, in_room, is_placed, finished, SaysItems};
 
 use crate::children::contents_of;
 use crate::contents::{AllGiven, Given};
@@ -18,7 +18,7 @@ use crate::notes::note_on;
 use board_items::{About, Board, BoardError, Boxed, Item, Parts, What};
 use list_read::place;
 use pad_read::Head;
-use part_read::{fits_board, name_of_list, no_parts, plain_item};
+use part_read::{fits_board, has_room_after, name_of_list, no_parts, plain_item};
 use plain_types::one;
 use sexpr_read::Node;
 use std::alloc::{AllocError, Global};
@@ -106,13 +106,6 @@ fn all_given(
 }
 
 // ---- room
-
-/// Whether the board has room for an item more after so many.
-fn has_room_after(items: usize, board: &Board, unit: u32) -> bool
-    ensures { result ≡ has_room_after items board.now unit }
-{
-    items < board.left() as usize && unit < u32::MAX
-}
 
 /// Whether the board has room for all of them: the first one without is refused at the list that gives it.
 fn check_room(board: &Board, unit: u32, all: &[Given]) -> Result<(), BoardError>

@@ -24,8 +24,9 @@ use Rattle.part_read.specs.Drawings.{corners_of}
 use Rattle.part_read.specs.Figures.{first_of}
 use Rattle.part_read.specs.PlainItems.{plain_item}
 use Rattle.part_read.specs.Graphics.{ground_of, one_item, graphic_by, curve_by, text_by}
+use Rattle.part_read.specs.Room.{has_room_after}
 use Rattle.part_read.proofs.Reach.{both_ok}
-use Rattle.zone_read.specs.ZoneOf.{as_it_is, zone_layers, title_of, area_of, has_room_after, bans_in, polygon_of, area_in_room, rule_area, is_thin, fill_layer, fill_on, fill_in_room, with_fill, fills_after, zone_by, zone_of}
+use Rattle.zone_read.specs.ZoneOf.{as_it_is, zone_layers, title_of, area_of, bans_in, polygon_of, area_in_room, rule_area, is_thin, fill_layer, fill_on, fill_in_room, with_fill, fills_after, zone_by, zone_of}
 use Rattle.zone_read.proofs.Admitting.{area_near}
 use Rattle.read_alike.specs.Carried.{ItemsOf}
 use Rattle.draw_alike.proofs.Placed.{needed_ok, same_ok, made_of, one_of, none_of, corners_started, one_item_of, graphic_of, text_of_unit, curve_of_unit}

@@ -35,11 +35,12 @@ use Rattle.part_read.specs.LayersWhere.{layers_of_any}
 use Rattle.part_read.specs.Stances.{points_stood}
 use Rattle.part_read.specs.Figures.{first_of}
 use Rattle.part_read.specs.PlainItems.{plain_item}
+use Rattle.part_read.specs.Room.{has_room_after}
 use Rattle.pcb_read.specs.ItemsOf.{has_room}
 use Rattle.part_read.specs.Drawings.{corners_of, corners_in}
 use Rattle.part_read.proofs.There.{map_some}
 use Rattle.part_read.proofs.Shapes.{one_shape}
-use Rattle.zone_read.specs.ZoneOf.{layers_among, zone_layers, title_of, as_it_is, area_with, area_of, has_room_after, ban_of, bans_in, polygon_of, is_thin_by, is_thin, fill_layer, fill_on, fill_in_room, with_fill, fills_after, area_in_room, rule_area, zone_by, zone_of}
+use Rattle.zone_read.specs.ZoneOf.{layers_among, zone_layers, title_of, as_it_is, area_with, area_of, ban_of, bans_in, polygon_of, is_thin_by, is_thin, fill_layer, fill_on, fill_in_room, with_fill, fills_after, area_in_room, rule_area, zone_by, zone_of}
 use Rattle.read_alike.specs.Alike.{Shift, is_place_word, Alike, AlikeTrees}
 use Rattle.read_alike.specs.Agreeing.{Agrees, BothAgree, Same, SameAtom, AlikeParts, FoundAlike}
 use Rattle.read_alike.specs.Carried.{shift_of, IsCarried, Becomes, of_unit, Leads, ReadsCarried}

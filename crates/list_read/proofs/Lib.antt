@@ -1,2 +1,4 @@
+pub mod TextPlaces
+pub mod Texts
 pub mod Walks
 pub mod Words

@@ -5,3 +5,4 @@ pub mod Nodes
 pub mod Wanted
 pub mod Walk
 pub mod Texts
+pub mod Near

@@ -10,3 +10,4 @@ pub mod Standing
 pub mod Boxing
 pub mod Plain
 pub mod Graphical
+pub mod Rooming

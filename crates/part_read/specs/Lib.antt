@@ -15,4 +15,5 @@ pub mod Drawings
 pub mod Grounds
 pub mod PlainItems
 pub mod Ready
+pub mod Room
 pub mod Graphics

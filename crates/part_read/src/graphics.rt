@@ -216,34 +216,6 @@ pub fn name_of_list(alloc: Global, node: Node<'_, '_>) -> Result<Name, AllocErro
 
 // ---- by where they lie
 
-/// The items that a graphic gives by where it lies: one on copper or on Edge.Cuts, and none elsewhere.
-fn graphic_by(
-    alloc: Global,
-    board: &Board,
-    unit: u32,
-    stance: Stance,
-    kind: GraphicKind,
-    node: Node<'_, '_>,
-    lies: Ground,
-) -> Result<Vec<Item>, BoardError>
-    requires quarter { stance.quarter < 4 }
-    requires at { IsWithin 3000000000000 stance.at }
-    requires on { IsOn board.now.copper lies }
-    ensures { GivesItems result (graphic_by board.now unit stance kind (tree_of node.entry) lies) }
-{
-    match lies {
-        Ground::Copper(layer) => {
-            let item = copper_graphic(alloc, board, unit, stance, kind, layer, node)?;
-            Ok(one(alloc, item)?)
-        }
-        Ground::Outlines => {
-            let item = edge_graphic(alloc, unit, stance, kind, node)?;
-            Ok(one(alloc, item)?)
-        }
-        Ground::Front | Ground::Back | Ground::Elsewhere => Ok(Vec::new(alloc)),
-    }
-}
-
 /// An arc or a curve is refused on copper and on Edge.Cuts.
 pub fn curve_by(alloc: Global, node: Node<'_, '_>, lies: Ground) -> Result<Vec<Item>, BoardError>
     ensures { GivesItems result (curve_by (tree_of node.entry) lies) }
@@ -254,29 +226,9 @@ pub fn curve_by(alloc: Global, node: Node<'_, '_>, lies: Ground) -> Result<Vec<I
     }
 }
 
-/// A text or a dimension on copper is noted.
-fn text_by(
-    alloc: Global,
-    unit: u32,
-    about: About,
-    node: Node<'_, '_>,
-    lies: Ground,
-) -> Result<Vec<Item>, BoardError>
-    ensures { GivesItems result (text_by unit about (tree_of node.entry) lies) }
-{
-    match lies {
-        Ground::Copper(_) => {
-            let note = note_of(alloc, unit, about, node)?;
-            Ok(one(alloc, note)?)
-        }
-        Ground::Outlines | Ground::Front | Ground::Back | Ground::Elsewhere => {
-            Ok(Vec::new(alloc))
-        }
-    }
-}
-
 /// The items that a graphic gives by where it lies: one on copper or on Edge.Cuts, and none elsewhere. The board takes them,
 /// as far as it has room.
+#[tactic(auto, using(crate::proofs::Graphical::graphic_ready))]
 pub fn read_graphic(
     alloc: Global,
     board: &Board,
@@ -293,11 +245,21 @@ pub fn read_graphic(
     ensures ready { IfOk result (λ items. All (IsReady board.now unit) items.items) }
 {
     board.soundness();
-    let items = graphic_by(alloc, board, unit, stance, kind, node, lies)?;
-    Ok(items)
+    match lies {
+        Ground::Copper(layer) => {
+            let item = copper_graphic(alloc, board, unit, stance, kind, layer, node)?;
+            Ok(one(alloc, item)?)
+        }
+        Ground::Outlines => {
+            let item = edge_graphic(alloc, unit, stance, kind, node)?;
+            Ok(one(alloc, item)?)
+        }
+        Ground::Front | Ground::Back | Ground::Elsewhere => Ok(Vec::new(alloc)),
+    }
 }
 
 /// The note of a text or a dimension on copper. The board takes it, as far as it has room.
+#[tactic(auto, using(crate::proofs::Graphical::text_ready))]
 pub fn read_text(
     alloc: Global,
     board: &Board,
@@ -310,6 +272,13 @@ pub fn read_text(
     ensures ready { IfOk result (λ items. All (IsReady board.now unit) items.items) }
 {
     board.soundness();
-    let items = text_by(alloc, unit, about, node, lies)?;
-    Ok(items)
+    match lies {
+        Ground::Copper(_) => {
+            let note = note_of(alloc, unit, about, node)?;
+            Ok(one(alloc, note)?)
+        }
+        Ground::Outlines | Ground::Front | Ground::Back | Ground::Elsewhere => {
+            Ok(Vec::new(alloc))
+        }
+    }
 }

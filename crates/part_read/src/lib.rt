@@ -14,6 +14,7 @@ mod nets;
 mod numbers;
 mod on_board;
 mod radii;
+mod room;
 mod rounding;
 mod stances;
 
@@ -40,5 +41,6 @@ pub use numbers::{
 };
 pub use on_board::{Strip, fits_board, point_at, strip_shape};
 pub use radii::Radius;
+pub use room::has_room_after;
 pub use rounding::{around, no_radius, radius_of};
 pub use stances::{Stance, point_stood, points_stood, stand};

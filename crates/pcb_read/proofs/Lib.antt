@@ -2,7 +2,6 @@ pub mod Making
 pub mod Rooming
 pub mod OneReading
 pub mod Parting
-pub mod TextPlaces
 pub mod Nearness
 pub mod Nearby
 pub mod NearPads

@@ -22,6 +22,7 @@ use Rattle.part_read.specs.Numbers.{spot_of}
 use Rattle.part_read.specs.LayersOf.{copper_in}
 use Rattle.part_read.specs.Drawings.{spots_among}
 use Rattle.part_read.specs.Graphics.{ground_of, graphic_by, curve_by, text_by, note_of}
+use Rattle.part_read.specs.Room.{has_room_after}
 use Rattle.pad_read.specs.declared.head.Head.{Head}
 use Rattle.pad_read.specs.Postures.{posture_of, quarters_of, clearance_of}
 use Rattle.pad_read.specs.PadOf.{pad_of}
@@ -31,7 +32,7 @@ use Rattle.footprint_read.specs.declared.contents.Given.{Given}
 use Rattle.footprint_read.specs.declared.courts.Court.{Court}
 use Rattle.footprint_read.specs.FootHead.{side_by, side_of, says, second_text, reference_by, reference_of, head_of}
 use Rattle.footprint_read.specs.Courtyards.{with_line, with_rect, with_circle, with_spots, has_arc, with_outline, with_graphic}
-use Rattle.footprint_read.specs.FootprintOf.{given_at, with_items, adding, with_drawn, with_arc, drawn_kind, is_curve, is_writing, with_other, with_child_by, with_child, with_children, empty, body_of, court_notes, all_given, has_room_after, with_room, is_placed, finished, contents_of, SaysInside, SaysWithHead, FootprintSays}
+use Rattle.footprint_read.specs.FootprintOf.{given_at, with_items, adding, with_drawn, with_arc, drawn_kind, is_curve, is_writing, with_other, with_child_by, with_child, with_children, empty, body_of, court_notes, all_given, with_room, is_placed, finished, contents_of, SaysInside, SaysWithHead, FootprintSays}
 use Rattle.pcb_read.specs.Near.{IsNear}
 use Rattle.pcb_read.specs.Short.{IsShort, AllShort}
 use Rattle.pcb_read.proofs.Nearness.{Near, ShortIf, near_same, step, with_tree, by_test, near_needed, needed_short, near_check, near_place, parts_short, find_short, near_element, of_atom, near_spot_of, near_copper, near_spots}

@@ -23,7 +23,8 @@ use Rattle.part_read.specs.NetsOf.{net_of}
 use Rattle.part_read.specs.Figures.{drawn, drawn_edge, is_ring, is_circle}
 use Rattle.part_read.specs.Drawings.{corners_of, drawing_of}
 use Rattle.part_read.specs.Graphics.{ground_among, ground_of, copper_graphic, edge_graphic, one_item, graphic_by, curve_by, text_by}
-use Rattle.zone_read.specs.ZoneOf.{layers_among, zone_layers, title_of, area_of, has_room_after, ban_of, bans_in, polygon_of, area_in_room, rule_area, is_thin, fill_layer, fill_on, fill_in_room, with_fill, fills_after, zone_by, zone_of}
+use Rattle.part_read.specs.Room.{has_room_after}
+use Rattle.zone_read.specs.ZoneOf.{layers_among, zone_layers, title_of, area_of, ban_of, bans_in, polygon_of, area_in_room, rule_area, is_thin, fill_layer, fill_on, fill_in_room, with_fill, fills_after, zone_by, zone_of}
 use Rattle.pcb_read.specs.Tracks.{track_of, via_of}
 use Rattle.pcb_read.specs.Short.{IsShort, AllShort}
 use Rattle.pcb_read.proofs.Nearness.{Near, ShortIf, step, with_tree, by_test, near_needed, needed_short, near_check, near_place, parts_short, near_element, of_atom, in_one, of_element, in_some, near_spot_of, near_size_at, near_size_of, near_layer, near_layer_of, near_through, near_named, near_layers, near_drawn_on, near_net, near_corners, near_drawing}

@@ -2,20 +2,21 @@
 use Rattle.std.proofs.Common.{◌≡◌, ◌∙◌, ap, sym, subst, ℕ, List, [], ◌∷◌, ◌⊎◌, inl, inr, Option, None, Some, Result, Ok, Err}
 use Rattle.sexpr_read.specs.Tree.{Tree, parts}
 use Rattle.sexpr_read.specs.Spelling.{Spells, SpellsAll}
-use Rattle.sexpr_read.specs.declared.place.TextError.{TextError}
+use Rattle.sexpr_read.specs.Refusals.{refusal_of_one, refusal_of_all}
 use Rattle.board_errors.specs.declared.errors.BoardError.{BoardError}
-use Rattle.board_errors.specs.declared.errors.BoardError.TheVariants.{OutOfMemory}
+use Rattle.board_errors.specs.declared.errors.BoardError.TheVariants.{Text as TextRefused, OutOfMemory}
 use Rattle.board_items.specs.declared.item.Item.{Item}
 use Rattle.board_items.specs.Boards.{PlainBoard}
 use Rattle.list_read.specs.Answers.{◌>>=◌}
+use Rattle.list_read.proofs.Texts as texts
 use Rattle.footprint_read.proofs.OneAnswer.{one_answer}
 use Rattle.pcb_read.specs.declared.sorts.Sort.{Sort}
 use Rattle.pcb_read.specs.declared.sorts.Sort.TheVariants.{Track, Via, Arc, Graphic, Curve, Text, Zone, Footprint}
 use Rattle.pcb_read.specs.Sorts.{sort_of}
 use Rattle.pcb_read.specs.ItemsOf.{SaysItems}
 use Rattle.pcb_read.specs.BoardOf.{Reading, with_items, with_board, SaysWith, SaysPartBy, SaysParts, header_in, unread, board_in, SaysAfter, SaysBoard}
-use Rattle.pcb_read.specs.BoardText.{TextSaysAfter}
-use Rattle.pcb_read.specs.ItemText.{further, alone, SaysBy, SaysAlone, ItemSaysAfter, SaysText, SaysItem}
+use Rattle.pcb_read.specs.BoardText.{BoardSays}
+use Rattle.pcb_read.specs.ItemText.{further, alone, SaysBy, SaysAlone, SaysForms, SaysText, SaysItem}
 
 one_items : (board : PlainBoard) (unit : ℕ) (tree : Tree) (sort : Sort) (a b : Result (List Item) BoardError) → SaysItems board unit tree sort a → SaysItems board unit tree sort b → a ≡ b
 one_items board unit tree Track a b h k = h ∙ sym k
@@ -61,11 +62,8 @@ one_after root (Err e) a b h k = h ∙ sym k
 one_after root (Ok x) a b h k = h.2 ∙ ap (λ (reading : Result Reading BoardError). board_in root reading) (one_parts (parts root) unread h.0 k.0 h.1 k.1) ∙ sym k.2
 
 -- one tree a text, so one board
-pub one_board : ((text : List ℕ) (s t : Tree) → Spells text s → Spells text t → s ≡ t) → (text : List ℕ) (refused : Option TextError) (a b : Result PlainBoard BoardError)
-    → TextSaysAfter text refused a → TextSaysAfter text refused b → a ≡ b
-one_board one text (Some e) a b h k = h ∙ sym k
-one_board one text None a b h k =
-    one_after k.0 (header_in k.0) a b (subst (λ (tree : Tree). SaysBoard tree a) (one text h.0 k.0 h.1 k.1) h.2) k.2
+pub one_board : ((text : List ℕ) (s t : Tree) → Spells text s → Spells text t → s ≡ t) → (text : List ℕ) (a b : Result PlainBoard BoardError) → BoardSays text a → BoardSays text b → a ≡ b
+one_board one text a b h k = texts.one_answer TextRefused (Spells text) SaysBoard (one text) (λ tree. one_after tree (header_in tree)) (refusal_of_one text) a b h k
 
 -- ---- lists that are added
 
@@ -78,11 +76,9 @@ one_alone board unit (Err e) a b h k = h ∙ sym k
 one_alone board unit (Ok tree) a b h k = one_by board unit tree (sort_of tree) a b h k
 
 -- one list of forms a text, so one answer
-pub one_added : ((text : List ℕ) (s t : Tree) → SpellsAll text s → SpellsAll text t → s ≡ t) → (board : PlainBoard) (unit : ℕ) (text : List ℕ) (refused : Option TextError) (a b : Result (List Item) BoardError)
-    → ItemSaysAfter board unit text refused a → ItemSaysAfter board unit text refused b → a ≡ b
-one_added one board unit text (Some e) a b h k = h ∙ sym k
-one_added one board unit text None a b h k =
-    one_alone board unit (alone (parts k.0)) a b (subst (λ (forms : Tree). SaysAlone board unit (alone (parts forms)) a) (one text h.0 k.0 h.1 k.1) h.2) k.2
+pub one_added : ((text : List ℕ) (s t : Tree) → SpellsAll text s → SpellsAll text t → s ≡ t) → (board : PlainBoard) (unit : ℕ) (text : List ℕ) (a b : Result (List Item) BoardError)
+    → SaysText board unit text a → SaysText board unit text b → a ≡ b
+one_added one board unit text a b h k = texts.one_answer TextRefused (SpellsAll text) (SaysForms board unit) (one text) (λ forms. one_alone board unit (alone (parts forms))) (refusal_of_all text) a b h k
 
 -- a refusal that is so much further on is the one that the text says there
 pub only_refused : (board : PlainBoard) (unit : ℕ) (text : List ℕ) (at : ℕ) (error result : BoardError) (answer : Result (List Item) BoardError)

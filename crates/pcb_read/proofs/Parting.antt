@@ -1,19 +1,19 @@
 -- One part of the root that gives items; and the whole root.
 use Rattle.std.proofs.Common.{◌≡◌, refl, sym, subst, ℕ, ◌==◌, true, false, List, [], ◌∷◌, ◌++◌, ◌⊎◌, inl, inr, Option, None, Some, Result, Ok, Err, MatchResult}
 use Rattle.std.proofs.lemmas.List.{append_assoc}
-use Rattle.sexpr_read.specs.declared.place.TextError.{TextError}
 use Rattle.sexpr_read.specs.declared.place.Span.{Span}
 use Rattle.sexpr_read.specs.Tree.{Tree, span}
 use Rattle.sexpr_read.specs.Spelling.{Spells}
 use Rattle.sexpr_read.specs.Refusals.{refusal_of_one}
 use Rattle.board_errors.specs.declared.errors.BoardError.{BoardError}
-use Rattle.board_errors.specs.declared.errors.BoardError.TheVariants.{OutOfMemory}
+use Rattle.board_errors.specs.declared.errors.BoardError.TheVariants.{Text, OutOfMemory}
 use Rattle.board_items.specs.Boards.{PlainBoard}
+use Rattle.list_read.proofs.Texts.{tree_says}
 use Rattle.pcb_read.specs.declared.sorts.Sort.{Sort}
 use Rattle.pcb_read.specs.Sorts.{sort_of}
 use Rattle.pcb_read.specs.Answers.{LeavesSome}
 use Rattle.pcb_read.specs.BoardOf.{Reading, SaysWith, SaysPartBy, SaysPart, SaysBoard}
-use Rattle.pcb_read.specs.BoardText.{TextSaysAfter, BoardSays}
+use Rattle.pcb_read.specs.BoardText.{BoardSays}
 use Rattle.pcb_read.specs.Spans.{with_span, SaysSpans, GivesBoardWith}
 
 pub part_says : (reading : Reading) (tree : Tree) (sort : Sort) (new : PlainBoard) (answer : Result (Unit {0}) BoardError) → sort_of tree ≡ Some sort
@@ -22,10 +22,10 @@ part_says reading tree sort new (Ok x) is h = subst (λ (s : Option Sort). SaysP
 part_says reading tree sort new (Err e) is (inl none) = inl none
 part_says reading tree sort new (Err e) is (inr h) = inr (subst (λ (s : Option Sort). SaysPartBy reading tree s (Err e)) (sym is) (Err e, h, refl))
 
--- ---- whole boards
+-- ---- whole boards: what the tree of a text says, the text says
 
-says_tree : (text : List ℕ) (tree : Tree) (answer : Result PlainBoard BoardError) → refusal_of_one text ≡ None → Spells text tree → SaysBoard tree answer → BoardSays text answer
-says_tree text tree answer none spelled h = subst (λ (refused : Option TextError). TextSaysAfter text refused answer) (sym none) (tree, spelled, h)
+pub says_tree : (text : List ℕ) (tree : Tree) (answer : Result PlainBoard BoardError) → refusal_of_one text ≡ None → Spells text tree → SaysBoard tree answer → BoardSays text answer
+says_tree text tree answer none spelled h = tree_says Text (Spells text) SaysBoard (refusal_of_one text) tree answer none spelled h
 
 -- what the tree of a text gives is all that the text says
 pub only_board : {A : Type 0} → (text : List ℕ) (tree : Tree) (result : Result (PlainBoard × A) BoardError) (answer : Result PlainBoard BoardError) → ((a b : Result PlainBoard BoardError) → BoardSays text a → BoardSays text b → a ≡ b)

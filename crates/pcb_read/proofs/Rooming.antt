@@ -1,36 +1,24 @@
 -- Items for which there is room, one after another.
-use Rattle.std.proofs.Common.{◌≡◌, refl, ℕ, suc, ◌≤◌, ◌<◌, ltb, leb, arith, List, [], ◌∷◌, length, length-append, Bool, true, false, ◌&&◌, All, Result, Ok, Err, OnOk, sym, ap, subst}
-use Rattle.std.proofs.lemmas.Bool.{ltb-true, leb-true}
-use Rattle.std.proofs.lemmas.List.Elements.{All-nil, All-head, All-tail}
+use Rattle.std.proofs.Common.{◌≡◌, refl, ℕ, suc, ◌≤◌, arith, List, [], ◌∷◌, length, length-append, true, All, Result, Ok, Err, OnOk, sym, ap, subst}
+use Rattle.std.proofs.lemmas.List.Elements.{All-head, All-tail}
 use Rattle.sexpr_read.specs.Tree.{Tree}
 use Rattle.board_errors.specs.declared.errors.BoardError.{BoardError}
 use Rattle.board_items.specs.declared.item.Item.{Item}
 use Rattle.board_items.specs.Boards.{PlainBoard, with_item}
-use Rattle.board_items.specs.Refusals.{room_of}
 use Rattle.part_read.specs.declared.graphics.Ground.{Ground}
 use Rattle.part_read.specs.declared.graphics.Ground.TheVariants.{Copper, Outlines, Front, Back, Elsewhere}
 use Rattle.part_read.specs.Ready.{IsReady, AreReady}
 use Rattle.part_read.specs.Graphics.{curve_by}
+use Rattle.part_read.proofs.Rooming.{room_by, none_ready}
 use Rattle.pcb_read.specs.ItemsOf.{has_room}
 use Rattle.pcb_read.specs.BoardOf.{with_items}
-
-room_by : (n : ℕ) (board : PlainBoard) (unit : ℕ) → leb n (room_of board) && ltb unit 4294967295 ≡ true → (n ≤ room_of board) × (unit < 4294967295)
-room_by n board unit h = by (leb n (room_of board)) (ltb unit 4294967295) refl refl h
-  where
-    by : (a b : Bool) → leb n (room_of board) ≡ a → ltb unit 4294967295 ≡ b → a && b ≡ true → (n ≤ room_of board) × (unit < 4294967295)
-    by true true k l m = (leb-true n (room_of board) k, ltb-true unit 4294967295 l)
-    by true false k l m = absurd cc
-    by false b k l m = absurd cc
-
-pub none_ready : (board : PlainBoard) (unit : ℕ) → AreReady board unit []
-none_ready board unit = record { each = All-nil (IsReady board unit); room = omega arith; numbered = λ h. absurd (omega (arith, h)) }
 
 -- the board takes items for which it has room
 pub all_ready : (board : PlainBoard) (unit : ℕ) (items : List Item) → All (IsReady board unit) items → has_room board unit items ≡ true → AreReady board unit items
 all_ready board unit [] each h = none_ready board unit
 all_ready board unit (item ∷ items) each h =
-    let room = room_by (length (item ∷ items)) board unit h in
-    record { each = each; room = room.0; numbered = λ n. room.1 }
+    let room = room_by (length items) board unit h in
+    record { each = each; room = omega (arith, room.0); numbered = λ n. room.1 }
 
 -- an arc or a curve gives no items
 pub curve_ready : (board : PlainBoard) (unit : ℕ) (tree : Tree) (lies : Ground) (items : List Item) → curve_by tree lies ≡ Ok items → AreReady board unit items

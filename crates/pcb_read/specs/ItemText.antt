@@ -4,13 +4,12 @@ use Rattle.std.specs.Prelude.{◌≡◌, ℕ, ◌+◌, List, [], ◌∷◌, Opti
 use Rattle.sexpr_read.specs.declared.place.TextError.{TextError}
 use Rattle.sexpr_read.specs.declared.place.TextError.TheVariants.{NotUtf8, CloseWithoutOpen, EndInside, TooDeep, ExtraText, EmptyText, OutOfMemory as NoMemory}
 use Rattle.sexpr_read.specs.Tree.{Tree, parts, is_list}
-use Rattle.sexpr_read.specs.Spelling.{SpellsAll}
-use Rattle.sexpr_read.specs.Refusals.{refusal_of_all}
 use Rattle.board_errors.specs.declared.errors.BoardError.{BoardError}
 use Rattle.board_errors.specs.declared.errors.BoardError.TheVariants.{Text, NotABoard, Version, Missing, BadNumber, OutOfBoard, Arc, Turned, PadShape, Ring, UnknownNet, UnknownLayer, ThickFill, TooMany, OutOfMemory}
 use Rattle.board_items.specs.declared.item.Item.{Item}
 use Rattle.board_items.specs.Boards.{PlainBoard}
 use Rattle.list_read.specs.Heads.{place}
+use Rattle.list_read.specs.Texts.{OfForms}
 use Rattle.pcb_read.specs.declared.sorts.Sort.{Sort}
 use Rattle.pcb_read.specs.Sorts.{sort_of}
 use Rattle.pcb_read.specs.ItemsOf.{SaysItems}
@@ -68,13 +67,13 @@ abbrev pub SaysAlone : PlainBoard → ℕ → Result Tree BoardError → Result 
 SaysAlone board unit (Err e) answer = answer ≡ Err e
 SaysAlone board unit (Ok tree) answer = SaysList board unit tree answer
 
-abbrev pub ItemSaysAfter : PlainBoard → ℕ → List ℕ → Option TextError → Result (List Item) BoardError → Type 0
-ItemSaysAfter board unit text (Some e) answer = answer ≡ Err (Text e)
-ItemSaysAfter board unit text None answer = (forms : Tree) × SpellsAll text forms × SaysAlone board unit (alone (parts forms)) answer
+-- what the forms say
+abbrev pub SaysForms : PlainBoard → ℕ → Tree → Result (List Item) BoardError → Type 0
+SaysForms board unit forms answer = SaysAlone board unit (alone (parts forms)) answer
 
 -- what a text says that stands alone
 abbrev pub SaysText : PlainBoard → ℕ → List ℕ → Result (List Item) BoardError → Type 0
-SaysText board unit text answer = ItemSaysAfter board unit text (refusal_of_all text) answer
+SaysText board unit text answer = OfForms Text (SaysForms board unit) text answer
 
 -- what it says at a place of a longer text: its items in this unit, or a refusal
 abbrev pub SaysItem : PlainBoard → ℕ → List ℕ → ℕ → Result (List Item) BoardError → Type 0

@@ -1,26 +1,26 @@
 -- The items that a list of this sort says, in this unit, none or many; or its refusal. Room for them is tested last: of a zone after
 -- each fill, of a footprint after all its parts.
-use Rattle.std.specs.Prelude.{◌≡◌, ℕ, nat_lt, nat_le, List, [], ◌∷◌, length, Bool, true, ◌&&◌, Result, Ok, Err}
+use Rattle.std.specs.Prelude.{◌≡◌, ℕ, List, [], ◌∷◌, length, Bool, true, Result, Ok, Err}
 use Rattle.sexpr_read.specs.Tree.{Tree}
 use Rattle.board_errors.specs.declared.errors.BoardError.{BoardError}
 use Rattle.board_errors.specs.declared.errors.BoardError.TheVariants.{Arc as NoArc, TooMany}
 use Rattle.board_items.specs.declared.item.Item.{Item}
 use Rattle.board_items.specs.Boards.{PlainBoard}
-use Rattle.board_items.specs.Refusals.{room_of}
 use Rattle.part_read.specs.declared.graphics.Ground.{Ground}
 use Rattle.list_read.specs.Answers.{◌>>=◌, check}
 use Rattle.list_read.specs.Heads.{place}
 use Rattle.part_read.specs.Graphics.{ground_of, one_item, graphic_by, curve_by, text_by}
+use Rattle.part_read.specs.Room.{has_room_after}
 use Rattle.zone_read.specs.ZoneOf.{as_it_is, zone_of}
 use Rattle.footprint_read.specs.FootprintOf.{FootprintSays}
 use Rattle.pcb_read.specs.declared.sorts.Sort.{Sort}
 use Rattle.pcb_read.specs.declared.sorts.Sort.TheVariants.{Track, Via, Arc, Graphic, Curve, Text, Zone, Footprint}
 use Rattle.pcb_read.specs.Tracks.{track_of, via_of}
 
--- there is room for these items of this unit: for each an id and a place, and the unit has a number. None need any
+-- there is room for the last of these items of this unit after the others; none need any
 abbrev pub has_room : PlainBoard → ℕ → List Item → Bool
 has_room board unit [] = true
-has_room board unit (item ∷ items) = nat_le (length (item ∷ items)) (room_of board) && nat_lt unit 4294967295
+has_room board unit (item ∷ items) = has_room_after (length items) board unit
 
 -- the items of a list, if there is room for them
 abbrev pub in_room : PlainBoard → ℕ → Tree → Result (List Item) BoardError → Result (List Item) BoardError

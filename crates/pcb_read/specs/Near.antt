@@ -1,18 +1,8 @@
 -- Refusals whose place stands in a text of at most 33,554,432 bytes.
 use Rattle.std.specs.Prelude.{◌≤◌}
-use Rattle.sexpr_read.specs.declared.place.TextError.{TextError}
-use Rattle.sexpr_read.specs.declared.place.TextError.TheVariants.{NotUtf8, CloseWithoutOpen, EndInside, TooDeep, ExtraText, EmptyText, OutOfMemory as NoMemory}
 use Rattle.board_errors.specs.declared.errors.BoardError.{BoardError}
 use Rattle.board_errors.specs.declared.errors.BoardError.TheVariants.{Text, NotABoard, Version, Missing, BadNumber, OutOfBoard, Arc, Turned, PadShape, Ring, UnknownNet, UnknownLayer, ThickFill, TooMany, OutOfMemory}
-
-abbrev pub IsNearText : TextError → Type 0
-IsNearText (NotUtf8 at) = at ≤ 33554432
-IsNearText (CloseWithoutOpen at) = at ≤ 33554432
-IsNearText (EndInside at) = at ≤ 33554432
-IsNearText (TooDeep at) = at ≤ 33554432
-IsNearText (ExtraText at) = at ≤ 33554432
-IsNearText EmptyText = Unit {0}
-IsNearText NoMemory = Unit {0}
+use Rattle.list_read.specs.Near.{IsNearText}
 
 abbrev pub IsNear : BoardError → Type 0
 IsNear (Text e) = IsNearText e

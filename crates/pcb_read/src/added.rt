@@ -6,10 +6,11 @@ ghost use Rattle.board_items.specs.declared.item.Item.{Item};
 ghost use Rattle.sexpr_read.specs.Tree.{parts};
 ghost use Rattle.sexpr_read.specs.Views.{tree_of};
 ghost use Rattle.list_read.specs.Heads.{place};
+ghost use Rattle.list_read.specs.Near.{IsNearText};
 ghost use Rattle.list_read.specs.Nodes.{tree_in};
 ghost use Rattle.part_read.specs.Ready.{AreReady};
 ghost use Rattle.pcb_read.specs.Answers.{GivesSome};
-ghost use Rattle.pcb_read.specs.Near.{IsNear, IsNearText};
+ghost use Rattle.pcb_read.specs.Near.{IsNear};
 ghost use Rattle.pcb_read.specs.ItemText.{further, text_further, alone, SaysList, SaysAlone, SaysText, SaysItem};
 
 use crate::laws::one_list;
@@ -76,7 +77,7 @@ fn read_alone(
 }
 
 /// What a text says that stands alone. A refusal has its place in the text.
-#[tactic(auto, using(crate::proofs::NearLists::near_given, crate::proofs::TextPlaces::near_text))]
+#[tactic(auto, using(crate::proofs::NearLists::near_given, list_read::proofs::TextPlaces::near_text))]
 fn read_text(alloc: Global, text: &[u8], board: &Board, unit: u32) -> Result<Vec<Item>, BoardError>
     requires { length text.now ≤ 33_554_432 }
     ensures items { GivesSome result (SaysText board.now unit text.now) }

@@ -1,7 +1,6 @@
 //! The items of a list of a board, by its sort.
 
 ghost use Rattle.std.specs.Prelude.{◌≡◌, All, IfOk, Result, Ok};
-ghost use Rattle.board_items.specs.Boards.{IsSound};
 ghost use Rattle.sexpr_read.specs.Views.{tree_of};
 ghost use Rattle.board_errors.specs.declared.errors.BoardError.{BoardError};
 ghost use Rattle.board_items.specs.declared.item.Item.{Item};
@@ -18,7 +17,9 @@ use crate::tracks::{track_of, via_of};
 use board_items::{About, Board, BoardError, Item};
 use footprint_read::read_footprint;
 use list_read::place;
-use part_read::{GraphicKind, Spot, Stance, curve_by, ground_of, read_graphic, read_text};
+use part_read::{
+    GraphicKind, Spot, Stance, curve_by, ground_of, has_room_after, read_graphic, read_text,
+};
 use plain_types::one;
 use sexpr_read::Node;
 use std::alloc::{AllocError, Global};
@@ -28,11 +29,9 @@ use zone_read::read_zone;
 
 /// Whether there is room for these items; none need any.
 fn has_room(board: &Board, unit: u32, items: &[Item]) -> bool
-    ensures value { result ≡ has_room board.now unit items.now }
-    ensures sound { IsSound board.now }
+    ensures { result ≡ has_room board.now unit items.now }
 {
-    let left = board.left() as usize;
-    items.is_empty() || (items.len() <= left && unit < u32::MAX)
+    items.is_empty() || has_room_after(items.len() - 1, board, unit)
 }
 
 /// The items of a list, where there is room for them.

@@ -91,24 +91,8 @@ fn read_other(
     }
 }
 
-/// Appends the items of a list of this sort, as a unit of their own.
-fn read_many(
-    alloc: Global,
-    board: &mut Board,
-    node: Node<'_, '_>,
-    sort: Sort,
-) -> Result<(), BoardError>
-    ensures read { LeavesSome result board.new (SaysWith board.old (tree_of node.entry) sort) }
-    ensures copper { OnOk result (board.new.copper ≡ board.old.copper) }
-    ensures not_below { OnOk result (board.old.next_unit ≤ board.new.next_unit) }
-    ensures one_at_most { OnOk result (board.new.next_unit ≤ suc board.old.next_unit) }
-{
-    let unit = board.next_unit();
-    let items = read_list(alloc, board, unit, node, sort)?;
-    add_items(board, unit, items)
-}
-
-/// The same. Most lists of a board are tracks and vias, which need no list of items.
+/// Appends the items of a list of this sort, as a unit of their own. Most lists of a board are tracks and vias, which need
+/// no list of items.
 fn read_items(
     alloc: Global,
     board: &mut Board,
@@ -130,7 +114,10 @@ fn read_items(
             let answer = via_of(alloc, board, unit, node);
             add_one(board, unit, node, answer)
         }
-        _ => read_many(alloc, board, node, sort),
+        _ => {
+            let items = read_list(alloc, board, unit, node, sort)?;
+            add_items(board, unit, items)
+        }
     }
 }
 
@@ -153,15 +140,27 @@ fn read_part(
     }
 }
 
-/// How many parts the root has, as far as a board may have items.
-fn count_parts(root: Node<'_, '_>) -> usize {
-    let mut count = 0;
-    for _ in root.children() {
-        if count < 200_000 {
-            count += 1;
+/// So many parts are counted at the front of a root.
+const FRONT: u32 = 4096;
+
+/// About how many parts the root has: counted where they are few, and else told from how long the first ones are. Nothing depends on
+/// it but where memory is taken.
+fn about_parts(root: Node<'_, '_>) -> usize {
+    let whole = root.span();
+    let mut count = 0u32;
+    let mut seen = 0u32;
+    for part in root.children() {
+        if count == FRONT {
+            let length = u64::from(whole.end.saturating_sub(whole.at));
+            let about = u64::from(count)
+                .saturating_mul(length)
+                .checked_div(u64::from(seen));
+            return about.unwrap_or(0) as usize;
         }
+        count = count.saturating_add(1);
+        seen = part.span().end.saturating_sub(whole.at);
     }
-    count
+    count as usize
 }
 
 /// Whether the root is that of a board, of a version that is read.
@@ -232,8 +231,9 @@ pub(crate) fn board_of(alloc: Global, root: Node<'_, '_>) -> Result<(Board, Span
 {
     check_header(root)?;
     let mut board = Board::new(alloc, LayerSet { bits: 0 })?;
-    // Most parts are items: room for all of them is made once.
-    board.reserve(count_parts(root))?;
+    // Most parts are items: room for about all of them is made once.
+    let room = about_parts(root).min(board.left() as usize);
+    board.reserve(room)?;
     let mut layered = false;
     let spans = read_parts(alloc, &mut board, &mut layered, root)?;
     if layered {

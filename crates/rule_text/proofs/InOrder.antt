@@ -11,14 +11,14 @@ use Rattle.cond_lang.specs.declared.rule.Severity.{Severity}
 use Rattle.cond_lang.specs.declared.rule.Disallow.{Disallow}
 use Rattle.cond_lang.specs.Trees.{CondTree}
 use Rattle.cond_lang.specs.Kinds.{family, kind_number, is_assertion}
-use Rattle.cond_lang.specs.Rules.{PlainRule, PlainConstraint}
+use Rattle.cond_lang.specs.Rules.{PlainRule, PlainConstraint, no_bans}
 use Rattle.rule_text.specs.declared.error.RuleError.{RuleError}
 use Rattle.rule_text.specs.declared.error.RuleError.TheVariants.{Bad}
 use Rattle.list_read.specs.Answers.{◌>>=◌, check, each_of}
 use Rattle.list_read.specs.Heads.{place, text_of, has_head}
 use Rattle.rule_text.specs.Forms.{bad, name_at, atom_at, clauses}
 use Rattle.rule_text.specs.LayersOf.{layer_in}
-use Rattle.rule_text.specs.Limits.{PlainLimits, kind_named, cond_in, with_limits, unlimited, with_bans, bans_nothing}
+use Rattle.rule_text.specs.Limits.{PlainLimits, kind_named, cond_in, with_limits, unlimited, with_bans}
 use Rattle.rule_text.specs.RulesOf.{PlainRules, PlainNote, severity_in, limiting, banned, claim_among, claimed, constraint_by, constraint_in, Sort, of_layer, of_severity, of_condition, of_kind, of_other, sort_by, sort_in, one_sort, firsts, Said, says_layer, says_severity, says_condition, says_constraint, says_other, said_by, said_in, is_asked, is_heard, counting, Read, with_said, other_in, plain, rule_in, note, notes_from, all_rules, no_rules}
 use Rattle.rule_text.specs.Walk.{PlainDraft, has_kind, with_layer, with_severity, with_cond, with_kind, with_constraint, with_clause, with_clauses, blank, rule_by, with_rule, with_rules}
 
@@ -27,21 +27,9 @@ use Rattle.rule_text.specs.Walk.{PlainDraft, has_kind, with_layer, with_severity
 -- what passes two tests passes the one that stands for both
 both_tests : {A : Type 0} → (p q r : A → Bool) → ((x : A) → r x ≡ (q x && p x)) → (xs : List A) → filter p (filter q xs) ≡ filter r xs
 both_tests p q r h [] = refl
-both_tests {A = A} p q r h (x ∷ xs) = by (q x) (h x) (both_tests p q r h xs)
-  where
-    by_both : (b c : Bool) → c ≡ b → filter p (filter q xs) ≡ filter r xs → cond b (x ∷ filter p (filter q xs)) (filter p (filter q xs)) ≡ cond c (x ∷ filter r xs) (filter r xs)
-    by_both true true e k = ap (λ (l : List A). x ∷ l) k
-    by_both true false e k = cc
-    by_both false true e k = cc
-    by_both false false e k = k
-
-    by_none : (c : Bool) → c ≡ false → filter p (filter q xs) ≡ filter r xs → filter p (filter q xs) ≡ cond c (x ∷ filter r xs) (filter r xs)
-    by_none true e k = cc
-    by_none false e k = k
-
-    by : (a : Bool) → r x ≡ (a && p x) → filter p (filter q xs) ≡ filter r xs → filter p (cond a (x ∷ filter q xs) (filter q xs)) ≡ cond (r x) (x ∷ filter r xs) (filter r xs)
-    by true e k = by_both (p x) (r x) e k
-    by false e k = by_none (r x) e k
+both_tests p q r h (x ∷ xs) =
+    rw (h x) (elim (q x) as (λ b. filter p (cond b (x ∷ filter q xs) (filter q xs)) ≡ cond (b && p x) (x ∷ filter r xs) (filter r xs))
+    [ true ↦ ap (λ l. cond (p x) (x ∷ l) l) (both_tests p q r h xs) | false ↦ both_tests p q r h xs ])
 
 all_pass : {A : Type 0} → (p : A → Bool) → ((x : A) → p x ≡ true) → (xs : List A) → filter p xs ≡ xs
 all_pass p h [] = refl
@@ -173,17 +161,17 @@ kind_stays kind t c e = by_family (family kind) e
     by_bans (Ok bans) e = sym (ap (kind_or kind) e)
     by_bans (Err x) e = absurd (cc)
 
-    by_cond : (r : Result CondTree RuleError) → (r >>= λ claim. Ok (record { kind = kind; least = None; most = None; bans = bans_nothing; claim = Some claim })) ≡ Ok c → c.kind ≡ kind
+    by_cond : (r : Result CondTree RuleError) → (r >>= λ claim. Ok (record { kind = kind; least = None; most = None; bans = no_bans; claim = Some claim })) ≡ Ok c → c.kind ≡ kind
     by_cond (Ok claim) e = sym (ap (kind_or kind) e)
     by_cond (Err x) e = absurd (cc)
 
-    by_atom : (r : Result Tree RuleError) → (r >>= λ atom. cond_in atom >>= λ claim. Ok (record { kind = kind; least = None; most = None; bans = bans_nothing; claim = Some claim })) ≡ Ok c → c.kind ≡ kind
+    by_atom : (r : Result Tree RuleError) → (r >>= λ atom. cond_in atom >>= λ claim. Ok (record { kind = kind; least = None; most = None; bans = no_bans; claim = Some claim })) ≡ Ok c → c.kind ≡ kind
     by_atom (Ok atom) e = by_cond (cond_in atom) e
     by_atom (Err x) e = absurd (cc)
 
     by_claim : (b : Bool) → (if b then claimed kind t else banned kind t) ≡ Ok c → c.kind ≡ kind
     by_claim true e = by_atom (claim_among t (clauses t)) e
-    by_claim false e = by_bans (with_bans bans_nothing (clauses t)) e
+    by_claim false e = by_bans (with_bans no_bans (clauses t)) e
 
     by_family : (f : Family) → constraint_by f kind t ≡ Ok c → c.kind ≡ kind
     by_family Meets e = by_limits (with_limits unlimited (clauses t)) e

@@ -4,4 +4,3 @@ pub mod LayerNames
 pub mod Moved
 pub mod Places
 pub mod Shortness
-pub mod TextPlaces

@@ -11,6 +11,7 @@ use Rattle.cond_lang.specs.Kinds.{family, is_assertion}
 use Rattle.cond_lang.specs.declared.rule.Disallow.{Disallow}
 use Rattle.cond_lang.specs.Found.{Found, read, fault}
 use Rattle.cond_lang.specs.Conditions.{reading}
+use Rattle.cond_lang.specs.Rules.{no_bans}
 use Rattle.cond_lang.specs.Trees.{CondTree}
 use Rattle.rule_text.specs.declared.error.RuleError.{RuleError}
 use Rattle.rule_text.specs.declared.error.RuleError.TheVariants.{Version, Bad, BadNumber}
@@ -19,7 +20,7 @@ use Rattle.list_read.specs.Heads.{place, text_of, is_text, has_head, has_word_he
 use Rattle.rule_text.specs.Forms.{bad, as_atom, second_among, name_at, single_among, atom_at, clauses}
 use Rattle.rule_text.specs.LayersOf.{layer_named, layer_in}
 use Rattle.plain_types.specs.Lengths.{is_length}
-use Rattle.rule_text.specs.Limits.{kind_named, length_from, length_in, PlainLimits, with_least, with_wished, with_most, with_limit, with_limits, unlimited, bans_nothing, with_ban, with_bans, cond_from, cond_in}
+use Rattle.rule_text.specs.Limits.{kind_named, length_from, length_in, PlainLimits, with_least, with_wished, with_most, with_limit, with_limits, unlimited, with_ban, with_bans, cond_from, cond_in}
 use Rattle.rule_text.specs.RulesOf.{PlainRules, severity_named, severity_in, limited, banned, claim_among, claimed, constraint_by, constraint_in, is_asked, is_version, no_rules, rules_of}
 use Rattle.rule_text.specs.Walk.{PlainDraft, has_kind, with_layer, with_severity, with_cond, with_kind, with_constraint, with_clause, with_clauses, blank, with_rule, with_rules}
 use Rattle.rule_text.specs.ListText.{no_form, nothing_more, list_among, list_of}
@@ -155,7 +156,7 @@ near_claimed k t h =
     near_then (cond_in a) _ (near_cond a (claim_short t a e h)) (λ c l. tt))
 
 near_banned : (k : Kind) (t : Tree) → IsShort t → NearIfErr (banned k t)
-near_banned k t h = near_then (with_bans bans_nothing (clauses t)) _ (near_bans bans_nothing (clauses t) (clauses_short t h)) (λ b e. tt)
+near_banned k t h = near_then (with_bans no_bans (clauses t)) _ (near_bans no_bans (clauses t) (clauses_short t h)) (λ b e. tt)
 
 near_limited : (k : Kind) (t : Tree) → IsShort t → NearIfErr (limited k t)
 near_limited k t h = near_then (with_limits unlimited (clauses t)) _ (near_limits unlimited (clauses t) (clauses_short t h)) (λ l e. tt)

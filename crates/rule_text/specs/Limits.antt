@@ -1,5 +1,5 @@
 -- What a constraint says of its kind: lengths, or words of what is banned, or a condition.
-use Rattle.std.specs.Prelude.{ℕ, ℤ, List, [], ◌∷◌, codes, Bool, true, false, is_some, Option, None, Some, Result, Ok, Err, if◌then◌else◌}
+use Rattle.std.specs.Prelude.{ℕ, ℤ, List, [], ◌∷◌, codes, find, Bool, true, false, is_some, Option, None, Some, Result, Ok, Err, if◌then◌else◌}
 use Rattle.plain_types.specs.Lengths.{is_length}
 use Rattle.sexpr_read.specs.Tree.{Tree, content}
 use Rattle.exact_dec.specs.declared.DecError.{DecError}
@@ -8,7 +8,7 @@ use Rattle.cond_lang.specs.declared.kind.Kind.{Kind}
 use Rattle.cond_lang.specs.declared.kind.Kind.TheVariants.{Clearance, HoleClearance, HoleToHole, EdgeClearance, CourtyardClearance, TrackWidth, ViaDiameter, HoleSize, AnnularWidth, Disallow as Banning, PhysicalClearance, PhysicalHoleClearance, Assertion}
 use Rattle.cond_lang.specs.declared.rule.Disallow.{Disallow}
 use Rattle.cond_lang.specs.Found.{Found, read, fault}
-pub use Rattle.cond_lang.specs.Rules.{no_bans as bans_nothing}
+use Rattle.cond_lang.specs.Kinds.{kind_name}
 use Rattle.cond_lang.specs.Trees.{CondTree}
 use Rattle.cond_lang.specs.Conditions.{reading}
 use Rattle.rule_text.specs.declared.error.RuleError.{RuleError}
@@ -19,23 +19,17 @@ use Rattle.rule_text.specs.Forms.{bad, atom_at}
 
 -- ---- kinds
 
--- the kind that an atom names, of those that a rule may limit; None where the name is that of another constraint
+-- the kinds that a constraint may name
+abbrev pub constrained_kinds : List Kind
+constrained_kinds =
+    Clearance ∷ HoleClearance ∷ HoleToHole ∷ EdgeClearance ∷ CourtyardClearance ∷ TrackWidth ∷ ViaDiameter ∷ HoleSize ∷ AnnularWidth ∷ Banning ∷ PhysicalClearance ∷ PhysicalHoleClearance ∷ Assertion ∷ []
+
+abbrev pub is_name_of : Tree → Kind → Bool
+is_name_of atom kind = is_text atom (kind_name kind)
+
+-- the one of them that an atom names; None where the name is that of another constraint
 unfoldable pub kind_named : Tree → Option Kind
-kind_named atom =
-    if is_text atom (codes "clearance") then Some Clearance
-    else if is_text atom (codes "hole_clearance") then Some HoleClearance
-    else if is_text atom (codes "hole_to_hole") then Some HoleToHole
-    else if is_text atom (codes "edge_clearance") then Some EdgeClearance
-    else if is_text atom (codes "courtyard_clearance") then Some CourtyardClearance
-    else if is_text atom (codes "track_width") then Some TrackWidth
-    else if is_text atom (codes "via_diameter") then Some ViaDiameter
-    else if is_text atom (codes "hole_size") then Some HoleSize
-    else if is_text atom (codes "annular_width") then Some AnnularWidth
-    else if is_text atom (codes "disallow") then Some Banning
-    else if is_text atom (codes "physical_clearance") then Some PhysicalClearance
-    else if is_text atom (codes "physical_hole_clearance") then Some PhysicalHoleClearance
-    else if is_text atom (codes "assertion") then Some Assertion
-    else None
+kind_named atom = find (is_name_of atom) constrained_kinds
 
 -- ---- lengths
 

@@ -1,18 +1,8 @@
 -- Places of a text of at most 33,554,432 bytes.
 use Rattle.std.specs.Prelude.{◌≤◌, Result, Ok, Err}
-use Rattle.sexpr_read.specs.declared.place.TextError.{TextError}
-use Rattle.sexpr_read.specs.declared.place.TextError.TheVariants.{NotUtf8, CloseWithoutOpen, EndInside, TooDeep, ExtraText, EmptyText, OutOfMemory as NoMemory}
+use Rattle.list_read.specs.Near.{IsNearText}
 use Rattle.rule_text.specs.declared.error.RuleError.{RuleError}
 use Rattle.rule_text.specs.declared.error.RuleError.TheVariants.{Text, Version, Bad, Cond, BadNumber, OutOfMemory}
-
-abbrev pub IsNearText : TextError → Type 0
-IsNearText (NotUtf8 at) = at ≤ 33554432
-IsNearText (CloseWithoutOpen at) = at ≤ 33554432
-IsNearText (EndInside at) = at ≤ 33554432
-IsNearText (TooDeep at) = at ≤ 33554432
-IsNearText (ExtraText at) = at ≤ 33554432
-IsNearText EmptyText = Unit {0}
-IsNearText NoMemory = Unit {0}
 
 -- the refusal has such a place, or none
 abbrev pub IsNear : RuleError → Type 0

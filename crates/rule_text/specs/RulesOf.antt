@@ -12,7 +12,7 @@ use Rattle.cond_lang.specs.declared.rule.RuleLayer.TheVariants.{Any}
 use Rattle.cond_lang.specs.declared.rule.Severity.{Severity}
 use Rattle.cond_lang.specs.declared.rule.Severity.TheVariants.{Error, Warning, Ignore, Exclusion}
 use Rattle.cond_lang.specs.Kinds.{family, kind_number, is_assertion}
-use Rattle.cond_lang.specs.Rules.{PlainRule, PlainConstraint}
+use Rattle.cond_lang.specs.Rules.{PlainRule, PlainConstraint, no_bans}
 use Rattle.cond_lang.specs.Trees.{CondTree}
 use Rattle.rule_text.specs.declared.error.RuleError.{RuleError}
 use Rattle.rule_text.specs.declared.error.RuleError.TheVariants.{Version, Bad}
@@ -20,7 +20,7 @@ use Rattle.list_read.specs.Answers.{◌>>=◌, needed, check, each_of}
 use Rattle.list_read.specs.Heads.{place, text_of, is_text, has_head}
 use Rattle.rule_text.specs.Forms.{bad, name_at, atom_at, clauses}
 use Rattle.rule_text.specs.LayersOf.{layer_in}
-use Rattle.rule_text.specs.Limits.{kind_named, PlainLimits, with_limits, unlimited, bans_nothing, with_bans, cond_in}
+use Rattle.rule_text.specs.Limits.{kind_named, PlainLimits, with_limits, unlimited, with_bans, cond_in}
 
 -- a constraint that no rule may have: the number of its rule, from 0, and its name
 pub record PlainNote : Type 0 where
@@ -50,14 +50,14 @@ severity_in clause = do
 -- ---- constraints
 
 abbrev pub limiting : Kind → PlainLimits → PlainConstraint
-limiting kind limits = record { kind = kind; least = limits.least; most = limits.most; bans = bans_nothing; claim = None }
+limiting kind limits = record { kind = kind; least = limits.least; most = limits.most; bans = no_bans; claim = None }
 
 -- the other words of (constraint NAME ..), by its kind
 abbrev pub limited : Kind → Tree → Result PlainConstraint RuleError
 limited kind clause = with_limits unlimited (clauses clause) >>= λ limits. Ok (limiting kind limits)
 
 abbrev pub banned : Kind → Tree → Result PlainConstraint RuleError
-banned kind clause = with_bans bans_nothing (clauses clause) >>= λ bans. Ok (record { kind = kind; least = None; most = None; bans = bans; claim = None })
+banned kind clause = with_bans no_bans (clauses clause) >>= λ bans. Ok (record { kind = kind; least = None; most = None; bans = bans; claim = None })
 
 -- an assertion has one part: an atom
 abbrev pub claim_among : Tree → List Tree → Result Tree RuleError
@@ -69,7 +69,7 @@ abbrev pub claimed : Kind → Tree → Result PlainConstraint RuleError
 claimed kind clause = do
   atom ← claim_among clause (clauses clause)
   claim ← cond_in atom
-  Ok (record { kind = kind; least = None; most = None; bans = bans_nothing; claim = Some claim })
+  Ok (record { kind = kind; least = None; most = None; bans = no_bans; claim = Some claim })
 
 abbrev pub forbidding : Kind → Tree → Result PlainConstraint RuleError
 forbidding kind clause = if is_assertion kind then claimed kind clause else banned kind clause

@@ -2,27 +2,14 @@
 
 ghost use Rattle.std.specs.Prelude.{◌≡◌};
 ghost use Rattle.sexpr_read.specs.Views.{tree_of, trees_left};
+ghost use Rattle.cond_lang.specs.Rules.{no_bans};
 ghost use Rattle.rule_text.specs.Forms.{clauses};
-ghost use Rattle.rule_text.specs.Limits.{bans_nothing, with_ban, with_bans};
+ghost use Rattle.rule_text.specs.Limits.{with_ban, with_bans};
 
 use crate::error::RuleError;
 use crate::forms::{bad, clauses};
 use cond_lang::Disallow;
 use sexpr_read::Node;
-
-/// What bans nothing.
-pub(crate) const NOTHING: Disallow = Disallow {
-    tracks: false,
-    vias: false,
-    micro_vias: false,
-    buried_vias: false,
-    pads: false,
-    zones: false,
-    graphics: false,
-    holes: false,
-    footprints: false,
-    texts: false,
-};
 
 /// What a word bans beside.
 #[tactic(auto, unfolding(crate::specs::Limits::with_ban))]
@@ -59,9 +46,9 @@ fn with_ban(bans: Disallow, word: Node<'_, '_>) -> Result<Disallow, RuleError>
 /// What the words of `(constraint disallow ..)` ban; without words nothing.
 #[tactic(auto, unfolding(crate::specs::Limits::with_bans))]
 pub(crate) fn bans_in(clause: Node<'_, '_>) -> Result<Disallow, RuleError>
-    ensures { result ≡ with_bans bans_nothing (clauses (tree_of clause.entry)) }
+    ensures { result ≡ with_bans no_bans (clauses (tree_of clause.entry)) }
 {
-    let mut bans = NOTHING;
+    let mut bans = Disallow::NONE;
     for word in clauses(clause) {
         bans = with_ban(bans, word)?;
     }

@@ -11,50 +11,44 @@ ghost use Rattle.rule_text.specs.Forms.{clauses};
 ghost use Rattle.rule_text.specs.Short.{IsShort};
 ghost use Rattle.rule_text.specs.Views.{Gives};
 
-use crate::bans::{NOTHING, bans_in};
+use crate::bans::bans_in;
 use crate::conds::{claim_at, cond_in};
 use crate::error::RuleError;
 use crate::forms::{clauses, name_at};
 use crate::lengths::{limits_in, nm_of};
-use cond_lang::{Constraint, Family, Kind};
+use cond_lang::{Constraint, Disallow, Family, Kind};
 use list_read::has_head;
 use sexpr_read::Node;
 use std::alloc::Global;
 
-/// The kind that an atom names, if a rule may limit it.
+/// The kinds that a constraint may name.
+const CONSTRAINED: [Kind; 13] = [
+    Kind::Clearance,
+    Kind::HoleClearance,
+    Kind::HoleToHole,
+    Kind::EdgeClearance,
+    Kind::CourtyardClearance,
+    Kind::TrackWidth,
+    Kind::ViaDiameter,
+    Kind::HoleSize,
+    Kind::AnnularWidth,
+    Kind::Disallow,
+    Kind::PhysicalClearance,
+    Kind::PhysicalHoleClearance,
+    Kind::Assertion,
+];
+
+/// The kind that an atom names, if a constraint may name it.
 #[tactic(auto, unfolding(crate::specs::Limits::kind_named))]
 pub(crate) fn kind_named(atom: Node<'_, '_>) -> Option<Kind>
     ensures { result ≡ kind_named (tree_of atom.entry) }
 {
-    if atom.is(b"clearance") {
-        Some(Kind::Clearance)
-    } else if atom.is(b"hole_clearance") {
-        Some(Kind::HoleClearance)
-    } else if atom.is(b"hole_to_hole") {
-        Some(Kind::HoleToHole)
-    } else if atom.is(b"edge_clearance") {
-        Some(Kind::EdgeClearance)
-    } else if atom.is(b"courtyard_clearance") {
-        Some(Kind::CourtyardClearance)
-    } else if atom.is(b"track_width") {
-        Some(Kind::TrackWidth)
-    } else if atom.is(b"via_diameter") {
-        Some(Kind::ViaDiameter)
-    } else if atom.is(b"hole_size") {
-        Some(Kind::HoleSize)
-    } else if atom.is(b"annular_width") {
-        Some(Kind::AnnularWidth)
-    } else if atom.is(b"disallow") {
-        Some(Kind::Disallow)
-    } else if atom.is(b"physical_clearance") {
-        Some(Kind::PhysicalClearance)
-    } else if atom.is(b"physical_hole_clearance") {
-        Some(Kind::PhysicalHoleClearance)
-    } else if atom.is(b"assertion") {
-        Some(Kind::Assertion)
-    } else {
-        None
+    for kind in CONSTRAINED {
+        if atom.is(kind.name().as_bytes()) {
+            return Some(kind);
+        }
     }
+    None
 }
 
 /// A constraint with the lengths of its clause.
@@ -67,7 +61,7 @@ fn limited(kind: Kind, clause: Node<'_, '_>) -> Result<Constraint, RuleError>
         kind,
         least: nm_of(limits.least),
         most: nm_of(limits.most),
-        bans: NOTHING,
+        bans: Disallow::NONE,
         claim: None,
     })
 }
@@ -99,7 +93,7 @@ fn claimed(alloc: Global, kind: Kind, clause: Node<'_, '_>) -> Result<Constraint
         kind,
         least: None,
         most: None,
-        bans: NOTHING,
+        bans: Disallow::NONE,
         claim: Some(claim),
     })
 }

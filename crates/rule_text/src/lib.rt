@@ -78,7 +78,7 @@ pub fn read_rule_list(alloc: Global, text: &[u8], at: u32) -> Result<Rules, Rule
 }
 
 /// The same, by the places of the list's own text.
-#[tactic(auto, using(crate::proofs::Shortness::forms_short, crate::proofs::Places::near_answer, crate::proofs::TextPlaces::near_text))]
+#[tactic(auto, using(crate::proofs::Shortness::forms_short, crate::proofs::Places::near_answer, list_read::proofs::TextPlaces::near_text))]
 fn list_here(alloc: Global, text: &[u8]) -> Result<Rules, RuleError>
     requires { length text.now ≤ 33_554_432 }
     ensures says { MatchResult result (λ rules. Here text.now (Ok (plain_rules rules))) (λ e. (e ≡ RuleError.OutOfMemory) ⊎ Here text.now (Err e)) }
@@ -92,7 +92,7 @@ fn list_here(alloc: Global, text: &[u8]) -> Result<Rules, RuleError>
     }
 }
 
-/// Each type may go to another thread and be shared by threads.
+/// Takes a type that may go to another thread and be shared by threads. The calls of it show that each type may.
 fn crosses<T: Send + Sync>() {}
 
 fn all_cross() {

@@ -3,8 +3,9 @@
 ghost use Rattle.std.specs.Prelude.{◌≡◌, ◌≤◌};
 ghost use Rattle.sexpr_read.specs.Tree.{parts};
 ghost use Rattle.sexpr_read.specs.Views.{tree_of};
+ghost use Rattle.list_read.specs.Near.{IsNearText};
 ghost use Rattle.rule_text.specs.ListText.{list_of, moved_text, moved_error};
-ghost use Rattle.rule_text.specs.Near.{IsNear, IsNearText};
+ghost use Rattle.rule_text.specs.Near.{IsNear};
 ghost use Rattle.rule_text.specs.Short.{AllShort, IsShort};
 ghost use Rattle.rule_text.specs.Views.{plain_rules, Gives};
 

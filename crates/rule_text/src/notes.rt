@@ -4,8 +4,8 @@ ghost use Rattle.std.specs.Prelude.{◌≡◌, map, IfOk};
 ghost use Rattle.rule_text.specs.Views.{plain_note};
 
 use drc_io::Name;
+use plain_types::Listed;
 use std::alloc::AllocError;
-use std::marker::Model;
 
 /// A constraint of another name than that of a kind.
 #[derive(Debug, Drop)]
@@ -28,43 +28,15 @@ impl RuleNote {
 }
 
 /// Notes, in the order of the text. Contracts see the list.
-#[derive(Debug, Drop)]
-pub struct RuleNotes {
-    list: Vec<RuleNote>,
-}
+pub type RuleNotes = Listed<RuleNote>;
 
-impl Model for RuleNotes {
-    ghost use Rattle.std.specs.Prelude.{List};
-    ghost use Rattle.rule_text.specs.declared.notes.RuleNote.{RuleNote};
-
-    ghost Value = { List RuleNote };
-
-    ghost view = { λ notes. notes.list.items };
-}
-
-impl RuleNotes {
-    /// These notes. It takes no memory.
-    pub fn of(list: Vec<RuleNote>) -> RuleNotes
-        ensures { result ≡ list.items }
-    {
-        RuleNotes { list }
+/// Equal notes.
+pub(crate) fn copy_notes(notes: &RuleNotes) -> Result<RuleNotes, AllocError>
+    ensures { IfOk result (λ copy. map plain_note copy ≡ map plain_note notes.now) }
+{
+    let mut list = Vec::new(notes.allocator());
+    for note in notes.as_slice() {
+        list.push(note.copy()?)?;
     }
-
-    /// The notes in their order.
-    pub fn as_slice(&self) -> &[RuleNote]
-        ensures { result.now ≡ self.now }
-    {
-        &self.list
-    }
-
-    /// Equal notes.
-    pub(crate) fn copy(&self) -> Result<RuleNotes, AllocError>
-        ensures { IfOk result (λ notes. map plain_note notes ≡ map plain_note self.now) }
-    {
-        let mut list = Vec::new(*self.list.allocator());
-        for note in &self.list {
-            list.push(note.copy()?)?;
-        }
-        Ok(RuleNotes { list })
-    }
+    Ok(Listed::of(list))
 }

@@ -4,7 +4,7 @@ ghost use Rattle.std.specs.Prelude.{◌≡◌, map, IfOk};
 ghost use Rattle.cond_lang.specs.Rules.{plain_rule};
 ghost use Rattle.rule_text.specs.Views.{plain_rules};
 
-use crate::notes::RuleNotes;
+use crate::notes::{RuleNotes, copy_notes};
 use cond_lang::Rule;
 use std::alloc::AllocError;
 use std::marker::Model;
@@ -69,7 +69,7 @@ impl Rules {
     {
         Ok(Rules {
             rules: self.rules.copy()?,
-            notes: self.notes.copy()?,
+            notes: copy_notes(&self.notes)?,
         })
     }
 }

@@ -15,14 +15,15 @@ use Rattle.part_read.specs.OnBoard.{tested, fits_board, point_at}
 use Rattle.part_read.specs.Stances.{stood, points_stood}
 use Rattle.part_read.specs.Figures.{first_of}
 use Rattle.part_read.specs.PlainItems.{plain_item}
-use Rattle.std.proofs.Common.{◌<◌, ◌++◌, ltb, length-append}
-use Rattle.std.proofs.lemmas.Bool.{ltb-true}
+use Rattle.std.proofs.Common.{◌++◌, length-append}
 use Rattle.std.proofs.lemmas.List.Elements.{All-nil, All-cons, All-append}
 use Rattle.board_items.specs.declared.item.Item.{Item}
-use Rattle.board_items.specs.Refusals.{room_of}
 use Rattle.part_read.proofs.There.{map_some, both_some}
 use Rattle.part_read.specs.Ready.{IsReady, AreReady}
-use Rattle.zone_read.specs.ZoneOf.{as_it_is, area_with, area_of, has_room_after}
+use Rattle.part_read.specs.Room.{has_room_after}
+pub use Rattle.part_read.proofs.Rooming.{none_ready}
+use Rattle.part_read.proofs.Rooming.{room_by}
+use Rattle.zone_read.specs.ZoneOf.{as_it_is, area_with, area_of}
 
 tested_holds : {A : Type 0} (test : Bool) (make : test ≡ true → A) (x : A) → tested test make ≡ Some x → test ≡ true
 tested_holds true make x h = refl
@@ -65,17 +66,6 @@ pub area_admitted : (board : PlainBoard) (name : List ℕ) (unit net : ℕ) (at 
 area_admitted board name unit net at title bans layers shape near of on = admitted_by board at net _ near of (one_within layers board.copper on)
 
 -- ---- lists of items
-
-pub none_ready : (board : PlainBoard) (unit : ℕ) → AreReady board unit []
-none_ready board unit = record { each = All-nil (IsReady board unit); room = omega arith; numbered = λ h. absurd (omega (arith, h)) }
-
-room_by : (found : ℕ) (board : PlainBoard) (unit : ℕ) → has_room_after found board unit ≡ true → (found < room_of board) × (unit < 4294967295)
-room_by found board unit h = by (ltb found (room_of board)) (ltb unit 4294967295) refl refl h
-  where
-    by : (a b : Bool) → ltb found (room_of board) ≡ a → ltb unit 4294967295 ≡ b → a && b ≡ true → (found < room_of board) × (unit < 4294967295)
-    by true true k l m = (ltb-true found (room_of board) k, ltb-true unit 4294967295 l)
-    by true false k l m = absurd cc
-    by false b k l m = absurd cc
 
 pub one_ready : (board : PlainBoard) (unit : ℕ) (item : Item) → IsReady board unit item → has_room_after 0 board unit ≡ true → AreReady board unit (item ∷ [])
 one_ready board unit item h k =

@@ -1,6 +1,6 @@
 -- Zones: the items that (zone (net N) (layer NAME) (name TEXT) ..) gives. With `keepout` it is a rule area, by its polygon; else each
 -- filled polygon on copper is a fill. The elements are looked at in this order.
-use Rattle.std.specs.Prelude.{ℕ, suc, nat_lt, pos, Bool, false, ◌&&◌, List, [], ◌∷◌, codes, Option, None, Some, option_map, Result, Ok, Err, refl, if◌then◌else◌}
+use Rattle.std.specs.Prelude.{ℕ, suc, pos, Bool, false, List, [], ◌∷◌, codes, Option, None, Some, option_map, Result, Ok, Err, refl, if◌then◌else◌}
 use Rattle.sexpr_read.specs.Tree.{Tree, parts}
 use Rattle.geo_seg.specs.declared.points.Point.{Point}
 use Rattle.geo_seg.specs.declared.shapes.Core.TheVariants.{Area as AreaCore}
@@ -13,7 +13,6 @@ use Rattle.board_items.specs.declared.item.What.TheVariants.{Fill, Area}
 use Rattle.board_items.specs.declared.item.Item.{Item}
 use Rattle.copper_layers.specs.Layers.{single_layer}
 use Rattle.board_items.specs.Boards.{PlainBoard}
-use Rattle.board_items.specs.Refusals.{room_of}
 use Rattle.part_read.specs.declared.numbers.Spot.{Spot}
 use Rattle.part_read.specs.declared.stances.Stance.{Stance}
 use Rattle.list_read.specs.Answers.{◌>>=◌, needed, check}
@@ -27,6 +26,7 @@ use Rattle.part_read.specs.Stances.{points_stood}
 use Rattle.part_read.specs.Figures.{first_of, no_radius, around}
 use Rattle.part_read.specs.Drawings.{corners_of}
 use Rattle.part_read.specs.PlainItems.{plain_item}
+use Rattle.part_read.specs.Room.{has_room_after}
 
 -- ---- layers and name
 
@@ -59,12 +59,6 @@ area_with points = around no_radius (AreaCore points)
 -- the polygon of these corners, if it lies on the board
 abbrev pub area_of : List Spot → Option Shape
 area_of corners = option_map area_with (points_stood as_it_is corners)
-
--- ---- room
-
--- there is room for an item more after so many of the zone: an id, a place in the list, and a unit number
-abbrev pub has_room_after : ℕ → PlainBoard → ℕ → Bool
-has_room_after items board unit = nat_lt items (room_of board) && nat_lt unit 4294967295
 
 -- ---- rule areas
 

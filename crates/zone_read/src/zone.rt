@@ -1,10 +1,11 @@
 //! Zones.
 
 ghost use Rattle.std.specs.Prelude.{◌≡◌, ◌+◌, ◌<◌, ◌∷◌, ◌++◌, [], true, false, Some, is_some, IfOk, IfSome, OnOk, IsTrue, option_map};
-ghost use Rattle.board_items.specs.Boards.{PlainBoard, IsSound, name_of};
+ghost use Rattle.board_items.specs.Boards.{PlainBoard, name_of};
 ghost use Rattle.copper_layers.specs.Layers.{has_layer, is_within};
 ghost use Rattle.part_read.specs.OnBoard.{fits_board};
 ghost use Rattle.part_read.specs.Ready.{IsReady, AreReady};
+ghost use Rattle.part_read.specs.Room.{has_room_after};
 ghost use Rattle.sexpr_read.specs.Tree.{parts};
 ghost use Rattle.sexpr_read.specs.Views.{tree_of};
 ghost use Rattle.part_read.specs.Nodes.{Gives};
@@ -13,7 +14,7 @@ ghost use Rattle.list_read.specs.Elements.{element};
 ghost use Rattle.part_read.specs.NetsOf.{net_of};
 ghost use Rattle.part_read.specs.Figures.{first_of};
 ghost use Rattle.zone_read.specs.Taking.{TakesFill};
-ghost use Rattle.zone_read.specs.ZoneOf.{layers_among, zone_layers, title_of, area_of, has_room_after, ban_of, bans_in, polygon_of, area_in_room, rule_area, is_thin, fill_layer, fill_on, fill_in_room, fills_after, zone_of};
+ghost use Rattle.zone_read.specs.ZoneOf.{layers_among, zone_layers, title_of, area_of, ban_of, bans_in, polygon_of, area_in_room, rule_area, is_thin, fill_layer, fill_on, fill_in_room, fills_after, zone_of};
 
 use board_items::{Bans, Board, BoardError, Boxed, Item, Part, What};
 use copper_layers::LayerSet;
@@ -21,8 +22,8 @@ use drc_io::Name;
 use geo_seg::{Core, Poly, Shape};
 use list_read::{element, has_head, name_from, place};
 use part_read::{
-    Corners, Spot, Stance, around, corners_of, first_atom, layer_in, layers_named, missing,
-    name_of_list, named, net_of, no_parts, no_radius, one_part, plain_item, points_stood,
+    Corners, Spot, Stance, around, corners_of, first_atom, has_room_after, layer_in, layers_named,
+    missing, name_of_list, named, net_of, no_parts, no_radius, one_part, plain_item, points_stood,
 };
 use plain_types::one;
 use sexpr_read::Node;
@@ -120,14 +121,6 @@ fn first_of(corners: &Corners) -> Spot
     ensures { result ≡ first_of corners.now }
 {
     corners.as_slice()[0]
-}
-
-/// Whether the board has room for an item more after so many.
-fn has_room_after(items: usize, board: &Board, unit: u32) -> bool
-    ensures value { result ≡ has_room_after items board.now unit }
-    ensures sound { IsSound board.now }
-{
-    items < board.left() as usize && unit < u32::MAX
 }
 
 // ---- rule areas

@@ -5,7 +5,7 @@ use Rattle.list_read.specs.Heads.{has_head}
 use Rattle.part_read.specs.Lists.{before}
 use Rattle.zone_read.specs.ZoneOf.{fill_layer, fill_in_room, fills_after}
 use Rattle.part_read.specs.Ready.{AreReady}
-use Rattle.zone_read.specs.ZoneOf.{has_room_after}
+use Rattle.part_read.specs.Room.{has_room_after}
 use Rattle.zone_read.proofs.Filling.{filled}
 use Rattle.zone_read.proofs.Admitting.{more_ready}
 use Rattle.zone_read.proofs.zone.take_fill.Goals as goal
