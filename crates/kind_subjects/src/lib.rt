@@ -27,7 +27,7 @@ pub use places::{Places, places_of_items, tried_at};
 pub use single_layers::{is_asked_at, is_measured_at, places_measured};
 pub use subject::{Faces, Measure, Subject, subject_of};
 
-/// A layer may go to another thread and be shared by threads.
+/// Takes a type that may go to another thread and be shared by threads. The calls of it show that each type may.
 fn crosses<T: Send + Sync>() {}
 
 fn layers_cross() {

@@ -45,7 +45,7 @@ found_none kind (x ∷ xs) e =
     let parts = either_none (kind_number x.kind == kind_number kind) (list_any (λ (c : Constraint). kind_number c.kind == kind_number kind) xs) e in
     ap (λ b. cond b (Some (plain_constraint x)) (find (λ (c : PlainConstraint). kind_number c.kind == kind_number kind) (map plain_constraint xs))) parts.0 ∙ found_none kind xs parts.1
 
-none_asks : (kind : Kind) (rules : List Rule) → some_asks kind rules ≡ false → All (λ (r : PlainRule). asked_by kind r ≡ None) (map plain_rule rules)
+pub none_asks : (kind : Kind) (rules : List Rule) → some_asks kind rules ≡ false → All (λ (r : PlainRule). asked_by kind r ≡ None) (map plain_rule rules)
 none_asks kind [] e = All-nil (λ (r : PlainRule). asked_by kind r ≡ None)
 none_asks kind (r ∷ rules) e =
     let parts = either_none (asks kind r) (some_asks kind rules) e in
@@ -53,7 +53,7 @@ none_asks kind (r ∷ rules) e =
 
 -- ---- what is picked then
 
-some_none : {A : Type 0} (found : Option A) (x : A) → found ≡ None → found ≡ Some x → ⊥
+pub some_none : {A : Type 0} (found : Option A) (x : A) → found ≡ None → found ≡ Some x → ⊥
 some_none found x e f = absurd (cc)
 
 module _ (rules : List PlainRule) (mins : PlainMins) (kind : Kind) (clear : has_own kind ≡ false) (least : (micro : Bool) → minimum mins micro kind ≡ pos 0)

@@ -5,5 +5,6 @@ pub mod RowsOfPair
 pub mod RowsOfSingle
 pub mod NearPicks
 pub mod AskedKinds
+pub mod EnoughAlone
 pub mod SameRow
 pub mod IdlePairs

@@ -2,6 +2,7 @@ pub mod PlainRow
 pub mod Pairs
 pub mod Asked
 pub mod Singles
+pub mod Alone
 pub mod Rows
 pub mod Views
 pub mod Stages

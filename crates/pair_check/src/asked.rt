@@ -2,8 +2,7 @@
 
 ghost use Rattle.std.specs.Prelude.{◌≡◌, false};
 ghost use Rattle.pair_check.specs.Asked.{asks, some_asks, AsksNothing, IsNoteOf};
-ghost use Rattle.pair_check.specs.Rows.{deciders};
-ghost use Rattle.pair_check.specs.Views.{checked_by};
+ghost use Rattle.pair_check.specs.Views.{deciders_of};
 
 use crate::view::CheckView;
 use cond_lang::{Kind, Rule};
@@ -48,7 +47,7 @@ pub(crate) fn some_asks(rules: &[Rule], kind: Kind) -> bool
 
 /// Whether anything may be asked of the kind. Only what it answers no to is sure.
 fn may_ask(view: &CheckView, kind: Kind) -> bool
-    ensures { result ≡ false → AsksNothing (deciders (checked_by view.now)) kind }
+    ensures { result ≡ false → AsksNothing (deciders_of view.now) kind }
 {
     if may_not_meet(kind) {
         return true;
@@ -59,7 +58,7 @@ fn may_ask(view: &CheckView, kind: Kind) -> bool
 impl Asked {
     /// What the board and the rules ask for.
     pub fn by(view: &CheckView) -> Asked
-        ensures { IsNoteOf (deciders (checked_by view.now)) result }
+        ensures { IsNoteOf (deciders_of view.now) result }
     {
         Asked {
             hole_clearance: may_ask(view, Kind::HoleClearance),

@@ -3,6 +3,7 @@
 //! Distances are whole nanometres; shapes are compared in half nanometres, with no rounding.
 #![tactic(auto)]
 
+mod alone;
 mod asked;
 mod found;
 mod idle;
@@ -15,6 +16,7 @@ mod single;
 mod steps;
 mod view;
 
+pub use alone::{Enough, enough_alone};
 pub use asked::Asked;
 use board_items::Board;
 use cond_lang::Rule;
@@ -28,14 +30,15 @@ pub use single::{single_at, test_item};
 pub use steps::Steps;
 pub use view::CheckView;
 
-/// A row may go to another thread and be shared by threads.
+/// Takes a type that may go to another thread and be shared by threads. The calls of it show that each type may.
 fn crosses<T: Send + Sync>() {}
 
 fn rows_cross() {
     crosses::<Row>();
 }
 
-/// All that a view lends may.
+// What a view lends:
+
 fn boards_cross<'a>() {
     crosses::<&'a Board>();
 }

@@ -11,8 +11,8 @@ ghost use Rattle.kind_subjects.specs.Layers.{IsTried, IsFirst, HoldsNowhere};
 ghost use Rattle.kind_subjects.specs.Compared.{is_compared};
 ghost use Rattle.pair_check.specs.Pairs.{IsGivenPlace, IsNearAt};
 ghost use Rattle.pair_check.specs.Asked.{AsksNothing, IsNoteOf};
-ghost use Rattle.pair_check.specs.Rows.{deciders, Stands, AreRowsWhere, AreRowsOfPair};
-ghost use Rattle.pair_check.specs.Views.{checked_by, IsWholeView};
+ghost use Rattle.pair_check.specs.Rows.{Stands, AreRowsWhere, AreRowsOfPair};
+ghost use Rattle.pair_check.specs.Views.{checked_by, deciders_of, IsWholeView};
 ghost use Rattle.pair_check.specs.Stages.{pair_of, IsNear, IsOfPair, IsOfKind, AreRowsBelow};
 
 use crate::asked::{ANYTHING, Asked};
@@ -38,8 +38,8 @@ fn near_at(view: &CheckView, kind: Kind, pair: Pair<'_>, layer: RowLayer) -> Opt
     requires few { length view.now.rules.now < 4294967295 }
     requires measured { family kind ≡ Family.Keeps }
     requires tried { IsTried view.now.board.now.copper layer }
-    ensures { MatchOption result (¬ (IsNearAt (deciders (checked_by view.now)) kind (pair_of pair.entry) layer))
-        (λ near. (near.layer ≡ layer) × IsNear (deciders (checked_by view.now)) kind (pair_of pair.entry) near) }
+    ensures { MatchOption result (¬ (IsNearAt (deciders_of view.now) kind (pair_of pair.entry) layer))
+        (λ near. (near.layer ≡ layer) × IsNear (deciders_of view.now) kind (pair_of pair.entry) near) }
 {
     let faced = facings_at(kind, layer, pair.a, pair.b);
     if !may_face(&faced, kind, layer, pair.a, pair.b) {
@@ -66,8 +66,8 @@ fn near_at(view: &CheckView, kind: Kind, pair: Pair<'_>, layer: RowLayer) -> Opt
 fn first_near(view: &CheckView, kind: Kind, pair: Pair<'_>) -> Option<Near>
     requires few { length view.now.rules.now < 4294967295 }
     requires measured { family kind ≡ Family.Keeps }
-    ensures { MatchOption result (HoldsNowhere view.now.board.now.copper (IsNearAt (deciders (checked_by view.now)) kind (pair_of pair.entry)))
-        (λ near. IsNear (deciders (checked_by view.now)) kind (pair_of pair.entry) near × IsFirst view.now.board.now.copper (IsNearAt (deciders (checked_by view.now)) kind (pair_of pair.entry)) near.layer) }
+    ensures { MatchOption result (HoldsNowhere view.now.board.now.copper (IsNearAt (deciders_of view.now) kind (pair_of pair.entry)))
+        (λ near. IsNear (deciders_of view.now) kind (pair_of pair.entry) near × IsFirst view.now.board.now.copper (IsNearAt (deciders_of view.now) kind (pair_of pair.entry)) near.layer) }
 {
     let places = places_between(kind, pair.a, pair.b);
     for place in places.from..places.to {
@@ -80,13 +80,13 @@ fn first_near(view: &CheckView, kind: Kind, pair: Pair<'_>) -> Option<Near>
     None
 }
 
-/// That the two meet: always an error, whatever the rules say.
+/// The row that the two meet, if they do: always an error, whatever the rules say.
 #[inline(always)]
 fn meeting_row(view: &CheckView, kind: Kind, first: u32, second: u32, pair: Pair<'_>) -> Option<Row>
     requires meets { family kind ≡ Family.Meets }
     requires ordered { first < second }
-    ensures { MatchOption result ((row : PlainRow) → ¬ (IsOfKind (IsOfPair (deciders (checked_by view.now)) (pair_of pair.entry) first second) kind row))
-        (λ row. IsOfKind (IsOfPair (deciders (checked_by view.now)) (pair_of pair.entry) first second) kind row) }
+    ensures { MatchOption result ((row : PlainRow) → ¬ (IsOfKind (IsOfPair (deciders_of view.now) (pair_of pair.entry) first second) kind row))
+        (λ row. IsOfKind (IsOfPair (deciders_of view.now) (pair_of pair.entry) first second) kind row) }
 {
     if !is_compared(kind, pair.a, pair.b) {
         return None;
@@ -105,16 +105,16 @@ fn meeting_row(view: &CheckView, kind: Kind, first: u32, second: u32, pair: Pair
     })
 }
 
-/// That the two are too near.
+/// The row that the two are too near, if they are.
 #[inline(always)]
 fn near_row(view: &CheckView, kind: Kind, first: u32, second: u32, pair: Pair<'_>) -> Option<Row>
     requires few { length view.now.rules.now < 4294967295 }
     requires measured { family kind ≡ Family.Keeps }
-    requires place { IsGivenPlace (deciders (checked_by view.now)) kind (pair_of pair) }
+    requires place { IsGivenPlace (deciders_of view.now) kind (pair_of pair) }
     requires compared { IsTrue (is_compared kind pair.a.now pair.b.now) }
     requires ordered { first < second }
-    ensures { MatchOption result ((row : PlainRow) → ¬ (IsOfKind (IsOfPair (deciders (checked_by view.now)) (pair_of pair.entry) first second) kind row))
-        (λ row. IsOfKind (IsOfPair (deciders (checked_by view.now)) (pair_of pair.entry) first second) kind row) }
+    ensures { MatchOption result ((row : PlainRow) → ¬ (IsOfKind (IsOfPair (deciders_of view.now) (pair_of pair.entry) first second) kind row))
+        (λ row. IsOfKind (IsOfPair (deciders_of view.now) (pair_of pair.entry) first second) kind row) }
 {
     let near = first_near(view, kind, pair)?;
     Some(Row {
@@ -142,12 +142,12 @@ fn add_measured(
 )
     requires few { length view.now.rules.now < 4294967295 }
     requires measured { family kind ≡ Family.Keeps }
-    requires place { IsGivenPlace (deciders (checked_by view.now)) kind (pair_of pair) }
+    requires place { IsGivenPlace (deciders_of view.now) kind (pair_of pair) }
     requires compared { IsTrue (is_compared kind pair.a.now pair.b.now) }
     requires ordered { first < second }
     requires room { length rows.old < 8 }
-    requires below { AreRowsBelow (IsOfPair (deciders (checked_by view.now)) (pair_of pair) first second) (kind_number kind) rows.old }
-    ensures rows { AreRowsBelow (IsOfPair (deciders (checked_by view.now)) (pair_of pair.entry) first second) (kind_number kind + 1) rows.new }
+    requires below { AreRowsBelow (IsOfPair (deciders_of view.now) (pair_of pair) first second) (kind_number kind) rows.old }
+    ensures rows { AreRowsBelow (IsOfPair (deciders_of view.now) (pair_of pair.entry) first second) (kind_number kind + 1) rows.new }
     ensures count { length rows.new ≤ length rows.old + 1 }
 {
     if let Some(row) = near_row(view, kind, first, second, pair) {
@@ -167,13 +167,13 @@ fn add_near(
     rows: &mut PairRows,
 )
     requires few { length view.now.rules.now < 4294967295 }
-    requires asked { asked ≡ false → AsksNothing (deciders (checked_by view.now)) kind }
+    requires asked { asked ≡ false → AsksNothing (deciders_of view.now) kind }
     requires measured { family kind ≡ Family.Keeps }
-    requires place { IsGivenPlace (deciders (checked_by view.now)) kind (pair_of pair) }
+    requires place { IsGivenPlace (deciders_of view.now) kind (pair_of pair) }
     requires ordered { first < second }
     requires room { length rows.old < 8 }
-    requires below { AreRowsBelow (IsOfPair (deciders (checked_by view.now)) (pair_of pair) first second) (kind_number kind) rows.old }
-    ensures rows { AreRowsBelow (IsOfPair (deciders (checked_by view.now)) (pair_of pair.entry) first second) (kind_number kind + 1) rows.new }
+    requires below { AreRowsBelow (IsOfPair (deciders_of view.now) (pair_of pair) first second) (kind_number kind) rows.old }
+    ensures rows { AreRowsBelow (IsOfPair (deciders_of view.now) (pair_of pair.entry) first second) (kind_number kind + 1) rows.new }
     ensures count { length rows.new ≤ length rows.old + 1 }
 {
     if asked && is_compared(kind, pair.a, pair.b) {
@@ -191,11 +191,11 @@ fn add_of_nets(
     rows: &mut PairRows,
 )
     requires few { length view.now.rules.now < 4294967295 }
-    requires asked { IsNoteOf (deciders (checked_by view.now)) asked }
+    requires asked { IsNoteOf (deciders_of view.now) asked }
     requires ordered { first < second }
     requires none { length rows.old ≡ 0 }
-    requires below { AreRowsBelow (IsOfPair (deciders (checked_by view.now)) (pair_of pair) first second) 1 rows.old }
-    ensures rows { AreRowsBelow (IsOfPair (deciders (checked_by view.now)) (pair_of pair.entry) first second) 4 rows.new }
+    requires below { AreRowsBelow (IsOfPair (deciders_of view.now) (pair_of pair) first second) 1 rows.old }
+    ensures rows { AreRowsBelow (IsOfPair (deciders_of view.now) (pair_of pair.entry) first second) 4 rows.new }
     ensures count { length rows.new ≤ 2 }
 {
     match meeting_row(view, Kind::Short, first, second, pair) {
@@ -219,8 +219,8 @@ fn add_of_nets(
 fn add_keepout(view: &CheckView, first: u32, second: u32, pair: Pair<'_>, rows: &mut PairRows)
     requires ordered { first < second }
     requires room { length rows.old < 8 }
-    requires below { AreRowsBelow (IsOfPair (deciders (checked_by view.now)) (pair_of pair) first second) 7 rows.old }
-    ensures rows { AreRowsBelow (IsOfPair (deciders (checked_by view.now)) (pair_of pair.entry) first second) 8 rows.new }
+    requires below { AreRowsBelow (IsOfPair (deciders_of view.now) (pair_of pair) first second) 7 rows.old }
+    ensures rows { AreRowsBelow (IsOfPair (deciders_of view.now) (pair_of pair.entry) first second) 8 rows.new }
     ensures count { length rows.new ≤ length rows.old + 1 }
 {
     if let Some(row) = meeting_row(view, Kind::Keepout, first, second, pair) {
@@ -238,10 +238,10 @@ fn add_all(
     rows: &mut PairRows,
 )
     requires few { length view.now.rules.now < 4294967295 }
-    requires asked { IsNoteOf (deciders (checked_by view.now)) asked }
+    requires asked { IsNoteOf (deciders_of view.now) asked }
     requires ordered { first < second }
     requires none { rows.old ≡ [] }
-    ensures { AreRowsWhere (IsOfPair (deciders (checked_by view.now)) (pair_of pair.entry) first second) rows.new }
+    ensures { AreRowsWhere (IsOfPair (deciders_of view.now) (pair_of pair.entry) first second) rows.new }
 {
     if is_idle(asked, pair.a, pair.b) {
         return;
@@ -307,7 +307,7 @@ pub fn test_two(
     rows: &mut PairRows,
 )
     requires view { IsWholeView view.now }
-    requires asked { IsNoteOf (deciders (checked_by view.now)) asked }
+    requires asked { IsNoteOf (deciders_of view.now) asked }
     requires ordered { first < second }
     requires first { Stands (checked_by view.now) first one.item.now one.facts.now }
     requires second { Stands (checked_by view.now) second other.item.now other.facts.now }

@@ -12,9 +12,9 @@ ghost use Rattle.pair_check.specs.PlainRow.{PlainRow};
 ghost use Rattle.kind_subjects.specs.declared.layer.RowLayer.{RowLayer};
 ghost use Rattle.kind_subjects.specs.Layers.{IsTried, IsFirst, HoldsNowhere};
 ghost use Rattle.kind_subjects.specs.SingleLayers.{IsAskedAt, IsMeasuredAt};
-ghost use Rattle.pair_check.specs.Singles.{BreaksLimit, bans_what, bans_item, Forbids, IsOffAt, IsForbiddenAt};
-ghost use Rattle.pair_check.specs.Rows.{deciders, Stands, AreRowsWhere, AreRowsOfItem};
-ghost use Rattle.pair_check.specs.Views.{checked_by, IsWholeView};
+ghost use Rattle.pair_check.specs.Singles.{BreaksLimit, bans_what, bans_item, Forbids};
+ghost use Rattle.pair_check.specs.Rows.{Stands, AreRowsWhere, AreRowsOfItem};
+ghost use Rattle.pair_check.specs.Views.{checked_by, deciders_of, IsOffIn, IsForbiddenIn, IsWholeView};
 ghost use Rattle.pair_check.specs.Stages.{IsOff, IsForbidden, IsOfSingle, IsOfKind, AreRowsBelow};
 
 use crate::asked::some_asks;
@@ -74,8 +74,8 @@ fn off_at(view: &CheckView, kind: Kind, single: Single<'_>, n: Nm, layer: RowLay
     requires limit { family kind ≡ Family.Limits }
     requires within { IsNearZero n }
     requires tried { IsTried view.now.board.now.copper layer }
-    ensures broken { MatchOption result (¬ (IsOffAt (deciders (checked_by view.now)) kind single.entry.item.now single.entry.facts.now n layer))
-        (λ off. (off.layer ≡ layer) × IsMeasuredAt kind single.entry.item.now layer × IsOff (deciders (checked_by view.now)) kind single.entry.facts.now n off) }
+    ensures broken { MatchOption result (¬ (IsOffIn view.now kind single.entry n layer))
+        (λ off. (off.layer ≡ layer) × IsMeasuredAt kind single.entry.item.now layer × IsOff (deciders_of view.now) kind single.entry.facts.now n off) }
     ensures range { IfSome result (λ off. IsLength off.limit.nm) }
 {
     if !is_measured_at(view.board.copper(), kind, single.item, layer) {
@@ -105,8 +105,8 @@ fn first_off(view: &CheckView, kind: Kind, single: Single<'_>, n: Nm) -> Option<
     requires few { length view.now.rules.now < 4294967295 }
     requires limit { family kind ≡ Family.Limits }
     requires within { IsNearZero n }
-    ensures broken { MatchOption result (HoldsNowhere view.now.board.now.copper (IsOffAt (deciders (checked_by view.now)) kind single.entry.item.now single.entry.facts.now n))
-        (λ off. IsOff (deciders (checked_by view.now)) kind single.entry.facts.now n off × IsFirst view.now.board.now.copper (IsOffAt (deciders (checked_by view.now)) kind single.entry.item.now single.entry.facts.now n) off.layer) }
+    ensures broken { MatchOption result (HoldsNowhere view.now.board.now.copper (IsOffIn view.now kind single.entry n))
+        (λ off. IsOff (deciders_of view.now) kind single.entry.facts.now n off × IsFirst view.now.board.now.copper (IsOffIn view.now kind single.entry n) off.layer) }
     ensures range { IfSome result (λ off. IsLength off.limit.nm) }
 {
     let places = places_measured(kind, single.item.copper.as_slice());
@@ -120,12 +120,12 @@ fn first_off(view: &CheckView, kind: Kind, single: Single<'_>, n: Nm) -> Option<
     None
 }
 
-/// That a limit is broken.
+/// The row of a limit that is broken, if one is.
 fn limit_row(view: &CheckView, kind: Kind, id: u32, single: Single<'_>) -> Option<Row>
     requires few { length view.now.rules.now < 4294967295 }
     requires limit { family kind ≡ Family.Limits }
-    ensures { MatchOption result ((row : PlainRow) → ¬ (IsOfKind (IsOfSingle (deciders (checked_by view.now)) single.entry.item.now single.entry.facts.now id) kind row))
-        (λ row. IsOfKind (IsOfSingle (deciders (checked_by view.now)) single.entry.item.now single.entry.facts.now id) kind row) }
+    ensures { MatchOption result ((row : PlainRow) → ¬ (IsOfKind (IsOfSingle (deciders_of view.now) single.entry.item.now single.entry.facts.now id) kind row))
+        (λ row. IsOfKind (IsOfSingle (deciders_of view.now) single.entry.item.now single.entry.facts.now id) kind row) }
 {
     let n = length_of(kind, single.item)?;
     let off = first_off(view, kind, single, n)?;
@@ -187,8 +187,8 @@ fn forbidden_at(
     requires few { length view.now.rules.now < 4294967295 }
     requires ban { family kind ≡ Family.Forbids }
     requires tried { IsTried view.now.board.now.copper layer }
-    ensures { MatchOption result (¬ (IsForbiddenAt (deciders (checked_by view.now)) kind single.entry.item.now single.entry.facts.now layer))
-        (λ found. (found.layer ≡ layer) × IsAskedAt single.entry.item.now single.entry.item.now.what layer × IsForbidden (deciders (checked_by view.now)) kind single.entry.item.now single.entry.facts.now found) }
+    ensures { MatchOption result (¬ (IsForbiddenIn view.now kind single.entry layer))
+        (λ found. (found.layer ≡ layer) × IsAskedAt single.entry.item.now single.entry.item.now.what layer × IsForbidden (deciders_of view.now) kind single.entry.item.now single.entry.facts.now found) }
 {
     if !is_asked_at(view.board.copper(), single.item, layer) {
         return None;
@@ -212,9 +212,9 @@ fn forbidden_at(
 fn first_forbidden(view: &CheckView, kind: Kind, single: Single<'_>) -> Option<Forbidden>
     requires few { length view.now.rules.now < 4294967295 }
     requires ban { family kind ≡ Family.Forbids }
-    ensures { MatchOption result (HoldsNowhere view.now.board.now.copper (IsForbiddenAt (deciders (checked_by view.now)) kind single.entry.item.now single.entry.facts.now))
-        (λ found. IsForbidden (deciders (checked_by view.now)) kind single.entry.item.now single.entry.facts.now found
-        × IsFirst view.now.board.now.copper (IsForbiddenAt (deciders (checked_by view.now)) kind single.entry.item.now single.entry.facts.now) found.layer) }
+    ensures { MatchOption result (HoldsNowhere view.now.board.now.copper (IsForbiddenIn view.now kind single.entry))
+        (λ found. IsForbidden (deciders_of view.now) kind single.entry.item.now single.entry.facts.now found
+        × IsFirst view.now.board.now.copper (IsForbiddenIn view.now kind single.entry) found.layer) }
 {
     let places = places_of_items();
     for place in places.from..places.to {
@@ -227,12 +227,12 @@ fn first_forbidden(view: &CheckView, kind: Kind, single: Single<'_>) -> Option<F
     None
 }
 
-/// That the item is forbidden.
+/// The row that the item is forbidden, if it is.
 fn ban_row(view: &CheckView, kind: Kind, id: u32, single: Single<'_>) -> Option<Row>
     requires few { length view.now.rules.now < 4294967295 }
     requires ban { family kind ≡ Family.Forbids }
-    ensures { MatchOption result ((row : PlainRow) → ¬ (IsOfKind (IsOfSingle (deciders (checked_by view.now)) single.entry.item.now single.entry.facts.now id) kind row))
-        (λ row. IsOfKind (IsOfSingle (deciders (checked_by view.now)) single.entry.item.now single.entry.facts.now id) kind row) }
+    ensures { MatchOption result ((row : PlainRow) → ¬ (IsOfKind (IsOfSingle (deciders_of view.now) single.entry.item.now single.entry.facts.now id) kind row))
+        (λ row. IsOfKind (IsOfSingle (deciders_of view.now) single.entry.item.now single.entry.facts.now id) kind row) }
 {
     let found = first_forbidden(view, kind, single)?;
     Some(Row {
@@ -253,8 +253,8 @@ fn add_limit(view: &CheckView, kind: Kind, id: u32, single: Single<'_>, rows: &m
     requires few { length view.now.rules.now < 4294967295 }
     requires limit { family kind ≡ Family.Limits }
     requires room { length rows.old < 8 }
-    requires below { AreRowsBelow (IsOfSingle (deciders (checked_by view.now)) single.item.now single.facts.now id) (kind_number kind) rows.old }
-    ensures rows { AreRowsBelow (IsOfSingle (deciders (checked_by view.now)) single.entry.item.now single.entry.facts.now id) (kind_number kind + 1) rows.new }
+    requires below { AreRowsBelow (IsOfSingle (deciders_of view.now) single.item.now single.facts.now id) (kind_number kind) rows.old }
+    ensures rows { AreRowsBelow (IsOfSingle (deciders_of view.now) single.entry.item.now single.entry.facts.now id) (kind_number kind + 1) rows.new }
     ensures count { length rows.new ≤ length rows.old + 1 }
 {
     if let Some(row) = limit_row(view, kind, id, single) {
@@ -268,8 +268,8 @@ fn add_forbidden(view: &CheckView, kind: Kind, id: u32, single: Single<'_>, rows
     requires few { length view.now.rules.now < 4294967295 }
     requires ban { family kind ≡ Family.Forbids }
     requires room { length rows.old < 8 }
-    requires below { AreRowsBelow (IsOfSingle (deciders (checked_by view.now)) single.item.now single.facts.now id) (kind_number kind) rows.old }
-    ensures rows { AreRowsBelow (IsOfSingle (deciders (checked_by view.now)) single.entry.item.now single.entry.facts.now id) (kind_number kind + 1) rows.new }
+    requires below { AreRowsBelow (IsOfSingle (deciders_of view.now) single.item.now single.facts.now id) (kind_number kind) rows.old }
+    ensures rows { AreRowsBelow (IsOfSingle (deciders_of view.now) single.entry.item.now single.entry.facts.now id) (kind_number kind + 1) rows.new }
     ensures count { length rows.new ≤ length rows.old + 1 }
 {
     if let Some(row) = ban_row(view, kind, id, single) {
@@ -283,8 +283,8 @@ fn add_ban(view: &CheckView, kind: Kind, id: u32, single: Single<'_>, rows: &mut
     requires few { length view.now.rules.now < 4294967295 }
     requires ban { family kind ≡ Family.Forbids }
     requires room { length rows.old < 8 }
-    requires below { AreRowsBelow (IsOfSingle (deciders (checked_by view.now)) single.item.now single.facts.now id) (kind_number kind) rows.old }
-    ensures rows { AreRowsBelow (IsOfSingle (deciders (checked_by view.now)) single.entry.item.now single.entry.facts.now id) (kind_number kind + 1) rows.new }
+    requires below { AreRowsBelow (IsOfSingle (deciders_of view.now) single.item.now single.facts.now id) (kind_number kind) rows.old }
+    ensures rows { AreRowsBelow (IsOfSingle (deciders_of view.now) single.entry.item.now single.entry.facts.now id) (kind_number kind + 1) rows.new }
     ensures count { length rows.new ≤ length rows.old + 1 }
 {
     if some_asks(view.rules, kind) {
@@ -295,7 +295,7 @@ fn add_ban(view: &CheckView, kind: Kind, id: u32, single: Single<'_>, rows: &mut
 /// The rows of the item.
 fn rows_of(alloc: Global, view: &CheckView, id: u32, single: Single<'_>) -> PairRows
     requires few { length view.now.rules.now < 4294967295 }
-    ensures { AreRowsWhere (IsOfSingle (deciders (checked_by view.now)) single.entry.item.now single.entry.facts.now id) result }
+    ensures { AreRowsWhere (IsOfSingle (deciders_of view.now) single.entry.item.now single.entry.facts.now id) result }
 {
     let mut rows = PairRows::new(alloc);
     add_limit(view, Kind::TrackWidth, id, single, &mut rows);

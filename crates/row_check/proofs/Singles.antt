@@ -7,7 +7,9 @@ use Rattle.std.proofs.lemmas.List.Elements.{Contains-append_left, Contains-push,
 use Rattle.board_items.specs.declared.item.Item.{Item}
 use Rattle.board_items.specs.Boards.{item_at}
 use Rattle.pair_check.specs.PlainRow.{PlainRow}
-use Rattle.pair_check.specs.Rows.{Checked, IsRowOfOne, AreRowsOfItem}
+use Rattle.pair_check.specs.Alone.{BreaksNothing}
+use Rattle.pair_check.specs.Singles.{BreaksAlone}
+use Rattle.pair_check.specs.Rows.{Checked, deciders, IsRowOfOne, AreRowsOfItem}
 use Rattle.row_check.specs.Walks.{HasMore}
 use Rattle.row_check.specs.Whole.{AreSingles}
 use Rattle.row_check.proofs.RowLists.{nothing, no_rows, joined}
@@ -22,6 +24,18 @@ missing item e = cc
 -- an id without an item has no rows
 pub no_single : (c : Checked) (id : ℕ) → item_at c.board.items id ≡ None → AreRowsOfItem c id []
 no_single c id e = no_rows (λ row. IsRowOfOne c row × (row.first ≡ id)) (λ row h. missing h.0.item (sym e ∙ (sym (ap (item_at c.board.items) h.1) ∙ h.0.first.item_is)))
+
+same_item : (item other : Item) → Some item ≡ Some other → item ≡ other
+same_item item other e = cc
+
+-- neither has one that breaks nothing
+pub no_broken : (c : Checked) (id : ℕ) (item : Item) → item_at c.board.items id ≡ Some item → BreaksNothing (deciders c) item → AreRowsOfItem c id []
+no_broken c id item e nothing = no_rows (λ row. IsRowOfOne c row × (row.first ≡ id)) not_broken
+  where
+    not_broken : (row : PlainRow) → IsRowOfOne c row × (row.first ≡ id) → ⊥
+    not_broken row h =
+        let same = same_item h.0.item item (sym h.0.first.item_is ∙ (ap (item_at c.board.items) h.1 ∙ e)) in
+        nothing.none h.0.facts row.kind row (subst (λ (i : Item). BreaksAlone (deciders c) row.kind i h.0.facts row) same h.0.broken)
 
 module _ (c : Checked) (ids : List ℕ) (up : IsStrictlyIncreasing ids) where
   pub no_singles : AreSingles c [] []

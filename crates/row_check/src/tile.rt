@@ -6,8 +6,8 @@ ghost use Rattle.geo_seg.specs.Boxes.{FitsWithin};
 ghost use Rattle.box_index.specs.declared.entry.Entry.{Entry};
 ghost use Rattle.box_index.specs.Tiles.{IsRising};
 ghost use Rattle.pair_check.specs.Asked.{IsNoteOf};
-ghost use Rattle.pair_check.specs.Rows.{deciders, AreRowsOfPair};
-ghost use Rattle.pair_check.specs.Views.{checked_by, IsWholeView};
+ghost use Rattle.pair_check.specs.Rows.{AreRowsOfPair};
+ghost use Rattle.pair_check.specs.Views.{checked_by, deciders_of, IsWholeView};
 ghost use Rattle.row_check.specs.Blocks.{AreBlocks, StartsOwned};
 ghost use Rattle.row_check.specs.Hands.{StandsAt};
 ghost use Rattle.row_check.specs.Tiles.{IsIndexOf, AreRowsOfTile, is_changed, most_steps};
@@ -115,7 +115,7 @@ fn push_pair<L: Ledger>(
     steps: &mut Steps<L>,
 ) -> Result<(), AllocError>
     requires view { IsWholeView tested.now.view.now }
-    requires asked { IsNoteOf (deciders (checked_by tested.now.view.now)) tested.now.asked }
+    requires asked { IsNoteOf (deciders_of tested.now.view.now) tested.now.asked }
     requires ordered { one.id < other.id }
     requires first { StandsAt (checked_by tested.now.view.now) one }
     requires second { StandsAt (checked_by tested.now.view.now) other }
@@ -167,7 +167,7 @@ fn push_beside<L: Ledger>(
     steps: &mut Steps<L>,
 ) -> Result<(), AllocError>
     requires view { IsWholeView tested.now.view.now }
-    requires asked { IsNoteOf (deciders (checked_by tested.now.view.now)) tested.now.asked }
+    requires asked { IsNoteOf (deciders_of tested.now.view.now) tested.now.asked }
     requires hands { All (StandsAt (checked_by tested.now.view.now)) tested.now.hands.now }
     requires same { one.id ≡ first.now.id }
     requires first { StandsAt (checked_by tested.now.view.now) one }
@@ -201,7 +201,7 @@ fn push_rows<L: Ledger>(
     steps: &mut Steps<L>,
 ) -> Result<(), AllocError>
     requires view { IsWholeView tested.now.view.now }
-    requires asked { IsNoteOf (deciders (checked_by tested.now.view.now)) tested.now.asked }
+    requires asked { IsNoteOf (deciders_of tested.now.view.now) tested.now.asked }
     requires hands { All (StandsAt (checked_by tested.now.view.now)) tested.now.hands.now }
     requires rising { IsRising (first.now ∷ others.now) }
     requires fits { All (λ e. FitsWithin (pos 2000000000) e.bounds) (first.now ∷ others.now) }

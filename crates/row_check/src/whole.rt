@@ -1,19 +1,21 @@
 //! The rows of many tiles and items, and of a whole board.
 
-ghost use Rattle.std.specs.Prelude.{◌≡◌, ◌<◌, IfOk, OnOk};
+ghost use Rattle.std.specs.Prelude.{◌≡◌, ◌<◌, true, IfOk, IfSome, OnOk};
 ghost use Rattle.std.specs.List.Sorted.{IsStrictlyIncreasing};
 ghost use Rattle.box_index.specs.Tiles.{IsSoundIndex};
+ghost use Rattle.pair_check.specs.Alone.{AreEnoughAlone, BreaksNothing};
+ghost use Rattle.pair_check.specs.Pairs.{Deciders};
 ghost use Rattle.pair_check.specs.Rows.{AreRows, AreRowsOfItem, AreRowsWhere};
-ghost use Rattle.pair_check.specs.Views.{checked_by, IsWholeView};
+ghost use Rattle.pair_check.specs.Views.{checked_by, deciders_of, IsWholeView};
 ghost use Rattle.row_check.specs.Tiles.{IsIndexOf, AreRowsOfTile};
 ghost use Rattle.row_check.specs.Walks.{HasMore};
 ghost use Rattle.row_check.specs.Whole.{AreOnceWhere, AreSingles, IsOfTiles, IsOfChanged, ids_of};
 
 use crate::order::put_in_order;
 use crate::tile::test_tile;
-use board_items::Board;
+use board_items::{Board, Item};
 use box_index::TileIndex;
-use pair_check::{CheckView, Row, Steps, test_item};
+use pair_check::{CheckView, Enough, Row, Steps, enough_alone, test_item};
 use std::alloc::{AllocError, Global};
 use std::marker::Brand;
 use std::sync::ledger::{Blank, Ledger};
@@ -73,19 +75,34 @@ fn rows_of_tiles<L: Ledger>(
     Ok(rows)
 }
 
-/// Appends the rows of a single item, if there is one of the id.
+/// Whether the item is known to break nothing.
+fn breaks_nothing(enough: Option<Enough>, item: &Item) -> bool
+    ensures { (d : Deciders) → IfSome enough (AreEnoughAlone d) → result ≡ true → BreaksNothing d item.now }
+{
+    match enough {
+        Some(enough) => enough.is_had_by(item),
+        None => false,
+    }
+}
+
+/// Appends the rows of a single item, if there is one of the id. Most items have enough of all that is asked for.
 fn push_single(
     alloc: Global,
     view: &CheckView,
+    enough: Option<Enough>,
     id: u32,
     rows: &mut Vec<Row>,
 ) -> Result<(), AllocError>
-    requires { IsWholeView view.now }
+    requires view { IsWholeView view.now }
+    requires enough { IfSome enough (AreEnoughAlone (deciders_of view.now)) }
     ensures { OnOk result (HasMore (AreRowsOfItem (checked_by view.now) id) rows.old.items rows.new.items) }
 {
     match view.board.get(id) {
         None => Ok(()),
-        Some(_) => {
+        Some(item) => {
+            if breaks_nothing(enough, item) {
+                return Ok(());
+            }
             let found = test_item(alloc, view, id);
             rows.extend_from_slice(found.as_slice())?;
             Ok(())
@@ -105,8 +122,9 @@ pub fn push_singles(
     requires rise { IsStrictlyIncreasing ids.now }
     ensures { OnOk result (HasMore (AreSingles (checked_by view.now) ids.now) rows.old.items rows.new.items) }
 {
+    let enough = enough_alone(view);
     for id in ids {
-        push_single(alloc, view, *id, rows)?;
+        push_single(alloc, view, enough, *id, rows)?;
     }
     Ok(())
 }
