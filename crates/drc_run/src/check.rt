@@ -81,7 +81,9 @@ fn report<R: Threads + Sync + AllocGlobal, W: Sink, G: Gate>(
     ) {
         Ok((mut session, applied)) => {
             let tiles = tiles_of(&applied);
-            go_through(rt, gate, way, &mut session, tiles, commands, out)
+            let status = go_through(rt, gate, way, &mut session, tiles, commands, out);
+            session.end(rt, way.workers);
+            status
         }
         Err(_) => Status::OutOfMemory,
     }

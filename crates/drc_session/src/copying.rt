@@ -19,7 +19,7 @@ fn copy_nets(alloc: Global, nets: &[NetPart]) -> Result<Vec<NetPart>, AllocError
     Ok(copy)
 }
 
-/// The same of another session.
+/// Equal parts, for another session.
 fn copy_parts(parts: &Parts) -> Result<Parts, AllocError>
     requires { IsKept parts.now }
     ensures kept { IfOk result IsKept }

@@ -19,7 +19,7 @@ mod session;
 pub use applied::Applied;
 pub use session::Session;
 
-/// Each type may go to another thread and be shared by threads.
+/// Takes a type that may go to another thread and be shared by threads. The calls of it show that each type may.
 fn crosses<T: Send + Sync>() {}
 
 fn sessions_cross() {

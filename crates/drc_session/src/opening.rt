@@ -1,6 +1,8 @@
 //! Sessions that begin.
 
-ghost use Rattle.std.specs.Prelude.{◌≡◌, ◌<◌, ◌≤◌, false, length, IfOk};
+ghost use Rattle.std.specs.Prelude.{◌≡◌, ◌<◌, ◌≤◌, ◌≤ℤ◌, pos, false, length, IfOk};
+ghost use Rattle.board_index.specs.Holding.{IsIndexOfItems};
+ghost use Rattle.rule_pick.specs.AllFacts.{HasFacts};
 ghost use Rattle.rule_text.specs.Views.{plain_rules};
 ghost use Rattle.drc_session.specs.Sessions.{IsOpened, IsDealt};
 ghost use Rattle.drc_session.specs.Holding.{state_of, IsKept};
@@ -10,16 +12,53 @@ use crate::checking::check_all;
 use crate::parts::Parts;
 use crate::session::Session;
 use board_index::index_of;
-use board_items::Board;
+use board_items::{Board, Nm};
+use box_index::TileIndex;
 use item_facts::reach;
 use kept_facts::all_facts_by;
 use kept_nets::all_parts;
 use net_class::Classes;
 use row_check::CheckView;
+use rule_pick::FactsById;
 use rule_text::Rules;
 use std::alloc::{AllocError, AllocGlobal, Global};
-use std::thread::Threads;
+use std::thread::{Threads, join};
 use tile_pool::Gate;
+
+/// The facts of all items, and the index of them: side by side where there are several workers.
+fn facts_and_index(
+    rt: &(impl Threads + Sync),
+    alloc: Global,
+    workers: u32,
+    board: &Board,
+    classes: &Classes,
+    reach: Nm,
+) -> Result<(FactsById, TileIndex), AllocError>
+    requires from { pos 0 ≤ℤ reach }
+    requires to { reach ≤ℤ pos 500000000 }
+    ensures facts { IfOk result (λ r. HasFacts board.now classes.now r.0) }
+    ensures items { IfOk result (λ r. IsIndexOfItems board.now r.1) }
+    ensures reach { IfOk result (λ r. r.1.reach ≡ reach) }
+{
+    if workers == 1 {
+        let facts = all_facts_by(rt, alloc, workers, board, classes)?;
+        let index = index_of(alloc, board, reach)?;
+        return Ok((facts, index));
+    }
+    let (facts, index) = join(
+        rt,
+        || -> Result<FactsById, AllocError>
+            ensures { IfOk result (HasFacts board.entry.now classes.entry.now) }
+        { all_facts_by(rt, alloc, workers, board, classes) },
+        || -> Result<TileIndex, AllocError>
+            requires from { pos 0 ≤ℤ reach }
+            requires to { reach ≤ℤ pos 500000000 }
+            ensures items { IfOk result (IsIndexOfItems board.entry.now) }
+            ensures reach { IfOk result (λ index. index.reach ≡ reach) }
+        { index_of(alloc, board, reach) },
+    );
+    Ok((facts?, index?))
+}
 
 /// All that is found of the board.
 fn open<R: Threads + Sync, G: Gate>(
@@ -37,9 +76,8 @@ fn open<R: Threads + Sync, G: Gate>(
     ensures state { IfOk result (λ r. state_of r.0 ≡ record { board = board; classes = classes; rules = plain_rules rules }) }
     ensures applied { IfOk result (λ r. IsOpened (state_of r.0) r.1 × IsDealt workers r.1) }
 {
-    let facts = all_facts_by(rt, alloc, workers, &board, &classes)?;
     let reach = reach(&board, &classes, rules.rules.as_slice());
-    let index = index_of(alloc, &board, reach)?;
+    let (facts, index) = facts_and_index(rt, alloc, workers, &board, &classes, reach)?;
     let view = CheckView {
         board: &board,
         facts: &facts,

@@ -8,5 +8,5 @@ use Rattle.drc_run.proofs.check.report.Goals as goal
 pub returns-in-Ok-clause-ends : goal.returns-in-Ok-clause-ends
 returns-in-Ok-clause-ends g c =
     let commands = map plain_command c.args.commands.now in
-    subst (λ (s : State). Ends (IsTold c.args.way.short s commands) (IsToldSoFar c.args.way.short s commands) (λ _. ⊥) (g.W.Sink.written c.args.out.now) (g.W.Sink.written c.go_through.new.out) c.go_through.result)
-    c.in-Ok.ensures.state c.go_through.ensures.ends
+    subst (λ (s : State). Ends (IsTold c.args.way.short s commands) (IsToldSoFar c.args.way.short s commands) (λ _. ⊥) (g.W.Sink.written c.args.out.now) (g.W.Sink.written c.go_through-status.new.out) c.go_through-status.result)
+    c.in-Ok.ensures.state c.go_through-status.ensures.ends
