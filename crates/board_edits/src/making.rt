@@ -27,7 +27,7 @@ pub struct Made {
     pub back: Deed,
 }
 
-/// What holds of each board.
+/// Shows that the board is sound, as each is. It does nothing.
 fn is_sound(board: &Board)
     ensures { IsSound board.now }
 {

@@ -52,7 +52,7 @@ fn unit_in(found: Found) -> Result<u32, Refusal>
     }
 }
 
-/// That the unit is taken out.
+/// The deed that takes the unit out, or why there is none.
 fn taken_out(found: Found) -> Result<Deed, Refusal>
     ensures answer { plain_answer result ≡ to_unit found (λ unit. Ok (take_out unit)) }
 {
@@ -60,7 +60,7 @@ fn taken_out(found: Found) -> Result<Deed, Refusal>
     Ok(Deed::TakeOut { unit })
 }
 
-/// That the unit is moved, where all of it stays on the board. `at` is the place of the command.
+/// The deed that moves the unit, where all of it stays on the board, or why there is none. `at` is the place of the command.
 fn shifted(board: &Board, found: Found, dx: Nm, dy: Nm, at: u32) -> Result<Deed, Refusal>
     requires dx { IsNear dx }
     requires dy { IsNear dy }

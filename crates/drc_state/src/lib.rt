@@ -11,7 +11,7 @@ pub use change::{Change, Edit, change_of, edit_in};
 pub use error::EditError;
 pub use planning::edit_of;
 
-/// Each type may go to another thread and be shared by threads.
+/// Takes a type that may go to another thread and be shared by threads. The calls of it show that each type may.
 fn crosses<T: Send + Sync>() {}
 
 fn all_cross() {

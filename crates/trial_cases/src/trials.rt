@@ -36,8 +36,8 @@ impl<'a, R: Threads + Sync> TileWork for Trials<'a, R> {
 
     ghost gives = { λ _ _ _. Unit {0} };
 
-    /// That the runtime gives an allocator is known of the thread alone that it was passed to.
     fn test(&self, alloc: Global, number: u32) -> Result<Answer, AllocError> {
+        // That the runtime gives an allocator is known of the thread alone that it was passed to.
         let rt = (self.rt, alloc);
         answer_at(&rt, self.session, self.commands, number as usize)
     }

@@ -20,7 +20,7 @@ impl TrialError {
     ghost use Rattle.plain_types.specs.Reasons.{plain_reason};
     ghost use Rattle.what_if.specs.Reasons.{reason_in, name_of, code_of};
 
-    /// A command is told by its step and has no place here.
+    /// Its reason, which has no place: a command is told by its step.
     fn reason(&self) -> Reason
         ensures { plain_reason result ≡ reason_in self.now }
     {

@@ -53,9 +53,9 @@ impl<'a, R: Threads + Sync, G: Gate> TileWork for Trials<'a, R, G> {
 
     ghost gives = { λ work number counts. AreCountsFrom work.session.now.state (map plain_command work.commands.now) work.stride number counts.items };
 
-    /// The runtime goes beside the allocator of the work. That it gives one itself is known of the thread alone that calls for the survey,
-    /// and a trial starts threads.
     fn test(&self, alloc: Global, number: u32) -> Result<Vec<Option<u64>>, AllocError> {
+        // The runtime goes beside the allocator of the work. That it gives one itself is known of the thread alone that calls for the survey,
+        // and a trial starts threads.
         let rt = (self.rt, alloc);
         let mut desk = Desk::new(self.session);
         let mut counts = Vec::new(alloc);
