@@ -26,7 +26,7 @@ impl ItemError {
     ghost use Rattle.plain_types.specs.Reasons.{plain_reason};
     ghost use Rattle.board_errors.specs.Reasons.{item_reason_in, item_name_of, item_code_of};
 
-    /// An item that is not taken stands in no text.
+    /// What it is called, and its number. It has no place: an item that is not taken stands in no text.
     fn reason(&self) -> Reason
         ensures { plain_reason result ≡ item_reason_in self.now }
     {

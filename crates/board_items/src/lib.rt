@@ -32,7 +32,7 @@ pub use parts::{Part, Parts};
 pub use turns::turn;
 pub use walk::{BoardIter, BoardNets, UnitIter};
 
-/// Each type may go to another thread and be shared by threads.
+/// Takes a type that may go to another thread and be shared by threads. The calls of it show that each type may.
 fn crosses<T: Send + Sync>() {}
 
 fn all_cross() {

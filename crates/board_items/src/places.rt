@@ -53,7 +53,7 @@ pub(crate) fn places_in(units: &[u32], in_order: bool, unit: u32) -> Places
 }
 
 impl Board {
-    /// The same of the unit's items: no other id is one of theirs.
+    /// Places among which all items of the unit are: no other id is one of theirs.
     pub(crate) fn places_of(&self, unit: u32) -> Places
         ensures ordered { result.from ≤ result.end }
         ensures within { result.end ≤ self.now.next_id }

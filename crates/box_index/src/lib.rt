@@ -22,7 +22,7 @@ pub use entry::Entry;
 pub use index::{Nm, TileIndex};
 pub use near::{push_ids_near, put_in_order};
 
-/// Each type may go to another thread and be shared by threads.
+/// Takes a type that may go to another thread and be shared by threads. The calls of it show that each type may.
 fn crosses<T: Send + Sync>() {}
 
 fn entries_cross() {

@@ -25,7 +25,8 @@ impl CondError {
     ghost use Rattle.plain_types.specs.Reasons.{plain_reason};
     ghost use Rattle.cond_lang.specs.Reasons.{reason_in, carried_cond_reason_in, name_of, code_of, cond_place_of};
 
-    /// Want of memory has no number, which is written 0, and no place.
+    /// What it is called, its number and its place, by itself and in an error that carries it. Want of memory has no number,
+    /// which is written 0, and no place.
     fn reasons(&self) -> Reasons
         ensures own { plain_reason result.own ≡ reason_in self.now }
         ensures carried { plain_reason result.carried ≡ carried_cond_reason_in self.now }

@@ -26,7 +26,7 @@ pub use reader::parse_cond;
 pub use rule::{Disallow, RuleLayer, Severity};
 pub use terms::{Func, Op, Prop, Side, Term};
 
-/// Each type may go to another thread and be shared by threads.
+/// Takes a type that may go to another thread and be shared by threads. The calls of it show that each type may.
 fn crosses<T: Send + Sync>() {}
 
 fn all_cross() {

@@ -177,7 +177,7 @@ pub fn fetch<F: Shelf>(
     Err(FetchError::TooLong)
 }
 
-/// Each type may go to another thread and be shared by threads.
+/// Takes a type that may go to another thread and be shared by threads. The calls of it show that each type may.
 fn crosses<T: Send + Sync>() {}
 
 fn all_cross() {

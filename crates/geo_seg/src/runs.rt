@@ -19,16 +19,19 @@ use std::alloc::{AllocError, Global};
 /// A run whose box is kept has so many parts: the shortest so many edges, and each longer one so many runs of the size before.
 pub const RUN_PARTS: usize = 8;
 
-/// How many edges the shortest runs have, and so on up to the longest.
+/// How many edges the shortest runs have, those of the first row.
 pub const FIRST_RUN: usize = RUN_PARTS;
 
+/// How many edges the runs of the second row have.
 pub const SECOND_RUN: usize = RUN_PARTS * FIRST_RUN;
 
+/// How many edges the runs of the third row have.
 pub const THIRD_RUN: usize = RUN_PARTS * SECOND_RUN;
 
+/// How many edges the longest runs have, those of the fourth row.
 pub const FOURTH_RUN: usize = RUN_PARTS * THIRD_RUN;
 
-/// Frame `whole` holds all corners. Of each row frame k holds the edges from k times the row's size on, so many as that size is.
+/// A polygon with the frames of its runs. Frame `whole` holds all corners. Of each row frame k holds the edges from k times the row's size on, so many as that size is.
 #[derive(Drop)]
 pub struct Indexed {
     pub corners: Vec<Point>,

@@ -39,7 +39,7 @@ fn newly_touched(net: &Conductors<'_>, labels: &[Option<usize>], place: usize, o
     labels[other].is_none() && touch_on(net.board, net.ids[place], net.ids[other])
 }
 
-/// Labels all that the place touches, and puts the new ones on the stack. Each place before the first has a label.
+/// `visit` without an index: the rooms of all places from the first on are gone through.
 fn visit_rooms(
     net: &Conductors<'_>,
     first: usize,

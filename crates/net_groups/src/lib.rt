@@ -22,7 +22,7 @@ pub use group::Group;
 pub use laws::{one_list, one_list_of_anchors, part_stays, parts_are_writable};
 pub use of_net::groups;
 
-/// Each type may go to another thread and be shared by threads.
+/// Takes a type that may go to another thread and be shared by threads. The calls of it show that each type may.
 fn crosses<T: Send + Sync>() {}
 
 fn groups_cross() {

@@ -97,7 +97,7 @@ fn grow_on(
     Ok(())
 }
 
-/// Only the first anchor's group is reached.
+/// Reaches the first anchor's group, and no other.
 fn start(
     anchors: &[Anchor],
     reached: &mut [bool],

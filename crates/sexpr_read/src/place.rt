@@ -35,7 +35,8 @@ impl TextError {
     ghost use Rattle.plain_types.specs.Reasons.{plain_reason};
     ghost use Rattle.sexpr_read.specs.Reasons.{reason_in, carried_reason_in, name_of, code_of, place_of};
 
-    /// Want of memory has no number, which is written 0, and no place. An empty text is refused at 0.
+    /// What it is called, its number and its place, by itself and in an error that carries it. Want of memory has no number,
+    /// which is written 0, and no place. An empty text is refused at 0.
     fn reasons(&self) -> Reasons
         ensures own { plain_reason result.own ≡ reason_in self.now }
         ensures carried { plain_reason result.carried ≡ carried_reason_in self.now }

@@ -17,7 +17,7 @@ pub(crate) struct Share<X> {
 }
 
 impl<X: Drop> Share<X> {
-    /// There is room for all numbers.
+    /// No number is taken. There is room in the hand for all numbers.
     pub(crate) fn new(alloc: Global, tiles: u32) -> Result<Share<X>, AllocError>
         ensures { IfOk result (λ s. (s.hand.items ≡ []) × (s.batch.items ≡ []) × (s.failed ≡ false) × (tiles ≤ vec_capacity s.hand)) }
     {
@@ -28,6 +28,7 @@ impl<X: Drop> Share<X> {
         })
     }
 
+    /// Whether the hand takes one more number without asking for memory.
     pub(crate) fn has_room(&self) -> bool
         ensures { result ≡ true → vec_len self.now.hand < vec_capacity self.now.hand }
     {
