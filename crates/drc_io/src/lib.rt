@@ -5,7 +5,7 @@
 //! [`MemShelf`] and [`MemSink`] are a shelf and a sink in memory that fail where they are told to.
 #![tactic(auto)]
 
-ghost use Rattle.std.specs.Prelude.{◌≡◌, ◌<◌, ◌≤◌, ◌^◌, ◌⊎◌, ℕ, List, Option, length, vec_len, take, IfOk, IfErr, IfSome, OnErr};
+ghost use Rattle.std.specs.Prelude.{◌≡◌, ◌<◌, ◌≤◌, ◌^◌, ◌⊎◌, ℕ, List, Option, length, vec_len, IfOk, IfErr, IfSome, OnErr};
 ghost use Rattle.std.specs.Io.KnownBytes.{WriteAppends};
 ghost use Rattle.drc_io.specs.Causes.{HasCause, Rose};
 ghost use Rattle.drc_io.specs.Fetching.{Decides};

@@ -4,7 +4,7 @@
 //! here, cut toward zero. What a script says is defined in `specs/CommandsOf`.
 #![tactic(auto)]
 
-ghost use Rattle.std.specs.Prelude.{◌≡◌, ◌≤◌, ◌⊎◌, ℕ, List, length, map, sum_by, All, IfOk, MatchResult, Result, Ok, Err};
+ghost use Rattle.std.specs.Prelude.{◌≡◌, ◌≤◌, ◌⊎◌, List, length, map, sum_by, All, IfOk, MatchResult, Result, Ok, Err};
 ghost use Rattle.edit_script.specs.declared.error.ScriptError.{ScriptError};
 ghost use Rattle.edit_script.specs.Commands.{PlainCommand, PlainStep, plain_command, plain_step};
 ghost use Rattle.edit_script.specs.Fits.{Fits, StepFits, added_by, added_by_step};

@@ -1,6 +1,6 @@
 //! The exact quotient of a decimal's digits by its power of ten, at any length of the text and any exponent.
 
-ghost use Rattle.std.specs.Prelude.{◌≡◌, ◌<◌, ◌≤◌, ◌+◌, ◌*◌, ◌^◌, ◌++◌, ℕ, true, length, MatchOption, IfSome};
+ghost use Rattle.std.specs.Prelude.{◌≡◌, ◌<◌, ◌≤◌, ◌+◌, ◌*◌, ◌^◌, ◌++◌, ℕ, true, length, MatchOption};
 ghost use Rattle.std.specs.Str.{all_ascii_digits};
 ghost use Rattle.exact_dec.specs.Decimal.{number};
 ghost use Rattle.exact_dec.specs.Spelled.{spelled, HasDigits, top, bottom, IsQuotient};

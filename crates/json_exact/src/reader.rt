@@ -1,6 +1,5 @@
 // The reader: one pass over the text. The open brackets are kept in the cells themselves.
-ghost use Rattle.std.specs.Prelude.{◌≡◌, ◌≢◌, ◌+◌, ◌-◌, ◌<◌, ◌≤◌, length, IfOk, IfErr, MatchResult, slice_index};
-ghost use Rattle.json_exact.specs.JsonText.{SpelledWithin};
+ghost use Rattle.std.specs.Prelude.{◌≡◌, ◌+◌, ◌-◌, ◌<◌, ◌≤◌, length, IfOk, IfErr, MatchResult};
 ghost use Rattle.json_exact.specs.Refusals.{IsRefused};
 ghost use Rattle.json_exact.specs.Reading.{EndsLeaf, StopsLeaf, ReadsValue, ReadsValueHere, ReadsName, ReadsNameHere, ReadsColon, ReadsFirst, ReadsBehind, Reads, Puts, Opens, Closes, HasOpen, finished, closing_of, with_kind, IsRead};
 

@@ -5,7 +5,7 @@
 
 ghost use Rattle.std.specs.Prelude.{◌≡◌, ◌<◌, ◌≤◌, ◌^◌, ◌+◌, ◌-◌, ◌≢◌, ℕ, length, OnOk, slice_index_or, ◌⊎◌, false, IfOk, All, replicate, []};
 ghost use Rattle.ratsnest.specs.declared.link.Link.{Link};
-ghost use Rattle.ratsnest.specs.NestOf.{group_at, group_count, AnchorsRise, GroupsOccur, IsNest, HasPlaces, IsLeast, JoinAll};
+ghost use Rattle.ratsnest.specs.NestOf.{group_count, AnchorsRise, GroupsOccur, IsNest, HasPlaces, IsLeast, JoinAll};
 ghost use Rattle.ratsnest.specs.Grow.{rank, AreChosen, AreFirst, IsGrown};
 ghost use Rattle.ratsnest.specs.declared.waiting.Waiting.{Waiting};
 ghost use Rattle.ratsnest.specs.Mem.{Mem, Climbs};

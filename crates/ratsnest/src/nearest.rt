@@ -1,8 +1,8 @@
 //! For each label, the least link that leaves the groups that have it.
 
-ghost use Rattle.std.specs.Prelude.{◌≡◌, ◌≢◌, ◌+◌, ◌<◌, ◌≤◌, ℕ, length, slice_index_or, IsTrue, IfOk, IfSome, Some, None, Option, replicate};
+ghost use Rattle.std.specs.Prelude.{◌≡◌, ◌+◌, ◌<◌, ◌≤◌, ℕ, length, slice_index_or, IsTrue, IfOk, IfSome, Some, None, Option, replicate};
 ghost use Rattle.ratsnest.specs.declared.tree.Node.{Node};
-ghost use Rattle.ratsnest.specs.Forest.{AreNodes, AreNames, AreHalves, IsNamed, IsPassed, IsLooked, AreBestTo, label_at, label_of, no_link, spot_at};
+ghost use Rattle.ratsnest.specs.Forest.{AreNodes, AreNames, AreHalves, IsNamed, IsPassed, IsLooked, AreBestTo, label_at, label_of, no_link};
 
 use crate::area::square_from;
 use crate::link::Link;

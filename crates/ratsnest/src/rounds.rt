@@ -2,7 +2,7 @@
 //!
 //! Which link that is, is asked for each anchor of a tree of areas, which passes over what is too far or has the label.
 
-ghost use Rattle.std.specs.Prelude.{◌≡◌, ◌<◌, ◌≤◌, ◌^◌, ◌-◌, ℕ, true, false, length, OnOk, IfOk, []};
+ghost use Rattle.std.specs.Prelude.{◌≡◌, ◌<◌, ◌^◌, ◌-◌, true, false, length, OnOk, IfOk, []};
 ghost use Rattle.ratsnest.specs.declared.link.Link.{Link};
 ghost use Rattle.ratsnest.specs.NestOf.{group_count, AnchorsRise, GroupsOccur};
 ghost use Rattle.ratsnest.specs.Grow.{rank, AreChosen};

@@ -1,5 +1,5 @@
-ghost use Rattle.std.specs.Prelude.{◌≡◌, ◌≢◌, ◌<◌, ◌≤◌, length, true, false, MatchOption, ⊤};
-ghost use Rattle.sexpr_read.specs.declared.bytes.ByteClass.TheVariants.{Space, Quote, Open};
+ghost use Rattle.std.specs.Prelude.{◌≡◌, ◌≢◌, ◌<◌, ◌≤◌, length, true, MatchOption, ⊤};
+ghost use Rattle.sexpr_read.specs.declared.bytes.ByteClass.TheVariants.{Space, Quote};
 ghost use Rattle.sexpr_read.specs.Bytes.{sign_of, is_word};
 ghost use Rattle.sexpr_read.specs.Spelling.{IsGap, IsWord, IsContent};
 ghost use Rattle.sexpr_read.specs.Runs.{IsUnclosed};

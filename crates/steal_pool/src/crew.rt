@@ -1,7 +1,6 @@
 //! Workers, and what they leave.
 
 ghost use Rattle.std.specs.Prelude.{◌≡◌, ℕ, ◌+◌, ◌-◌, ◌<◌, ◌≤◌, [], false, length, map, sum_by, All, IfOk};
-ghost use Rattle.std.specs.Vec.{vec_len, vec_capacity};
 ghost use Rattle.tile_pool.specs.Answers.{AreBatches};
 ghost use Rattle.steal_pool.specs.Members.{IsReady, HaveRun};
 ghost use Rattle.steal_pool.specs.Seats.{AreOwners, AreLines, AreUnused, pushed_by, taken_by, taken_with};

@@ -1,11 +1,11 @@
 //! The deques before a run, and after it.
 
 ghost use Rattle.std.specs.Prelude.{◌≡◌, ℕ, ◌+◌, ◌-◌, ◌<◌, ◌≤◌, length, sum_by, All, IfOk};
-ghost use Rattle.std.specs.Vec.{vec_len, vec_capacity};
+ghost use Rattle.std.specs.Vec.{vec_len};
 ghost use Rattle.claim_board.specs.DealMachine.{sum_below};
 ghost use Rattle.steal_pool.specs.Seats.{AreOwners, AreLines, AreUnused, pushed_by, taken_by, taken_with};
 
-use crate::rule::{Line, Other, Own, Puts, Share, Takes};
+use crate::rule::{Line, Other, Own, Puts, Share};
 use std::alloc::{AllocError, Global};
 
 /// A deque for each worker. Each begins with `room` slots.

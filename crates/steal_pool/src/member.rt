@@ -1,6 +1,6 @@
 //! A worker takes from its own deque until it is empty, and then steals.
 
-ghost use Rattle.std.specs.Prelude.{◌≡◌, ℕ, ◌+◌, ◌<◌, ◌≤◌, [], length, sum_by, All, IfSome, IfNone};
+ghost use Rattle.std.specs.Prelude.{◌≡◌, ℕ, ◌+◌, ◌<◌, ◌≤◌, length, sum_by, All, IfSome, IfNone};
 ghost use Rattle.crossbeam_deque.specs.Handles.{worker_view, worker_flavor, worker_deque};
 ghost use Rattle.steal_pool.specs.Seats.{AreLines, taken_with, taken_of};
 ghost use Rattle.steal_pool.specs.Shares.{IsShare};

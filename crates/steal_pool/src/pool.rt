@@ -1,7 +1,7 @@
 //! Workers that steal from each other, and what each of them took.
 
 ghost use Rattle.std.specs.Prelude.{◌≡◌, ℕ, ◌+◌, ◌-◌, ◌<◌, ◌≤◌, false, length, map, sum_by, All, IfOk};
-ghost use Rattle.std.specs.Vec.{vec_len, vec_capacity};
+ghost use Rattle.std.specs.Vec.{vec_len};
 ghost use Rattle.claim_board.specs.DealMachine.{sum_below, times, once_below};
 ghost use Rattle.tile_pool.specs.Answers.{AreAnswers, AreBatches, AreFull};
 ghost use Rattle.steal_pool.specs.Seats.{AreOwners, AreUnused, pushed_by, taken_by};
