@@ -9,10 +9,6 @@ use Rattle.list_read.specs.Heads.{is_text, is_value}
 use Rattle.copper_layers.specs.Layers.{layer_names}
 use Rattle.part_read.specs.LayersOf.{layer_number}
 
-pub none_left : (n : ℕ) (atom : Tree) → n ≡ 32 → position_from (is_text atom) n (drop n layer_names) ≡ None
-unfolding layer_names
-none_left n atom e = rw e refl
-
 -- the name of the back is the last of the 32
 pub back_is : (atom : Tree) → value atom ≡ Some (codes "B.Cu") → layer_number atom ≡ Some 31
 unfolding layer_number layer_names
