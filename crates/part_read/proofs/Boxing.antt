@@ -1,5 +1,5 @@
 -- Corners of boxes, and radii.
-use Rattle.std.proofs.Common.{◌≡◌, ◌∙◌, refl, ap, subst, [], ◌∷◌, ℤ, pos, ◌≤ℤ◌, unsigned_abs, ◌≤◌, arith}
+use Rattle.std.proofs.Common.{◌≡◌, ◌∙◌, ap, subst, [], ◌∷◌, ℤ, pos, ◌≤ℤ◌, unsigned_abs, ◌≤◌, arith}
 use Rattle.std.proofs.Math.Dec.{T_prop}
 use Rattle.std.specs.Int.Signed.{le_z}
 use Rattle.int_algebra.proofs.Scalars.{passed, passed_is}

@@ -1,5 +1,5 @@
 -- Plain items from what was read of them.
-use Rattle.std.proofs.Common.{◌≡◌, ◌∙◌, refl, ap, subst, ℕ, ℤ, List, None, false, arith}
+use Rattle.std.proofs.Common.{◌≡◌, ◌∙◌, ap, subst, ℕ, ℤ, List, None, false}
 use Rattle.std.proofs.Props.{props}
 use Rattle.plain_types.specs.Lengths.{IsLengthIfSome}
 use Rattle.board_items.specs.declared.parts.Part.{Part}

@@ -1,6 +1,6 @@
 //! What graphics draw, and the parts that they give where they lie on a board.
 
-ghost use Rattle.std.specs.Prelude.{◌≡◌, ◌<◌, ◌≤◌, pos, ◌∷◌, ◌++◌, [], true, OnOk, Some, None, if◌then◌else◌, length, option_map, IfOk};
+ghost use Rattle.std.specs.Prelude.{◌≡◌, ◌<◌, ◌≤◌, ◌∷◌, ◌++◌, [], true, OnOk, Some, None, if◌then◌else◌, length, option_map, IfOk};
 ghost use Rattle.plain_types.specs.Lengths.{is_length};
 ghost use Rattle.part_read.specs.There.{both, after};
 ghost use Rattle.part_read.specs.Stances.{IsWithin};

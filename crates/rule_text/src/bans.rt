@@ -1,7 +1,7 @@
 //! The words of what is banned.
 
 ghost use Rattle.std.specs.Prelude.{◌≡◌};
-ghost use Rattle.sexpr_read.specs.Views.{tree_of, trees_left};
+ghost use Rattle.sexpr_read.specs.Views.{tree_of};
 ghost use Rattle.cond_lang.specs.Rules.{no_bans};
 ghost use Rattle.rule_text.specs.Forms.{clauses};
 ghost use Rattle.rule_text.specs.Limits.{with_ban, with_bans};

@@ -1,7 +1,7 @@
 //! The texts of conditions.
 
 ghost use Rattle.std.specs.Prelude.{◌≡◌, ◌≤◌, length};
-ghost use Rattle.sexpr_read.specs.Views.{tree_of, trees_left};
+ghost use Rattle.sexpr_read.specs.Views.{tree_of};
 ghost use Rattle.cond_lang.specs.Conditions.{reading};
 ghost use Rattle.cond_lang.specs.Trees.{cond_tree_of};
 ghost use Rattle.rule_text.specs.Forms.{clauses};

@@ -1,7 +1,7 @@
 //! The constraints of a rule.
 
 ghost use Rattle.std.specs.Prelude.{◌≡◌, false, true, map};
-ghost use Rattle.sexpr_read.specs.Views.{tree_of, trees_left};
+ghost use Rattle.sexpr_read.specs.Views.{tree_of};
 ghost use Rattle.cond_lang.specs.Kinds.{is_assertion};
 ghost use Rattle.cond_lang.specs.Rules.{plain_constraint};
 ghost use Rattle.rule_text.specs.Limits.{kind_named};

@@ -6,7 +6,7 @@ ghost use Rattle.sexpr_read.specs.Views.{tree_of};
 ghost use Rattle.list_read.specs.Near.{IsNearText};
 ghost use Rattle.rule_text.specs.ListText.{list_of, moved_text, moved_error};
 ghost use Rattle.rule_text.specs.Near.{IsNear};
-ghost use Rattle.rule_text.specs.Short.{AllShort, IsShort};
+ghost use Rattle.rule_text.specs.Short.{AllShort};
 ghost use Rattle.rule_text.specs.Views.{plain_rules, Gives};
 
 use crate::error::RuleError;

@@ -1,4 +1,4 @@
-use Rattle.std.proofs.Common.{◌≡◌, sym, ◌∷◌, [], arith, true, false}
+use Rattle.std.proofs.Common.{◌≡◌, sym, true, false}
 use Rattle.copper_layers.specs.Layers.{has_layer}
 use Rattle.part_read.proofs.Layering.{any_single, any_none, none_within}
 use Rattle.part_read.proofs.layers.layer_if.Goals as goal

@@ -1,4 +1,4 @@
-use Rattle.std.proofs.Common.{◌∙◌, sym, ap, ◌∷◌, [], arith}
+use Rattle.std.proofs.Common.{◌∙◌, sym, ap}
 use Rattle.sexpr_read.specs.Tree.{parts}
 use Rattle.sexpr_read.specs.Views.{tree_of, trees_left}
 use Rattle.part_read.specs.LayersOf.{listed, layers_listed}

@@ -1,4 +1,4 @@
-use Rattle.std.proofs.Common.{◌≡◌, ◌∷◌, [], arith, true, false}
+use Rattle.std.proofs.Common.{◌≡◌, true, false}
 use Rattle.sexpr_read.specs.Tree.{is_list}
 use Rattle.sexpr_read.specs.Views.{tree_of}
 use Rattle.part_read.specs.LayersOf.{listed}
