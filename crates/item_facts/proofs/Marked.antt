@@ -77,7 +77,7 @@ is_marked item one old new absent own is = record {
 pub no_mark : (id : ℕ) (item : Item) (index : PlainIndex) → is_mark item.what ≡ false → IsMarked id item index index
 no_mark id item index none = record { kept = λ e c. c; only = λ e c other. c; has = λ mark some. absurd cc }
 
-no_parts : (ps : List Part) → AreBoundsOf ps None → ps ≡ []
+pub no_parts : (ps : List Part) → AreBoundsOf ps None → ps ≡ []
 no_parts [] h = refl
 no_parts (p ∷ ps) h = absurd h
 

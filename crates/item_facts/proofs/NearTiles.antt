@@ -1,12 +1,11 @@
 -- The tiles that an item meets, and what they tell of the areas and bodies near it.
-use Rattle.std.proofs.Common.{◌≡◌, refl, subst, ◌∙◌, inl, inr, ℕ, ◌<◌, ◌≤◌, ℤ, pos, neg_ℤ, ◌+ℤ◌, ◌-ℤ◌, ◌≤ℤ◌, int_le, true, false, ◌&&◌, List, [], ◌∷◌, filter, Contains, None, Some, arith}
+use Rattle.std.proofs.Common.{◌≡◌, subst, ◌∙◌, inl, inr, ℕ, ◌<◌, ◌≤◌, ℤ, pos, ◌≤ℤ◌, true, false, List, [], filter, Contains, None, Some, arith}
 use Rattle.std.specs.List.Sorted.{IsStrictlyIncreasing}
 use Rattle.std.proofs.lemmas.Int.{ints}
-use Rattle.std.proofs.lemmas.Bool.{cases_lt, cases_order, and_from}
+use Rattle.std.proofs.lemmas.Bool.{cases_lt, cases_order}
 use Rattle.std.proofs.lemmas.List.Elements.{All-contains}
 use Rattle.geo_seg.specs.declared.boxes.Bounds.{Bounds}
 use Rattle.geo_seg.specs.Boxes.{FitsWithin, BoxesMeet, widened, do_boxes_meet, are_near}
-use Rattle.board_items.specs.declared.parts.Part.{Part}
 use Rattle.board_items.specs.declared.item.Item.{Item}
 use Rattle.board_items.specs.Boards.{PlainBoard, IsSound, item_at, is_mark, marks_of}
 use Rattle.board_items.specs.Parts.{parts_of}
@@ -16,58 +15,16 @@ use Rattle.box_index.specs.declared.entry.Entry.{Entry}
 use Rattle.box_index.specs.Areas.{has_tile, end_of}
 use Rattle.box_index.specs.Tiles.{PlainIndex, IsSoundIndex, margin, meets_tile, near_of, is_in, owner_of}
 use Rattle.box_index.proofs.Buckets.{contains_filter}
+use Rattle.box_index.proofs.Reaching.{meet_true, wider_meets}
 use Rattle.box_index.proofs.TileLemmas.{owns_both}
 use Rattle.item_facts.specs.Near.{DoRise, HasMet, HasReached, IsWalked, IsNear, is_mark_of, HoldsMarks, AreEnough}
 use Rattle.item_facts.proofs.MarkBoxes.{near_area, near_courtyard}
+use Rattle.item_facts.proofs.Marked.{no_parts}
 use Rattle.item_facts.proofs.NearIds.{both_ways, do_rise, ids_rise, ids_has}
-
-pub looser : (b : Bounds) → FitsWithin (pos 1500000000) b → FitsWithin (pos 2000000000) b
-looser b h = record {
-  wide = h.wide;
-  high = h.high;
-  left = down b.left h.left;
-  top = down b.top h.top;
-  right = up b.right h.right;
-  bottom = up b.bottom h.bottom;
-}
-  where
-    down : (z : ℤ) → neg_ℤ (pos 1500000000) ≤ℤ z → neg_ℤ (pos 2000000000) ≤ℤ z
-    down z h = omega (arith, ints)
-
-    up : (z : ℤ) → z ≤ℤ pos 1500000000 → z ≤ℤ pos 2000000000
-    up z h = omega (arith, ints)
-
--- ---- boxes that meet
-
-int_le_true : (x y : ℤ) → x ≤ℤ y → int_le x y ≡ true
-int_le_true x y h = grind (arith, ints)
-
-pub meet_true : (b c : Bounds) → BoxesMeet b c → do_boxes_meet b c ≡ true
-meet_true b c m =
-    and_from (int_le b.left c.right && int_le c.left b.right) (int_le b.top c.bottom && int_le c.top b.bottom)
-    (and_from (int_le b.left c.right) (int_le c.left b.right) (int_le_true b.left c.right m.left) (int_le_true c.left b.right m.right))
-    (and_from (int_le b.top c.bottom) (int_le c.top b.bottom) (int_le_true b.top c.bottom m.top) (int_le_true c.top b.bottom m.bottom))
-
-pub wider_meets : (margin : ℤ) (b c : Bounds) → pos 0 ≤ℤ margin → BoxesMeet b c → BoxesMeet (widened b margin) c
-wider_meets margin b c from m = record {
-  left = less b.left c.right m.left;
-  right = more c.left b.right m.right;
-  top = less b.top c.bottom m.top;
-  bottom = more c.top b.bottom m.bottom;
-}
-  where
-    less : (x y : ℤ) → x ≤ℤ y → (x -ℤ margin) ≤ℤ y
-    less x y h = omega (arith, ints)
-
-    more : (x y : ℤ) → x ≤ℤ y → x ≤ℤ (y +ℤ margin)
-    more x y h = omega (arith, ints)
 
 -- ---- a walk over the tiles
 
 module _ (index : PlainIndex) (area : Area) (box : Bounds) (old : List ℕ) where
-  pub walk_begun : (here : ℕ) → (here < end_of area → has_tile area here ≡ true) → ((tile : ℕ) → tile < here → has_tile area tile ≡ false) → IsWalked index area box old old here
-  walk_begun here has none = record { next = has; kept = λ id c. c; met = λ tile lt t e c m. absurd (both_ways (has_tile area tile) t (none tile lt)) }
-
   pub walk_more : (now then : List ℕ) (here : ℕ) → IsWalked index area box old now here → HasMet box (near_of index here) now then
       → (next : ℕ) → here < next → ((tile : ℕ) → here < tile → tile < next → has_tile area tile ≡ false) → (next < end_of area → has_tile area next ≡ true) → IsWalked index area box old then next
   walk_more now then here w h next lt none inside = record { next = inside; kept = λ id c. h.kept id (w.kept id c); met = met }
@@ -125,10 +82,6 @@ all_enough board sound item =
     (λ id other found near. ids_has (λ (i : Item). is_mark i.what) board.items id other found near.mark)
 
 -- an item without bounds meets nothing
-no_parts : (ps : List Part) → AreBoundsOf ps None → ps ≡ []
-no_parts [] h = refl
-no_parts (p ∷ ps) h = absurd h
-
 pub meets_nothing : (items : List (ℕ × Item)) (item : Item) → AreBoundsOf (parts_of item) None → AreEnough item items []
 meets_nothing items item none = record {
   rises = tt;
