@@ -165,7 +165,7 @@ impl Board {
         ensures kept { OnErr result (items.new.items ≡ items.old.items) }
     {
         // what holds of each board is known from here on
-        let _count = self.slot_count();
+        let _count = self.next_id();
         'items: while let Some(kept) = items.pop() {
             let unit = kept.item.unit;
             if let Err(kept) = self.put_one(kept) {

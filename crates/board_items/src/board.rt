@@ -183,7 +183,7 @@ impl Board {
         ensures unchanged { OnErr result (self.new ≡ self.old) }
     {
         let place = self.admit(&item)?;
-        let id = self.slot_count();
+        let id = self.next_id();
         let tag = tag_of(&item.name);
         let next_unit = self.next_unit.max(item.unit + 1);
         let in_order = goes_on(self.in_order, &self.units, item.unit);
@@ -232,8 +232,8 @@ impl Board {
         }
     }
 
-    /// How many slots there are: the id that is given next.
-    pub(crate) fn slot_count(&self) -> u32
+    /// The id that is given next: one above the greatest of any item ever added, 0 at first.
+    pub fn next_id(&self) -> u32
         ensures slots { result ≡ self.now.next_id }
         ensures sound { IsSound self.now }
     {
@@ -345,7 +345,7 @@ impl Board {
         ensures sound { IsSound self.now }
     {
         let places = MOST_ITEMS - self.live;
-        (places as u32).min(LAST - self.slot_count())
+        (places as u32).min(LAST - self.next_id())
     }
 
     /// What holds of each board, as a step of a proof. It does nothing.

@@ -24,6 +24,7 @@ use run_reports::Tiles;
 use run_texts::{Texts, commands_of, script_text, texts_of};
 use run_words::{BoardSource, Request};
 use std::alloc::AllocGlobal;
+use std::mem::forget;
 use std::thread::Threads;
 use tile_pool::Gate;
 
@@ -82,7 +83,8 @@ fn report<R: Threads + Sync + AllocGlobal, W: Sink, G: Gate>(
         Ok((mut session, applied)) => {
             let tiles = tiles_of(&applied);
             let status = go_through(rt, gate, way, &mut session, tiles, commands, out);
-            session.end(rt, way.workers);
+            // The process ends here, and the system takes its memory back at once. To free the items one by one would only take time.
+            forget(session);
             status
         }
         Err(_) => Status::OutOfMemory,

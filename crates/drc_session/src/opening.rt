@@ -4,6 +4,7 @@ ghost use Rattle.std.specs.Prelude.{◌≡◌, ◌<◌, ◌≤◌, ◌≤ℤ◌,
 ghost use Rattle.board_index.specs.Holding.{IsIndexOfItems};
 ghost use Rattle.rule_pick.specs.AllFacts.{HasFacts};
 ghost use Rattle.rule_text.specs.Views.{plain_rules};
+ghost use Rattle.net_groups.specs.NetParts.{AreParts};
 ghost use Rattle.drc_session.specs.Sessions.{IsOpened, IsDealt};
 ghost use Rattle.drc_session.specs.Holding.{state_of, IsKept};
 
@@ -16,7 +17,7 @@ use board_items::{Board, Nm};
 use box_index::TileIndex;
 use item_facts::reach;
 use kept_facts::all_facts_by;
-use kept_nets::all_parts;
+use kept_nets::{NetPart, all_parts};
 use net_class::Classes;
 use row_check::CheckView;
 use rule_pick::FactsById;
@@ -25,39 +26,60 @@ use std::alloc::{AllocError, AllocGlobal, Global};
 use std::thread::{Threads, join};
 use tile_pool::Gate;
 
-/// The facts of all items, and the index of them: side by side where there are several workers.
-fn facts_and_index(
+/// The index of all items, and by it what is found of each net.
+fn index_and_nets(
+    rt: &(impl Threads + Sync),
+    alloc: Global,
+    workers: u32,
+    board: &Board,
+    reach: Nm,
+) -> Result<(TileIndex, Vec<NetPart>), AllocError>
+    requires from { pos 0 ≤ℤ reach }
+    requires to { reach ≤ℤ pos 500000000 }
+    ensures items { IfOk result (λ r. IsIndexOfItems board.now r.0) }
+    ensures reach { IfOk result (λ r. r.0.reach ≡ reach) }
+    ensures nets { IfOk result (λ r. AreParts board.now r.1.items) }
+{
+    let index = index_of(alloc, board, reach)?;
+    let nets = all_parts(rt, alloc, workers, board, &index)?;
+    Ok((index, nets))
+}
+
+/// The facts of all items, and beside them, where there are several workers, the index and the nets.
+fn facts_and_nets(
     rt: &(impl Threads + Sync),
     alloc: Global,
     workers: u32,
     board: &Board,
     classes: &Classes,
     reach: Nm,
-) -> Result<(FactsById, TileIndex), AllocError>
+) -> Result<(FactsById, (TileIndex, Vec<NetPart>)), AllocError>
     requires from { pos 0 ≤ℤ reach }
     requires to { reach ≤ℤ pos 500000000 }
     ensures facts { IfOk result (λ r. HasFacts board.now classes.now r.0) }
-    ensures items { IfOk result (λ r. IsIndexOfItems board.now r.1) }
-    ensures reach { IfOk result (λ r. r.1.reach ≡ reach) }
+    ensures items { IfOk result (λ r. IsIndexOfItems board.now r.1.0) }
+    ensures reach { IfOk result (λ r. r.1.0.reach ≡ reach) }
+    ensures nets { IfOk result (λ r. AreParts board.now r.1.1.items) }
 {
     if workers == 1 {
         let facts = all_facts_by(rt, alloc, workers, board, classes)?;
-        let index = index_of(alloc, board, reach)?;
-        return Ok((facts, index));
+        let found = index_and_nets(rt, alloc, workers, board, reach)?;
+        return Ok((facts, found));
     }
-    let (facts, index) = join(
+    let (facts, found) = join(
         rt,
         || -> Result<FactsById, AllocError>
             ensures { IfOk result (HasFacts board.entry.now classes.entry.now) }
         { all_facts_by(rt, alloc, workers, board, classes) },
-        || -> Result<TileIndex, AllocError>
+        || -> Result<(TileIndex, Vec<NetPart>), AllocError>
             requires from { pos 0 ≤ℤ reach }
             requires to { reach ≤ℤ pos 500000000 }
-            ensures items { IfOk result (IsIndexOfItems board.entry.now) }
-            ensures reach { IfOk result (λ index. index.reach ≡ reach) }
-        { index_of(alloc, board, reach) },
+            ensures items { IfOk result (λ r. IsIndexOfItems board.entry.now r.0) }
+            ensures reach { IfOk result (λ r. r.0.reach ≡ reach) }
+            ensures nets { IfOk result (λ r. AreParts board.entry.now r.1.items) }
+        { index_and_nets(rt, alloc, workers, board, reach) },
     );
-    Ok((facts?, index?))
+    Ok((facts?, found?))
 }
 
 /// All that is found of the board.
@@ -77,7 +99,7 @@ fn open<R: Threads + Sync, G: Gate>(
     ensures applied { IfOk result (λ r. IsOpened (state_of r.0) r.1 × IsDealt workers r.1) }
 {
     let reach = reach(&board, &classes, rules.rules.as_slice());
-    let (facts, index) = facts_and_index(rt, alloc, workers, &board, &classes, reach)?;
+    let (facts, (index, nets)) = facts_and_nets(rt, alloc, workers, &board, &classes, reach)?;
     let view = CheckView {
         board: &board,
         facts: &facts,
@@ -85,7 +107,6 @@ fn open<R: Threads + Sync, G: Gate>(
         classes: &classes,
     };
     let (rows, applied) = check_all(rt, alloc, workers, view, &index, gate)?;
-    let nets = all_parts(rt, alloc, workers, &board, &index)?;
     let parts = Parts {
         board,
         classes,

@@ -1,19 +1,18 @@
 -- An index of areas and bodies, item by item.
-use Rattle.std.proofs.Common.{◌≡◌, ◌≢◌, refl, sym, ap, subst, ◌∙◌, ◌⊎◌, inl, inr, ℕ, zero, suc, ◌<◌, nat_lt, Bool, true, false, List, [], ◌∷◌, length, get_or, Contains, None, Some, arith}
+use Rattle.std.proofs.Common.{◌≡◌, ◌≢◌, refl, sym, ap, subst, ◌∙◌, ◌⊎◌, inl, inr, ℕ, zero, suc, ◌+◌, ◌<◌, nat_lt, Bool, true, false, List, [], ◌∷◌, length, get_or, Contains, None, Some, arith}
 use Rattle.std.specs.List.{filter}
 use Rattle.std.proofs.lemmas.Bool.{cases_order, cases_eq, lt-ltb}
 use Rattle.std.proofs.lemmas.List.Elements.{Contains-append_left, Contains-append_right, Contains-append_cases, All-contains, All-contains_itself, All-filter, All-weaker}
 use Rattle.board_items.specs.declared.parts.Part.{Part}
 use Rattle.board_items.specs.declared.item.Item.{Item}
-use Rattle.board_items.specs.Boards.{Rise, item_at, is_mark}
+use Rattle.board_items.specs.Boards.{Rise, item_at, is_mark, marks_of}
 use Rattle.board_items.specs.Parts.{parts_of}
 use Rattle.board_items.specs.Extents.{AreBoundsOf}
 use Rattle.box_index.specs.declared.entry.Entry.{Entry}
 use Rattle.box_index.specs.Tiles.{PlainIndex, IsAbsent, placed}
 use Rattle.box_index.proofs.Buckets.{contains_filter}
-use Rattle.item_facts.specs.Near.{HasMark, HoldsMarks, IsMarked}
-use Rattle.item_facts.specs.Known.{AreLeft}
-use Rattle.item_facts.proofs.LeftItems.{all_left, at_head, past_head, behind, next_left, head_or_left}
+use Rattle.item_facts.specs.Near.{DoRise, HasMark, HoldsMarks, IsMarked}
+use Rattle.item_facts.proofs.NearIds.{ids_rise, ids_has}
 
 one_of_filter : {X : Type 0} (p : X → Bool) (xs : List X) (x : X) → Contains (filter p xs) x → Contains xs x
 one_of_filter p xs x c = All-contains (Contains xs) (filter p xs) x (All-filter p (Contains xs) xs (All-contains_itself xs)) c
@@ -84,58 +83,79 @@ no_parts (p ∷ ps) h = absurd h
 pub no_bounds : (id : ℕ) (item : Item) (index : PlainIndex) → AreBoundsOf (parts_of item) None → IsMarked id item index index
 no_bounds id item index none = record { kept = λ e c. c; only = λ e c other. c; has = λ mark some. absurd (some (no_parts (parts_of item) none)) }
 
--- ---- item by item
+-- ---- one after the other
 
--- the index has the areas and bodies of the items that are not left, and its ids are theirs
-pub record AreMarked (items left : List (ℕ × Item)) (index : PlainIndex) : Type 0 where
-  pub rest : AreLeft items left
-  pub apart : (e : Entry) → Contains index.entries e → (id : ℕ) (item : Item) → item_at left id ≡ Some item → e.id ≢ id
-  pub each : (id : ℕ) (item : Item) → item_at items id ≡ Some item → is_mark item.what ≡ true → parts_of item ≢ [] → (item_at left id ≡ Some item) ⊎ HasMark index id item
+-- the index has the areas and bodies that are not among the ids that are left, and its ids are below these
+pub record AreMarked (items : List (ℕ × Item)) (left : List ℕ) (index : PlainIndex) : Type 0 where
+  pub low : ℕ
+  pub below : (e : Entry) → Contains index.entries e → e.id < low
+  pub rises : DoRise low left
+  pub each : (id : ℕ) (item : Item) → item_at items id ≡ Some item → is_mark item.what ≡ true → parts_of item ≢ [] → Contains left id ⊎ HasMark index id item
 
-pub none_marked : (low high : ℕ) (items : List (ℕ × Item)) (index : PlainIndex) → Rise low high items → index.entries ≡ [] → AreMarked items items index
-none_marked low high items index rise none = record {
-  rest = all_left low high items rise;
-  apart = λ e c id item found. absurd (nothing e (subst (λ (es : List Entry). Contains es e) none c));
-  each = λ id item found mark some. inl found;
+pub none_marked : (high : ℕ) (items : List (ℕ × Item)) (index : PlainIndex) → Rise 0 high items → index.entries ≡ [] → AreMarked items (marks_of items) index
+none_marked high items index rise none = record {
+  low = 0;
+  below = λ e c. absurd (nothing e (subst (λ (es : List Entry). Contains es e) none c));
+  rises = ids_rise (λ (item : Item). is_mark item.what) 0 high items rise;
+  each = λ id item found mark some. inl (ids_has (λ (item : Item). is_mark item.what) items id item found mark);
 }
   where
     nothing : (e : Entry) → Contains [] e → ⊥
     nothing e c = let lt = c.1 in omega arith
 
-module _ (items : List (ℕ × Item)) (entry : ℕ × Item) (left : List (ℕ × Item)) (old : PlainIndex) (h : AreMarked items (entry ∷ left) old) where
-  pub is_absent : IsAbsent entry.0 old.entries
-  is_absent = All-weaker (Contains old.entries) (λ (e : Entry). e.id ≢ entry.0) (λ e c. h.apart e c entry.0 entry.1 (at_head entry left)) old.entries (All-contains_itself old.entries)
-
-  pub more_marked : (new : PlainIndex) → IsMarked entry.0 entry.1 old new → AreMarked items left new
-  more_marked new m = record { rest = next_left items entry left h.rest; apart = apart; each = each }
+module _ (items : List (ℕ × Item)) (one : ℕ) (left : List ℕ) (old : PlainIndex) (h : AreMarked items (one ∷ left) old) where
+  pub is_absent : IsAbsent one old.entries
+  is_absent = All-weaker (Contains old.entries) (λ (e : Entry). e.id ≢ one) apart old.entries (All-contains_itself old.entries)
     where
-      apart : (e : Entry) → Contains new.entries e → (id : ℕ) (item : Item) → item_at left id ≡ Some item → e.id ≢ id
-      apart e c id item found = elim (cases_eq e.id entry.0) [
-        | inl here ↦ λ same. behind items entry left h.rest id item found (sym same ∙ here)
-        | inr other ↦ h.apart e (m.only e c other) id item (past_head entry left id (behind items entry left h.rest id item found) ∙ found)
+      apart : (e : Entry) → Contains old.entries e → e.id ≢ one
+      apart e c same = let less = h.below e c in let least = h.rises.0 in omega arith
+
+  -- no item has the id
+  pub none_there : item_at items one ≡ None → AreMarked items left old
+  none_there none = record {
+    low = one + 1;
+    below = λ e c. let less = h.below e c in let least = h.rises.0 in omega arith;
+    rises = h.rises.1;
+    each = λ id item found mark some. elim (h.each id item found mark some) [
+      | inl next ↦ elim (head_cases one left id next) [
+        | inl here ↦ absurd (no_item id item here found)
+        | inr later ↦ inl later
+      ]
+      | inr has ↦ inr has
+    ];
+  }
+    where
+      no_item : (id : ℕ) (item : Item) → one ≡ id → item_at items id ≡ Some item → ⊥
+      no_item id item here found = let e : None ≡ Some item = sym none ∙ ap (item_at items) here ∙ found in cc
+
+  pub more_marked : (its : Item) → item_at items one ≡ Some its → (new : PlainIndex) → IsMarked one its old new → AreMarked items left new
+  more_marked its there new m = record { low = one + 1; below = below; rises = h.rises.1; each = each }
+    where
+      below : (e : Entry) → Contains new.entries e → e.id < one + 1
+      below e c = elim (cases_eq e.id one) [
+        | inl here ↦ omega (arith, here)
+        | inr other ↦ let less = h.below e (m.only e c other) in let least = h.rises.0 in omega arith
       ]
 
-      moved : (id : ℕ) (item : Item) → HasMark old id item → HasMark new id item
-      moved id item has = record { box = has.box; own = has.own; entry = m.kept (record { id = id; bounds = has.box }) has.entry }
+      here : (id : ℕ) (item : Item) → one ≡ id → item_at items id ≡ Some item → is_mark item.what ≡ true → parts_of item ≢ [] → HasMark new id item
+      here id item same found mark some =
+          let is : its ≡ item = cc in
+          subst (λ (k : ℕ). HasMark new k item) same
+          (subst (λ (i : Item). HasMark new one i) is
+          (m.has (subst (λ (i : Item). is_mark i.what ≡ true) (sym is) mark) (subst (λ (i : Item). parts_of i ≢ []) (sym is) some)))
 
-      here : (id : ℕ) (item : Item) → id ≡ entry.0 → item ≡ entry.1 → is_mark item.what ≡ true → parts_of item ≢ [] → HasMark new id item
-      here id item same is mark some =
-          subst (λ (k : ℕ). HasMark new k item) (sym same)
-          (subst (λ (i : Item). HasMark new entry.0 i) (sym is)
-          (m.has (subst (λ (i : Item). is_mark i.what ≡ true) is mark) (subst (λ (i : Item). parts_of i ≢ []) is some)))
-
-      each : (id : ℕ) (item : Item) → item_at items id ≡ Some item → is_mark item.what ≡ true → parts_of item ≢ [] → (item_at left id ≡ Some item) ⊎ HasMark new id item
+      each : (id : ℕ) (item : Item) → item_at items id ≡ Some item → is_mark item.what ≡ true → parts_of item ≢ [] → Contains left id ⊎ HasMark new id item
       each id item found mark some = elim (h.each id item found mark some) [
-        | inl next ↦ elim (head_or_left items entry left h.rest id item next) [
-          | inl head ↦ inr (here id item head.0 head.1 mark some)
+        | inl next ↦ elim (head_cases one left id next) [
+          | inl same ↦ inr (here id item same found mark some)
           | inr later ↦ inl later
         ]
-        | inr has ↦ inr (moved id item has)
+        | inr has ↦ inr (record { box = has.box; own = has.own; entry = m.kept (record { id = id; bounds = has.box }) has.entry })
       ]
 
 pub all_marked : (items : List (ℕ × Item)) (index : PlainIndex) → AreMarked items [] index → HoldsMarks items index
 all_marked items index h = record { each = λ id item found mark some. last id item (h.each id item found mark some) }
   where
-    last : (id : ℕ) (item : Item) → (item_at [] id ≡ Some item) ⊎ HasMark index id item → HasMark index id item
-    last id item (inl e) = absurd cc
+    last : (id : ℕ) (item : Item) → Contains [] id ⊎ HasMark index id item → HasMark index id item
+    last id item (inl c) = let lt = c.1 in absurd (omega arith)
     last id item (inr has) = has

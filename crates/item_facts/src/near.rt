@@ -50,8 +50,11 @@ pub fn index_marks(alloc: Global, board: &Board) -> Result<TileIndex, AllocError
     ensures { IfOk result (λ index. HoldsMarks board.now.items index) }
 {
     let mut index = TileIndex::new(alloc, 0)?;
-    for (id, item) in board.iter() {
-        put_mark(&mut index, id, item)?;
+    board.soundness();
+    for id in board.marks() {
+        if let Some(item) = board.get(*id) {
+            put_mark(&mut index, *id, item)?;
+        }
     }
     Ok(index)
 }

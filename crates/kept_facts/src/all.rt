@@ -116,15 +116,6 @@ fn empty_slots(alloc: Global, count: u32) -> Result<Vec<Option<Facts>>, AllocErr
     Ok(slots)
 }
 
-/// One above the greatest id of an item.
-fn end_of(board: &Board) -> u32 {
-    let mut end = 0;
-    for (id, _) in board.iter() {
-        end = id.saturating_add(1);
-    }
-    end
-}
-
 /// Whether each item has facts.
 fn have_all(board: &Board, facts: &FactsById) -> bool
     ensures { result ≡ true → (id : ℕ) (item : PlainItem) → item_at board.now.items id ≡ Some item → IsSome (facts_at facts.now id) }
@@ -148,13 +139,13 @@ pub fn all_facts_by(
 ) -> Result<FactsById, AllocError>
     ensures { IfOk result (HasFacts board.now classes.now) }
 {
-    let end = end_of(board);
-    if workers == 1 || end < MANY {
+    let count = board.next_id();
+    if workers == 1 || count < MANY {
         return all_facts(alloc, board, classes);
     }
     let index = index_marks(alloc, board)?;
     let known = classes_of(alloc, board, classes)?;
-    let mut slots = empty_slots(alloc, end)?;
+    let mut slots = empty_slots(alloc, count)?;
     let sources = Sources {
         alloc,
         board,

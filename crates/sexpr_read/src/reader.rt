@@ -1,5 +1,5 @@
 ghost use Rattle.std.specs.Prelude.{◌≡◌, ◌≤◌, ◌<◌, ◌^◌, ◌⊎◌, length, true, false, [], None, Some, IsUtf8, MatchResult, IfOk, IfErr};
-ghost use Rattle.std.specs.Str.{valid_up_to};
+ghost use Rattle.simdutf8.specs.Error.{valid_up_to};
 ghost use Rattle.sexpr_read.specs.Tree.{Tree, levels};
 ghost use Rattle.sexpr_read.specs.declared.bytes.ByteClass.TheVariants.{Open};
 ghost use Rattle.sexpr_read.specs.Bytes.{sign_of};
@@ -16,8 +16,8 @@ use crate::place::{Span, TextError};
 use crate::room::about_cells;
 use crate::runs::{gap_end, string_end, word_end};
 use crate::view::Doc;
+use simdutf8::compat::{Utf8Error, from_utf8};
 use std::alloc::Global;
-use std::str::Utf8Error;
 
 /// So many lists may stand in one another.
 const MOST_LEVELS: u32 = 64;
@@ -168,7 +168,7 @@ pub fn parse_one<'t>(alloc: Global, text: &'t [u8]) -> Result<Doc<'t>, TextError
     ensures exact { MatchResult result (λ _. refusal_of_one text.now ≡ None)
         (λ e. (e ≡ TextError.OutOfMemory) ⊎ (refusal_of_one text.now ≡ Some e)) }
 {
-    match std::str::from_utf8(text) {
+    match from_utf8(text) {
         Ok(_) => read_one(alloc, text),
         Err(e) => Err(not_utf8(&e)),
     }
@@ -214,7 +214,7 @@ pub fn parse_all<'t>(alloc: Global, text: &'t [u8]) -> Result<Doc<'t>, TextError
         (λ e. (e ≡ TextError.OutOfMemory) ⊎ (refusal_of_all text.now ≡ Some e)) }
     ensures of_forms { IfErr result IsOfForms }
 {
-    match std::str::from_utf8(text) {
+    match from_utf8(text) {
         Ok(_) => read_all(alloc, text),
         Err(e) => Err(not_utf8(&e)),
     }

@@ -22,7 +22,7 @@ returns-clause-kept g c =
       reach = sym found.reach;
       in_range = subst (λ (z : ℤ). IsLength z) (as_passed reach length) length;
       rows = opened_rows c.args.board c.args.classes c.as_slice-2.result.now c.args.rules.rules c.as_slice-2.ensures c.in_ok-rows.rows.items c.in_ok-rows.ensures.rows;
-      nets = c.in_ok-nets.ensures;
+      nets = found.nets;
       few = c.requires.few;
     }
 

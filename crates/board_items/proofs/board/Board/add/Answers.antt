@@ -45,13 +45,13 @@ pub invariant_of-self-2 : goal.invariant_of-self-2
 invariant_of-self-2 c =
     let before : PlainBoard = record { copper = c.self.inside.copper; nets = c.self.inside.names.entries; items = present 0 c.self.inside.slots.items; next_id = length c.self.inside.slots.items; next_unit = c.self.inside.next_unit } in
     let at = subst (λ (b : PlainBoard). IsNetAt c.args.item.net b.nets c.in_ok-place.place) (sym c.self.view_is) c.in_ok-place.ensures.place in
-    let id : c.slot_count-id.result ≡ before.next_id = c.slot_count-id.ensures.slots ∙ ap (λ (b : PlainBoard). b.next_id) (sym c.self.view_is) in
+    let id : c.next_id-id.result ≡ before.next_id = c.next_id-id.ensures.slots ∙ ap (λ (b : PlainBoard). b.next_id) (sym c.self.view_is) in
     record {
-      kept = kept_added before c.args.item c.slot_count-id.result _ c.self.inside.marks.items _ c.self.inside.of_nets.items c.in_ok-place.place _ _ _ c.self.inside.live _ c.self.inside.slots.items _ c.self.invariant.kept
+      kept = kept_added before c.args.item c.next_id-id.result _ c.self.inside.marks.items _ c.self.inside.of_nets.items c.in_ok-place.place _ _ _ c.self.inside.live _ c.self.inside.slots.items _ c.self.invariant.kept
           (subst (λ (b : PlainBoard). refusal_of b c.args.item ≡ None) (sym c.self.view_is) c.in_ok-place.ensures.refused)
           (subst (λ (b : PlainBoard). 0 < room_of b) (sym c.self.view_is) c.in_ok-place.ensures.room) c.requires
           refl refl id c.in_ok-push_slot.ensures.slots c.in_ok-push_slot.ensures.marks c.max-next_unit.ensures at c.index_mut-of_net.ensures.value c.in_ok-push_slot.ensures.of_net refl;
-      notes = notes_added before c.args.item c.slot_count-id.result c.self.inside.slots.items _ c.self.inside.notes.items _ refl refl id c.in_ok-push_slot.ensures.slots c.self.invariant.notes c.in_ok-push_slot.ensures.notes;
+      notes = notes_added before c.args.item c.next_id-id.result c.self.inside.slots.items _ c.self.inside.notes.items _ refl refl id c.in_ok-push_slot.ensures.slots c.self.invariant.notes c.in_ok-push_slot.ensures.notes;
       tags_in = tags_added c.self.inside.slots.items _ c.self.inside.tags.items _ c.args.item c.self.invariant.tags_in c.in_ok-push_slot.ensures.slots
           (c.push_reserved.ensures.items ∙ ap (λ (ts : List ℕ). ts ++ c.tag_of-tag.result ∷ []) c.reserve.ensures.items ∙ ap (λ (t : ℕ). c.self.inside.tags.items ++ t ∷ []) c.tag_of-tag.ensures);
       units_in = units_added c.self.inside.slots.items _ c.self.inside.units.items _ c.args.item c.self.invariant.units_in c.in_ok-push_slot.ensures.slots c.in_ok-push_slot.ensures.units;

@@ -57,4 +57,4 @@ returns-clause-back c =
     let all : c.args.items.now.items ≡ rest = c.items.invariant.1 ∙ ap (λ (xs : List Kept). xs ++ rest) none in
     subst (λ (b : PlainBoard). IsPutBack (map kept_entry c.args.items.now.items) c.args.self.now b)
     (sym (c.items.invariant.2 ∙ ap (λ (xs : List Kept). record c.args.self.now { items = all_placed (map kept_entry xs) c.args.self.now.items }) (sym all)))
-    (put_back c.args.self.now (map kept_entry c.args.items.now.items) c.slot_count-count.ensures.sound.ids c.requires.fits)
+    (put_back c.args.self.now (map kept_entry c.args.items.now.items) c.next_id-count.ensures.sound.ids c.requires.fits)
