@@ -1,5 +1,5 @@
 -- The cores and the parts of a figure that stands elsewhere are those of the figure, moved.
-use Rattle.std.proofs.Common.{◌≡◌, ◌∙◌, refl, sym, ap, subst, ℤ, pos, ◌+ℤ◌, ◌*ℤ◌, Bool, true, false, List, [], ◌∷◌, map, Option, Some, option_map, arith}
+use Rattle.std.proofs.Common.{◌≡◌, ◌∙◌, refl, sym, ap, subst, ℤ, pos, ◌+ℤ◌, ◌*ℤ◌, Bool, true, false, List, [], ◌∷◌, Option, Some, option_map, arith}
 use Rattle.std.specs.List.{AllZip}
 use Rattle.std.proofs.lemmas.Int.{ints}
 use Rattle.geo_seg.specs.declared.points.Point.{Point}
@@ -16,7 +16,7 @@ use Rattle.part_read.specs.declared.radii.Radius.{Radius}
 use Rattle.part_read.specs.There.{both, after}
 use Rattle.part_read.specs.OnBoard.{tested, fits_board, point_at}
 use Rattle.part_read.specs.Stances.{stood, point_stood, points_stood}
-use Rattle.part_read.specs.Figures.{line_between, cores_around, around}
+use Rattle.part_read.specs.Figures.{line_between, cores_around, around, parts_around}
 use Rattle.part_read.proofs.There.{some_same, map_some, both_some}
 use Rattle.part_read.proofs.Shapes.{one_point, one_shape, is_tested}
 use Rattle.read_alike.specs.Alike.{Shift}
@@ -109,8 +109,8 @@ module _ (d : Shift) (stance new : Stance) where
 -- ---- parts
 
 -- the parts of cores with a radius around them, moved, are those of the moved cores
-pub parts_carried : (dx dy : ℤ) (layers : LayerSet) (r : Radius) (cores : List Core) (parts : List Part) → AreShifted dx dy (map (λ (core : Core). record { layers = layers; shape = around r core }) cores) parts
-    → (others : List Core) × AllZip (IsShiftedCore dx dy) cores others × (parts ≡ map (λ (core : Core). record { layers = layers; shape = around r core }) others)
+pub parts_carried : (dx dy : ℤ) (layers : LayerSet) (r : Radius) (cores : List Core) (parts : List Part) → AreShifted dx dy (parts_around layers r cores) parts
+    → (others : List Core) × AllZip (IsShiftedCore dx dy) cores others × (parts ≡ parts_around layers r others)
 parts_carried dx dy layers r [] [] h = ([], tt, refl)
 parts_carried dx dy layers r [] (p ∷ parts) h = absurd h
 parts_carried dx dy layers r (c ∷ cores) [] h = absurd h

@@ -4,3 +4,4 @@ pub mod Moved
 pub mod Carried
 pub mod Moving
 pub mod Standing
+pub mod Ground

@@ -1,6 +1,6 @@
 //! Laws. The functions do nothing: each clause holds for all trees.
 
-ghost use Rattle.std.specs.Prelude.{◌≡◌, ◌+◌, ◌≤◌, ◌+ℤ◌, ◌-ℤ◌, ℕ, ℤ, true, false, List, Option, None, Some, map, unsigned_abs};
+ghost use Rattle.std.specs.Prelude.{◌≡◌, ◌+◌, ◌≤◌, ◌+ℤ◌, ◌-ℤ◌, ℕ, ℤ, true, false, List, Option, None, Some, unsigned_abs};
 ghost use Rattle.std.specs.List.{AllZip};
 ghost use Rattle.sexpr_read.specs.declared.place.Span.{Span};
 ghost use Rattle.sexpr_read.specs.Tree.{Forest, Tree, branch};
@@ -17,7 +17,7 @@ ghost use Rattle.part_read.specs.Circles.{root, square_between};
 ghost use Rattle.list_read.specs.Heads.{has_head};
 ghost use Rattle.list_read.specs.Elements.{element};
 ghost use Rattle.part_read.specs.Elements.{name_in};
-ghost use Rattle.part_read.specs.Figures.{around};
+ghost use Rattle.part_read.specs.Figures.{parts_around};
 ghost use Rattle.part_read.specs.LayersOf.{layer_of};
 ghost use Rattle.part_read.specs.NetsOf.{net_of};
 ghost use Rattle.part_read.specs.Numbers.{spot_of, size_of};
@@ -56,8 +56,8 @@ pub fn numbers()
 
 /// The moved parts of cores with a radius around them are the parts of moved cores; and what is carried and then moved is carried by both.
 pub fn carrying()
-    ensures parts { (dx dy : ℤ) (layers : LayerSet) (r : Radius) (cores : List Core) (parts : List Part) → AreShifted dx dy (map (λ (core : Core). record { layers = layers; shape = around r core }) cores) parts
-        → (others : List Core) × AllZip (IsShiftedCore dx dy) cores others × (parts ≡ map (λ (core : Core). record { layers = layers; shape = around r core }) others) }
+    ensures parts { (dx dy : ℤ) (layers : LayerSet) (r : Radius) (cores : List Core) (parts : List Part) → AreShifted dx dy (parts_around layers r cores) parts
+        → (others : List Core) × AllZip (IsShiftedCore dx dy) cores others × (parts ≡ parts_around layers r others) }
     ensures both { (d e : Shift) (a b c : Item) → IsCarried d a b → IsShiftedItem e.dx e.dy b c → IsCarried (record { dx = d.dx +ℤ e.dx; dy = d.dy +ℤ e.dy }) a c }
     ensures ends { (center end : Spot) (most : ℕ) → root (square_between center end) ≤ most → (unsigned_abs (end.x -ℤ center.x) ≤ most + 1) × (unsigned_abs (end.y -ℤ center.y) ≤ most + 1) }
 {}

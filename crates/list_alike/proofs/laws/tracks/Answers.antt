@@ -1,6 +1,10 @@
+use Rattle.std.proofs.Common.{sym}
 use Rattle.list_alike.proofs.Tracks.{track_carried}
 use Rattle.list_alike.proofs.Vias.{via_carried}
 use Rattle.list_alike.proofs.laws.tracks.Goals as goal
 
 pub returns : goal.returns
-returns c = record { tracks = track_carried; vias = via_carried }
+returns c = record {
+  tracks = λ d board other ground. track_carried d board other (sym ground.copper) ground.names;
+  vias = λ d board other ground. via_carried d board other (sym ground.copper) ground.names;
+}
