@@ -1,8 +1,9 @@
 -- Which trees a piece of text spells, by its bytes alone: places play no part in it.
-use Rattle.std.specs.Prelude.{◌≡◌, ℕ, Bool, true, false, List, [], ◌∷◌, ◌++◌, ⊤}
+use Rattle.std.specs.Prelude.{◌≡◌, ◌≤◌, ℕ, Bool, true, false, List, [], ◌∷◌, ◌++◌, length, ⊤}
 use Rattle.sexpr_read.specs.declared.bytes.ByteClass.TheVariants.{Space, Backslash}
-use Rattle.sexpr_read.specs.Bytes.{class_of, is_word, is_itself}
+use Rattle.sexpr_read.specs.Bytes.{class_of, sign_of, is_word, is_itself}
 use Rattle.sexpr_read.specs.Tree.{Forest, none, atom, list}
+use Rattle.sexpr_read.specs.Spelling.{SpellsForest}
 
 -- nothing but space
 abbrev pub IsBlank : List ℕ → Type 0
@@ -47,6 +48,11 @@ Writes bytes (atom s q content others) =
     (gap : List ℕ) × (rest : List ℕ) × (bytes ≡ gap ++ (written q content ++ rest)) × IsBlank gap × IsContentOf q content × MayFollow q rest × Writes rest others
 Writes bytes (list s inside others) =
     (gap : List ℕ) × (within : List ℕ) × (rest : List ℕ) × (bytes ≡ gap ++ (40 ∷ (within ++ (41 ∷ rest)))) × IsBlank gap × Writes within inside × Writes rest others
+
+-- the text has this part, and it spells these trees
+pub record SpellsPart (text : List ℕ) (from to : ℕ) (f : Forest) : Type 0 where
+  pub within : to ≤ length text
+  pub spelled : SpellsForest (sign_of text) text from to f
 
 -- the same trees, but for their spans
 abbrev pub SameTrees : Forest → Forest → Type 0
