@@ -79,7 +79,7 @@ module _ (text : List ℕ) (s h : Span) (q : Bool) (c : List ℕ) (others : Fore
   header_stays : (out : List ℕ) (added : List Forest) (w : SpellsEdited out q c (insides_after fates others ++ added)) → header_in (branch w.where_it_is w.forest) ≡ Ok tt
   header_stays out added w =
       let v = version_stays draft after_head.0 fates s h q c others tt accepted after_head.1 in
-      header_again s w.where_it_is w.head_is h q c others w.kept w.forest v.inside (v.rest ++ added) v.span tt accepted v.there w.same (w.are ∙ ap (λ (l : List Forest). l ++ added) v.are)
+      header_again s w.where_it_is w.head_is h v.span q c others w.kept w.forest v.inside (v.rest ++ added) tt accepted v.there w.same (w.are ∙ ap (λ (l : List Forest). l ++ added) v.are)
 
 -- ---- the law
 

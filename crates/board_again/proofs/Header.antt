@@ -82,10 +82,10 @@ checked e true f u h = (refl, h)
 checked e false f u h = absurd cc
 
 -- a root with the same head, of which the first list has the same contents, has an accepted header too
-pub header_again : (s p h t : Span) (q : Bool) (c : List ℕ) (f kept forest i : Forest) (others : List Forest) (r : Span) (u : Unit {0}) → header_in (branch s (atom t q c f)) ≡ Ok u → first_list f ≡ Some (branch r i)
+pub header_again : (s p h t r : Span) (q : Bool) (c : List ℕ) (f kept forest i : Forest) (others : List Forest) (u : Unit {0}) → header_in (branch s (atom t q c f)) ≡ Ok u → first_list f ≡ Some (branch r i)
     → SameTrees (atom h q c kept) forest → insides kept ≡ i ∷ others → header_in (branch p forest) ≡ Ok tt
 unfolding header_in version_in
-header_again s p h t q c f kept forest i others r u ok first same lists =
+header_again s p h t r q c f kept forest i others u ok first same lists =
     let was = checked (NotABoard (place (branch s (atom t q c f)))) (has_head (codes "kicad_pcb") (branch s (atom t q c f))) _ u ok in
     let named : has_head (codes "kicad_pcb") (branch p forest) ≡ true = renamed same ∙ was.0 in
     let there = list_there kept i others lists in

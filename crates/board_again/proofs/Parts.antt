@@ -19,7 +19,7 @@ use Rattle.read_alike.specs.Agreeing.{Agrees, Same, SameAtom}
 use Rattle.read_alike.specs.Moving.{put_if, moved}
 use Rattle.read_alike.proofs.Elements.{agrees_bind, agrees_both, heads_alike, same_value, atom_alike}
 use Rattle.read_alike.proofs.Numbers.{number_alike}
-use Rattle.board_alike.specs.Roots.{SameGround}
+use Rattle.board_alike.specs.Roots.{SameGround, SameItems}
 use Rattle.board_alike.specs.Written.{first_at, moved_unit, moved_if}
 use Rattle.board_alike.proofs.Plain.{layers_alike}
 
@@ -198,11 +198,11 @@ other_keeps a next t h =
     (m.first.items, m.first.units)
 
 pub others_read : (t u : Tree) (a b next : Reading) → AlikeTrees None t u → SameGround a.board b.board → b.layered ≡ a.layered → with_other a t ≡ Ok next
-    → (new : Reading) × (with_other b u ≡ Ok new) × SameGround next.board new.board × (new.layered ≡ next.layered) × (new.board.items ≡ b.board.items) × (new.board.next_id ≡ b.board.next_id) × (new.board.next_unit ≡ b.board.next_unit)
+    → (new : Reading) × (with_other b u ≡ Ok new) × SameGround next.board new.board × (new.layered ≡ next.layered) × SameItems b.board new.board
 others_read t u a b next alike ground layered h =
     by_answer (with_other b u) refl (subst (λ (r : Result Reading BoardError). Agrees (Both a b) r (with_other b u)) h (others_both a b ground layered t u alike))
   where
     by_answer : (r : Result Reading BoardError) → with_other b u ≡ r → Agrees (Both a b) (Ok next) r
-        → (new : Reading) × (with_other b u ≡ Ok new) × SameGround next.board new.board × (new.layered ≡ next.layered) × (new.board.items ≡ b.board.items) × (new.board.next_id ≡ b.board.next_id) × (new.board.next_unit ≡ b.board.next_unit)
-    by_answer (Ok new) e k = (new, e, k.ground, k.layered, k.second.items, k.second.ids, k.second.units)
+        → (new : Reading) × (with_other b u ≡ Ok new) × SameGround next.board new.board × (new.layered ≡ next.layered) × SameItems b.board new.board
+    by_answer (Ok new) e k = (new, e, k.ground, k.layered, record { items = k.second.items; ids = k.second.ids; units = k.second.units })
     by_answer (Err f) e k = absurd k

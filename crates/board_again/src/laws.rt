@@ -15,7 +15,7 @@ ghost use Rattle.pcb_read.specs.BoardOf.{Reading, with_other, header_in};
 ghost use Rattle.read_alike.specs.Alike.{Shift, Alike, AlikeTrees};
 ghost use Rattle.read_alike.specs.Carried.{shift_of, of_unit, ItemsOf};
 ghost use Rattle.list_alike.specs.Footprints.{is_footprint};
-ghost use Rattle.board_alike.specs.Roots.{SameGround};
+ghost use Rattle.board_alike.specs.Roots.{SameGround, SameItems};
 ghost use Rattle.board_alike.specs.Written.{moved_if, IsWritten};
 ghost use Rattle.board_alike.specs.Ledger.{Entry, AreNow};
 ghost use Rattle.board_alike.specs.Reads.{IsUnit};
@@ -31,12 +31,12 @@ pub fn parts()
     ensures moved { (s r : Span) (i j : Forest) (o : Option Shift) → SameTrees (moved_if o i) j → sort_of (branch r j) ≡ sort_of (branch s i) }
     ensures kept { (a next : Reading) (t : Tree) → with_other a t ≡ Ok next → (next.board.items ≡ a.board.items) × (next.board.next_unit ≡ a.board.next_unit) }
     ensures others { (t u : Tree) (a b next : Reading) → AlikeTrees None t u → SameGround a.board b.board → b.layered ≡ a.layered → with_other a t ≡ Ok next
-        → (new : Reading) × (with_other b u ≡ Ok new) × SameGround next.board new.board × (new.layered ≡ next.layered) × (new.board.items ≡ b.board.items) × (new.board.next_id ≡ b.board.next_id) × (new.board.next_unit ≡ b.board.next_unit) }
+        → (new : Reading) × (with_other b u ≡ Ok new) × SameGround next.board new.board × (new.layered ≡ next.layered) × SameItems b.board new.board }
 {}
 
 /// A root with the same head, of which the first list has the same contents, has an accepted header too.
 pub fn header()
-    ensures { (s p h t : Span) (q : Bool) (c : List ℕ) (f kept forest i : Forest) (others : List Forest) (r : Span) (u : Unit {0}) → header_in (branch s (atom t q c f)) ≡ Ok u → find is_list (trees f) ≡ Some (branch r i)
+    ensures { (s p h t r : Span) (q : Bool) (c : List ℕ) (f kept forest i : Forest) (others : List Forest) (u : Unit {0}) → header_in (branch s (atom t q c f)) ≡ Ok u → find is_list (trees f) ≡ Some (branch r i)
         → SameTrees (atom h q c kept) forest → insides kept ≡ i ∷ others → header_in (branch p forest) ≡ Ok tt }
 {}
 

@@ -14,7 +14,7 @@ use Rattle.pcb_read.specs.Sorts.{sort_of}
 use Rattle.pcb_read.specs.ItemsOf.{SaysItems, has_room}
 use Rattle.pcb_read.specs.BoardOf.{Reading, with_items, with_other, with_board, SaysPartBy, SaysPart, SaysParts}
 use Rattle.read_alike.specs.Carried.{of_unit}
-use Rattle.board_alike.specs.Roots.{SameGround, with_units, total, Goes, ends, stays, leaves, keeps}
+use Rattle.board_alike.specs.Roots.{SameGround, SameItems, with_units, total, Goes, ends, stays, leaves, keeps}
 
 -- ---- boards with more items
 
@@ -66,12 +66,6 @@ room_there board (item ∷ items) h few =
     both true false h k = cc
     both false b h k = cc
 
--- boards with the same items
-pub record SameItems (a b : PlainBoard) : Type 0 where
-  pub items : b.items ≡ a.items
-  pub ids : b.next_id ≡ a.next_id
-  pub units : b.next_unit ≡ a.next_unit
-
 one_more : (a b : PlainBoard) (item : Item) → SameItems a b → SameItems (with_item a item) (with_item b item)
 one_more a b item h = record {
   items = ap (λ (l : List (ℕ × Item)). l ++ (b.next_id, item) ∷ []) h.items ∙ ap (λ n. a.items ++ (n, item) ∷ []) h.ids;
@@ -110,7 +104,7 @@ module _ (Carries : Sort → Tree → Tree → List Item → List Item → Type 
     (as_long : (sort : Sort) (t u : Tree) (items now : List Item) → Carries sort t u items now → length now ≡ length items)
     (plain : (t u : Tree) → AlikeTrees None t u → sort_of t ≡ sort_of u)
     (others : (t u : Tree) (a b next : Reading) → AlikeTrees None t u → SameGround a.board b.board → b.layered ≡ a.layered → with_other a t ≡ Ok next
-    → (new : Reading) × (with_other b u ≡ Ok new) × SameGround next.board new.board × (new.layered ≡ next.layered) × (new.board.items ≡ b.board.items) × (new.board.next_id ≡ b.board.next_id) × (new.board.next_unit ≡ b.board.next_unit)) where
+    → (new : Reading) × (with_other b u ≡ Ok new) × SameGround next.board new.board × (new.layered ≡ next.layered) × SameItems b.board new.board) where
   -- a unit leaves the ground as it was
   unit_ground : (a next : Reading) (t : Tree) (sort : Sort) → SaysPartBy a t (Some sort) (Ok next) → SameGround a.board next.board × (next.layered ≡ a.layered)
   unit_ground a next t sort (board, (items, says, with), is) = by_items items board with is
@@ -134,12 +128,11 @@ module _ (Carries : Sort → Tree → Tree → List Item → List Item → Type 
   transfer (stays {a = a} {next = next} {t = t} {u = u} {us = us} {units = units} none alike says goes) b ground layered fresh few =
       let read : Ok next ≡ with_other a t = subst (λ (s : Option Sort). SaysPartBy a t s (Ok next)) none says in
       let k = others t u a b next alike ground layered (sym read) in
-      let same : SameItems b.board k.0.board = record { items = k.4; ids = k.5; units = k.6 } in
       let none_too : sort_of u ≡ None = sym (plain t u alike) ∙ none in
       let says_too : SaysPart b u (Ok k.0) = subst (λ (s : Option Sort). SaysPartBy b u s (Ok k.0)) (sym none_too) (sym k.1) in
-      let count : length k.0.board.items ≡ length b.board.items = ap length k.4 in
-      let rest = transfer goes k.0 k.2 k.3 (fresh_same b.board k.0.board same fresh) (omega (arith, count)) in
-      (rest.0, inl (k.0, says_too, rest.1), record { ground = rest.2.ground; layered = rest.2.layered; same = items_over (with_units b.board units) (with_units k.0.board units) rest.0.board (same_units b.board k.0.board units same) rest.2.same; fresh = rest.2.fresh })
+      let count : length k.0.board.items ≡ length b.board.items = ap length k.4.items in
+      let rest = transfer goes k.0 k.2 k.3 (fresh_same b.board k.0.board k.4 fresh) (omega (arith, count)) in
+      (rest.0, inl (k.0, says_too, rest.1), record { ground = rest.2.ground; layered = rest.2.layered; same = items_over (with_units b.board units) (with_units k.0.board units) rest.0.board (same_units b.board k.0.board units k.4) rest.2.same; fresh = rest.2.fresh })
   transfer (leaves {a = a} {next = next} {t = t} sort is says goes) b ground layered fresh few =
       let k = unit_ground a next t sort (subst (λ (s : Option Sort). SaysPartBy a t s (Ok next)) is says) in
       transfer goes b (over k.0 ground) (layered ∙ sym k.1) fresh few

@@ -17,14 +17,14 @@ use Rattle.pcb_read.specs.Sorts.{sort_of}
 use Rattle.pcb_read.specs.ItemsOf.{SaysItems, has_room}
 use Rattle.pcb_read.specs.ItemText.{SaysBy, SaysList}
 use Rattle.pcb_read.specs.BoardOf.{Reading, unread, with_items, with_other, SaysPartBy, SaysParts}
-use Rattle.board_alike.specs.Roots.{SameGround, with_units, total, Goes}
+use Rattle.board_alike.specs.Roots.{SameGround, SameItems, with_units, total, Goes}
 use Rattle.board_alike.specs.Changes.{Change, ChangeAll}
 use Rattle.board_alike.specs.Written.{Draft, untouched, with_changes, moved_if, added_trees, FatesAre}
 use Rattle.board_alike.specs.Ledger.{Entry, all_now, AreNow, AreKept, IsLedger, SameReads}
 use Rattle.board_alike.specs.Reads.{IsUnit, TextReads}
 use Rattle.board_alike.specs.AddedReads.{AddedRead, ends}
 use Rattle.board_alike.specs.Same.{IsSameItem}
-use Rattle.board_alike.proofs.Roots.{SameItems, same_units, count_with, transfer}
+use Rattle.board_alike.proofs.Roots.{same_units, count_with, transfer}
 use Rattle.board_alike.proofs.Commands.{ReadsFrom, same_itself, reads_same}
 use Rattle.board_alike.proofs.Following.{branches, HaveInsides, items_now, follows}
 use Rattle.board_alike.proofs.Starting.{starts}
@@ -143,7 +143,7 @@ module _ (Carries : Sort → Tree → Tree → List Item → List Item → Type 
     (as_long : (sort : Sort) (t u : Tree) (items now : List Item) → Carries sort t u items now → length now ≡ length items)
     (plain : (t u : Tree) → AlikeTrees None t u → sort_of t ≡ sort_of u)
     (others_read : (t u : Tree) (a b next : Reading) → AlikeTrees None t u → SameGround a.board b.board → b.layered ≡ a.layered → with_other a t ≡ Ok next
-    → (new : Reading) × (with_other b u ≡ Ok new) × SameGround next.board new.board × (new.layered ≡ next.layered) × (new.board.items ≡ b.board.items) × (new.board.next_id ≡ b.board.next_id) × (new.board.next_unit ≡ b.board.next_unit))
+    → (new : Reading) × (with_other b u ≡ Ok new) × SameGround next.board new.board × (new.layered ≡ next.layered) × SameItems b.board new.board)
     (carries : (sort : Sort) (s r : Span) (i j : Forest) (o : Option Shift) (e : Entry) → sort_of (branch s i) ≡ Some sort → SameTrees (moved_if o i) j → AreNow (shift_of o) e
     → Carries sort (branch s i) (branch r j) e.read (items_now e))
     (without : (sort : Sort) (s r : Span) (i j : Forest) → sort_of (branch s i) ≡ Some sort → Alike None i j → Carries sort (branch s i) (branch r j) [] [])

@@ -15,6 +15,12 @@ pub record SameGround (a b : PlainBoard) : Type 0 where
   pub copper : b.copper ≡ a.copper
   pub nets : b.nets ≡ a.nets
 
+-- both have the same items, and the same numbers come next
+pub record SameItems (a b : PlainBoard) : Type 0 where
+  pub items : b.items ≡ a.items
+  pub ids : b.next_id ≡ a.next_id
+  pub units : b.next_unit ≡ a.next_unit
+
 -- the lists of items go last, each a unit of its own
 abbrev pub with_units : PlainBoard → List (List Item) → PlainBoard
 with_units board [] = board
