@@ -1,7 +1,7 @@
 -- The rows of a tile: those of the pairs that it answers for. The index holds the items of the board under their bounds, and its
 -- reach is that of the board, its classes and its rules.
 use Rattle.std.specs.Prelude.{◌≡◌, ◌⊎◌, ℕ, ℤ, Bool, ◌&&◌, ◌||◌, ◌==◌, List, [], ◌∷◌, ◌++◌, map, length, filter, Contains}
-use Rattle.std.specs.List.{list_any}
+use Rattle.std.specs.List.{AllZip, flat_map, list_any}
 use Rattle.geo_seg.specs.declared.boxes.Bounds.{Bounds}
 use Rattle.geo_seg.specs.Boxes.{widened, are_near}
 use Rattle.rule_pick.specs.Reach.{IsReach}
@@ -30,6 +30,13 @@ pub record IsAskedIn (index : PlainIndex) (tile : ℕ) (changed : List ℕ) (i j
 -- the rows of all pairs with an id that changed for which the tile answers, in order, and no others
 abbrev pub AreRowsOfTile : Checked → PlainIndex → ℕ → List ℕ → List PlainRow → Type 0
 AreRowsOfTile c index tile changed rows = AreRowsWhere (λ row. IsRowOfTwo c row × IsAskedIn index tile changed row.first row.second) rows
+
+-- for each of these tiles its rows
+abbrev pub AreBatches : Checked → PlainIndex → (tiles changed : List ℕ) → List (List PlainRow) → Type 0
+AreBatches c index tiles changed batches = AllZip (λ tile batch. AreRowsOfTile c index tile changed batch) tiles batches
+
+abbrev pub end_to_end : List (List PlainRow) → List PlainRow
+end_to_end batches = flat_map (λ (batch : List PlainRow). batch) batches
 
 -- ---- how many pairs are tested
 

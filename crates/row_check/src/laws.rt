@@ -1,12 +1,11 @@
 //! Laws of rows. The functions do nothing: each clause holds for all that is checked and for all rows.
 
 ghost use Rattle.std.specs.Prelude.{◌≡◌, ◌⊎◌, ℕ, List, All, Contains};
-ghost use Rattle.std.specs.List.{AllZip, flat_map};
 ghost use Rattle.std.specs.List.Sorted.{IsStrictlyIncreasing, IsPermutation};
 ghost use Rattle.box_index.specs.Tiles.{PlainIndex, IsSoundIndex};
 ghost use Rattle.pair_check.specs.PlainRow.{PlainRow};
 ghost use Rattle.pair_check.specs.Rows.{Checked, IsRow, IsRowOfTwo, AreRows, HasItems, HasSource};
-ghost use Rattle.row_check.specs.Tiles.{IsIndexOf, AreRowsOfTile};
+ghost use Rattle.row_check.specs.Tiles.{IsIndexOf, AreBatches, end_to_end};
 ghost use Rattle.row_check.specs.Whole.{AreOnceWhere, AreInOrder, AreEnough, IsAskedInOne, IsOfTiles};
 
 /// A board has one list of rows under the classes of a project and rules.
@@ -34,8 +33,7 @@ pub fn enough_answer()
 /// The rows of tiles, put end to end, have each row once.
 pub fn tiles_once()
     ensures { (c : Checked) (index : PlainIndex) → IsSoundIndex index → IsIndexOf c index → (tiles changed : List ℕ) → IsStrictlyIncreasing tiles
-        → (batches : List (List PlainRow)) → AllZip (λ tile batch. AreRowsOfTile c index tile changed batch) tiles batches
-        → AreOnceWhere (IsOfTiles c index tiles changed) (flat_map (λ (batch : List PlainRow). batch) batches) }
+        → (batches : List (List PlainRow)) → AreBatches c index tiles changed batches → AreOnceWhere (IsOfTiles c index tiles changed) (end_to_end batches) }
 {}
 
 /// The rows of a board that stand there once each, in any order, are its rows once they are put in order.
