@@ -1,5 +1,5 @@
 -- The areas and bodies near an item, as an index finds them.
-use Rattle.std.specs.Prelude.{◌≡◌, ◌≢◌, ℕ, ◌+◌, ◌<◌, ◌≤◌, Bool, true, false, List, [], ◌∷◌, Contains, Option, None, Some}
+use Rattle.std.specs.Prelude.{◌≡◌, ◌≢◌, ℕ, ◌+◌, ◌<◌, ◌≤◌, ◌⊎◌, Bool, true, false, List, [], ◌∷◌, filter, Contains, Option, None, Some}
 use Rattle.geo_seg.specs.declared.boxes.Bounds.{Bounds}
 use Rattle.geo_seg.specs.Boxes.{BoxesMeet, do_boxes_meet}
 use Rattle.board_items.specs.declared.item.Item.{Item}
@@ -53,6 +53,11 @@ pub record IsNear (item other : Item) : Type 0 where
   pub own : parts_of item ≢ []
   pub parts : parts_of other ≢ []
   pub boxes : (b c : Bounds) → AreBoundsOf (parts_of item) (Some b) → AreBoundsOf (parts_of other) (Some c) → BoxesMeet b c
+
+-- the items that the test passes are the same, and it passes all that is near the item
+pub record IsNearSame (old new : List (ℕ × Item)) (item : Item) (test : ℕ × Item → Bool) : Type 0 where
+  pub same : filter test new ≡ filter test old
+  pub passes : (entry : ℕ × Item) → Contains old entry ⊎ Contains new entry → IsNear item entry.1 → test entry ≡ true
 
 -- the index has an entry of the item, under its bounds
 pub record HasMark (index : PlainIndex) (id : ℕ) (item : Item) : Type 0 where
