@@ -7,7 +7,12 @@ use Rattle.board_items.specs.Extents.{AreBoundsOf}
 use Rattle.board_items.specs.Parts.{parts_of}
 use Rattle.box_index.specs.declared.entry.Entry.{Entry}
 use Rattle.box_index.specs.Tiles.{PlainIndex}
+use Rattle.net_class.specs.Classes.{PlainClasses}
 use Rattle.board_index.specs.Holding.{IsEntryOf, HasEntry}
+use Rattle.board_edits.specs.Touched.{AreEdited}
+use Rattle.rule_pick.specs.declared.facts.Facts.{Facts}
+use Rattle.rule_pick.specs.AllFacts.{HasFacts}
+use Rattle.kept_facts.specs.Kept.{AreChanged}
 
 -- ---- boxes
 
@@ -26,6 +31,13 @@ pub record IsRenewed (board : PlainBoard) (ids : List ℕ) (old new : PlainIndex
   pub only : (entry : Entry) → Contains new.entries entry → (Contains ids entry.id × IsEntryOf board entry) ⊎ ((¬ (Contains ids entry.id)) × Contains old.entries entry)
   pub holds : (id : ℕ) (item : Item) → Contains ids id → item_at board.items id ≡ Some item → parts_of item ≢ [] → HasEntry new id item
   pub kept : (entry : Entry) → ¬ (Contains ids entry.id) → Contains old.entries entry → Contains new.entries entry
+
+-- the edit is one of these ids, all items have their facts before it and after it, and what it changed is noted
+pub record IsNotedEdit (old new : PlainBoard) (classes : PlainClasses) (ids : List ℕ) (kept now : List (Option Facts)) (changed : List ℕ) : Type 0 where
+  pub edited : AreEdited old new ids
+  pub had : HasFacts old classes kept
+  pub has : HasFacts new classes now
+  pub noted : AreChanged old new classes ids kept now changed
 
 -- ---- nets
 

@@ -3,24 +3,18 @@
 ghost use Rattle.std.specs.Prelude.{◌++◌, ℕ, false, List, Option};
 ghost use Rattle.geo_seg.specs.declared.boxes.Bounds.{Bounds};
 ghost use Rattle.board_items.specs.Boards.{PlainBoard};
-ghost use Rattle.net_class.specs.Classes.{PlainClasses};
-ghost use Rattle.cond_lang.specs.Rules.{PlainRule};
 ghost use Rattle.rule_pick.specs.declared.facts.Facts.{Facts};
-ghost use Rattle.rule_pick.specs.AllFacts.{HasFacts};
-ghost use Rattle.kept_facts.specs.Kept.{AreChanged};
-ghost use Rattle.board_edits.specs.Touched.{AreEdited};
 ghost use Rattle.box_index.specs.Tiles.{PlainIndex, dirty_of};
 ghost use Rattle.row_check.specs.Tiles.{IsIndexOf};
 ghost use Rattle.row_check.specs.Whole.{AreEnough};
 ghost use Rattle.pair_check.specs.Rows.{Checked};
 ghost use Rattle.drc_state.specs.Boxes.{AreBoxesOf};
-ghost use Rattle.drc_session.specs.Looks.{AreBoxesIn};
+ghost use Rattle.drc_session.specs.Looks.{AreBoxesIn, IsNotedEdit};
 
 /// The boxes that an edit's ids had, and those that all changed ids have now, are those of all that differs.
 pub fn boxes_of()
-    ensures { (old new : PlainBoard) (classes : PlainClasses) (rules : List PlainRule) (ids changed : List ℕ) (kept now : List (Option Facts)) → AreEdited old new ids → HasFacts old classes kept → HasFacts new classes now → AreChanged old new classes ids kept now changed
-        → (was_boxes is_boxes : List Bounds) → AreBoxesIn old ids was_boxes → AreBoxesIn new changed is_boxes
-        → AreBoxesOf (record { board = old; classes = classes; rules = rules }) (record { board = new; classes = classes; rules = rules }) (was_boxes ++ is_boxes) }
+    ensures { (old : Checked) (new : PlainBoard) (ids changed : List ℕ) (kept now : List (Option Facts)) → IsNotedEdit old.board new old.classes ids kept now changed
+        → (was is : List Bounds) → AreBoxesIn old.board ids was → AreBoxesIn new changed is → AreBoxesOf old (record old { board = new }) (was ++ is) }
 {}
 
 /// The tiles that the boxes of what changed find are enough: each tile with an entry that changed is among them.

@@ -8,8 +8,10 @@ use Rattle.board_items.specs.Boards.{PlainBoard, item_at, is_mark}
 use Rattle.net_class.specs.Classes.{PlainClasses}
 use Rattle.cond_lang.specs.Rules.{PlainRule}
 use Rattle.rule_pick.specs.declared.facts.Facts.{Facts}
+use Rattle.rule_pick.specs.AllFacts.{HasFacts}
 use Rattle.rule_pick.specs.ById.{facts_at}
 use Rattle.rule_pick.specs.FactsOf.{MeetsArea, MeetsCourtyard, AreFacts}
+use Rattle.board_laws.specs.Edits.{IsEdit}
 use Rattle.kept_rows.specs.Steps.{IsStep}
 
 -- ---- areas and bodies, as they were and as they are
@@ -59,6 +61,13 @@ pub record AreRefreshed (new : PlainBoard) (classes : PlainClasses) (ids suspect
   pub there : (id : ℕ) → Contains suspects id → IsSome (facts_at now id)
   pub gone : (id : ℕ) → Contains ids id → ¬ (Contains suspects id) → facts_at now id ≡ None
   pub others : (id : ℕ) → ¬ (Contains ids id) → ¬ (Contains suspects id) → facts_at now id ≡ facts_at kept id
+
+-- all items had their facts, and those that an edit may have given others have them anew
+pub record IsFoundAgain (old new : PlainBoard) (classes : PlainClasses) (ids suspects : List ℕ) (kept now : List (Option Facts)) : Type 0 where
+  pub edit : IsEdit old new ids
+  pub suspected : AreSuspects old new ids suspects
+  pub had : HasFacts old classes kept
+  pub refreshed : AreRefreshed new classes ids suspects kept now
 
 -- the ids that changed: those of the edit, and those of the suspects that have other facts than were kept
 pub record AreNoted (ids suspects : List ℕ) (kept now : List (Option Facts)) (changed : List ℕ) : Type 0 where
