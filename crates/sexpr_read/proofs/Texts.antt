@@ -23,7 +23,7 @@ use Rattle.sexpr_read.proofs.Splits.{Splits}
 
 -- Where the reader stands a character begins: brackets, quotes and space are ASCII.
 
-high_plain : (b : ℕ) → 128 ≤ b → class_of b ≡ Plain
+pub high_plain : (b : ℕ) → 128 ≤ b → class_of b ≡ Plain
 unfolding class_of
 high_plain b h =
     let s : (b == 0x20) ≡ false = grind (arith, nat_tests, h) in

@@ -1,12 +1,12 @@
 -- What is UTF-8 spells atoms of UTF-8, and is spelled by them.
-use Rattle.std.proofs.Common.{◌≡◌, ◌∙◌, refl, sym, ap, subst, ℕ, zero, suc, ◌+◌, ◌<◌, ◌≤◌, arith, Bool, true, false, ◌==◌, List, [], ◌∷◌, ◌++◌, length, get_or, take, drop, append_assoc, length-append, append-nil, IsUtf8, inl, inr}
+use Rattle.std.proofs.Common.{◌≡◌, ◌∙◌, refl, sym, ap, subst, ℕ, zero, suc, ◌+◌, ◌<◌, arith, Bool, true, false, List, [], ◌∷◌, ◌++◌, length, get_or, take, drop, append_assoc, length-append, append-nil, IsUtf8, inl, inr}
 use Rattle.std.proofs.Math.Seq.{drop-append_seam, take-append_seam}
 use Rattle.std.proofs.lemmas.Bool.{cases_lt}
-use Rattle.std.proofs.lemmas.Bool.Decides.{nat_tests}
 use Rattle.std.proofs.lemmas.Str.{IsUtf8-append, IsUtf8-nil, IsUtf8-from_ascii, IsUtf8-take, IsUtf8-drop, IsCharBoundary-before_ascii, IsCharBoundary-after_ascii}
 use Rattle.sexpr_read.specs.declared.bytes.ByteClass.TheVariants.{Space, Plain}
 use Rattle.sexpr_read.specs.Bytes.{class_of, is_word}
 use Rattle.sexpr_read.specs.Tree.{Forest, none, atom, list}
+use Rattle.sexpr_read.proofs.Texts.{high_plain}
 use Rattle.tree_text.specs.Pieces.{IsBlank, written, MayFollow, Writes}
 use Rattle.tree_text.specs.Utf8.{AreUtf8}
 
@@ -35,19 +35,6 @@ halves xs ys b low u =
     let back : drop (n + 1) whole ≡ ys =
     ap (λ k. drop k whole) (sym size) ∙ ap (drop (length (xs ++ b ∷ []))) (sym (append_assoc xs (b ∷ []) ys)) ∙ drop-append_seam (xs ++ b ∷ []) ys in
     (subst IsUtf8 front (IsUtf8-take whole n u before), subst IsUtf8 back (IsUtf8-drop whole (n + 1) u after))
-
-high_plain : (b : ℕ) → 128 ≤ b → class_of b ≡ Plain
-unfolding class_of
-high_plain b h =
-    let s : (b == 0x20) ≡ false = grind (arith, nat_tests, h) in
-    let t : (b == 0x09) ≡ false = grind (arith, nat_tests, h) in
-    let f : (b == 0x0A) ≡ false = grind (arith, nat_tests, h) in
-    let r : (b == 0x0D) ≡ false = grind (arith, nat_tests, h) in
-    let o : (b == 0x28) ≡ false = grind (arith, nat_tests, h) in
-    let c : (b == 0x29) ≡ false = grind (arith, nat_tests, h) in
-    let q : (b == 0x22) ≡ false = grind (arith, nat_tests, h) in
-    let k : (b == 0x5C) ≡ false = grind (arith, nat_tests, h) in
-    rw (s, t, f, r, o, c, q, k) refl
 
 low_by : (b : ℕ) → (class_of b ≡ Plain → ⊥) → b < 128
 low_by b h = elim (cases_lt b 128) [ inl low ↦ low | inr high ↦ absurd (h (high_plain b high)) ]
