@@ -2,12 +2,11 @@
 use Rattle.std.proofs.Common.{◌≡◌, ◌≢◌, ℕ, ◌+◌, ◌-◌, ◌<◌, ◌∷◌, ◌++◌, length, All, List, [], None, Some, inl, inr, refl, sym, subst, ap, ◌∙◌}
 use Rattle.geo_seg.specs.declared.boxes.Bounds.{Bounds}
 use Rattle.geo_seg.specs.Boxes.{FitsWithin}
-use Rattle.std.proofs.Common.{ℤ, pos, ◌≤ℤ◌, neg_ℤ, get_or, arith}
+use Rattle.std.proofs.Common.{pos, get_or, arith}
 use Rattle.std.proofs.lemmas.Int.{ints}
 use Rattle.std.proofs.lemmas.Bool.{cases_lt}
 use Rattle.std.proofs.lemmas.List.{get_or_append_left, get_or-append_right, length_push}
 use Rattle.std.proofs.lemmas.List.Elements.{All-push}
-use Rattle.board_items.specs.declared.parts.Part.{Part}
 use Rattle.board_items.specs.declared.item.Item.{Item}
 use Rattle.board_items.specs.Boards.{PlainBoard, item_at}
 use Rattle.board_items.specs.Parts.{parts_of}
@@ -22,10 +21,6 @@ use Rattle.net_groups.proofs.Covers.{has_parts}
 some_same : (a b : Item) → Some a ≡ Some b → a ≡ b
 some_same a b e = cc
 
-pub no_parts : (ps : List Part) → AreBoundsOf ps None → ps ≡ []
-no_parts [] h = refl
-no_parts (p ∷ ps) h = absurd h
-
 pub room_is : (board : PlainBoard) (id : ℕ) (item : Item) (room : Bounds) → item_at board.items id ≡ Some item → (parts_of item ≢ [] → AreBoundsOf (parts_of item) (Some room)) → IsRoom board id room
 room_is board id item room found own other at some =
     let same : item ≡ other = some_same item other (sym found ∙ at) in
@@ -34,21 +29,9 @@ room_is board id item room found own other at some =
 pub no_item : (board : PlainBoard) (id : ℕ) (room : Bounds) → item_at board.items id ≡ None → IsRoom board id room
 no_item board id room none other at some = absurd (cc)
 
-pub looser : (b : Bounds) → FitsWithin (pos 1500000000) b → FitsWithin (pos 2000000000) b
-looser b h = record {
-  wide = h.wide;
-  high = h.high;
-  left = down b.left h.left;
-  top = down b.top h.top;
-  right = up b.right h.right;
-  bottom = up b.bottom h.bottom;
-}
-  where
-    down : (z : ℤ) → neg_ℤ (pos 1500000000) ≤ℤ z → neg_ℤ (pos 2000000000) ≤ℤ z
-    down z h = omega (arith, ints)
-
-    up : (z : ℤ) → z ≤ℤ pos 1500000000 → z ≤ℤ pos 2000000000
-    up z h = omega (arith, ints)
+-- a room fits an index
+looser : (b : Bounds) → FitsWithin (pos 1500000000) b → FitsWithin (pos 2000000000) b
+looser b f = record { wide = f.wide; high = f.high; left = omega (arith, ints); top = omega (arith, ints); right = omega (arith, ints); bottom = omega (arith, ints) }
 
 -- a touch of two items that are known
 pub touching_at : (board : PlainBoard) (i j : ℕ) (a b : Item) → item_at board.items i ≡ Some a → item_at board.items j ≡ Some b → TouchOn board i j → Touching a b
