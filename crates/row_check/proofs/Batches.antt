@@ -9,7 +9,8 @@ use Rattle.pair_check.specs.Rows.{Checked}
 use Rattle.row_check.specs.Tiles.{IsIndexOf, AreRowsOfTile}
 use Rattle.row_check.specs.Walks.{HasMore}
 use Rattle.row_check.specs.Whole.{AreOnceWhere, IsOfTiles}
-use Rattle.row_check.proofs.RowLists.{nothing, no_rows}
+use Rattle.board_index.proofs.OneList.{nothing}
+use Rattle.row_check.proofs.RowLists.{no_rows}
 use Rattle.row_check.proofs.Sorting.{once_from_rows}
 use Rattle.row_check.proofs.WholeRows.{one_tile_more}
 

@@ -1,10 +1,11 @@
 -- A board has one list of rows; their items are on it, and their rules among those that are checked.
-use Rattle.std.proofs.Common.{◌≡◌, ◌⊎◌, ℕ, suc, ◌<◌, List, [], ◌∷◌, length, All, Contains, Option, Some, IsSome, inl, inr, refl, sym, ap, subst, ◌∙◌, arith}
-use Rattle.std.specs.List.{AllPairs, slice_get}
+use Rattle.std.proofs.Common.{◌≡◌, ℕ, ◌<◌, List, length, All, Option, Some, IsSome, inl, inr, refl, sym, ap, subst, ◌∙◌, arith}
+use Rattle.std.specs.List.{slice_get}
 use Rattle.std.proofs.lemmas.List.Elements.{All-weaker, All-contains}
 use Rattle.std.proofs.lemmas.Option.{slice_get_within}
 use Rattle.board_items.specs.declared.item.Item.{Item}
 use Rattle.board_items.specs.Boards.{item_at}
+use Rattle.board_index.proofs.OneList.{same_lists}
 use Rattle.cond_lang.specs.Rules.{PlainRule}
 use Rattle.cond_lang.specs.declared.kind.Kind.{Kind}
 use Rattle.cond_lang.specs.declared.kind.Family.{Family}
@@ -19,7 +20,6 @@ use Rattle.pair_check.specs.PlainRow.{PlainRow}
 use Rattle.pair_check.specs.Pairs.{Deciders, Pair, BreaksBy, Breaks, SaysMeeting, SaysNear}
 use Rattle.pair_check.specs.Singles.{BreaksAloneBy, BreaksAlone, SaysLimit, SaysForbidden}
 use Rattle.pair_check.specs.Rows.{Checked, deciders, Before, AreRowsWhere, AreRows, IsRow, HasItems, HasSource}
-use Rattle.row_check.proofs.RowLists.{here, behind, nothing, cons_case}
 
 -- of two rows not both come before the other
 before_once : (r s : PlainRow) → Before r s → Before s r → ⊥
@@ -33,45 +33,9 @@ before_once r s (inr (inr h)) (inl k) = let p = h.0 in omega arith
 before_once r s (inr (inr h)) (inr (inl k)) = let p = h.1 in let q = k.1 in omega arith
 before_once r s (inr (inr h)) (inr (inr k)) = let p = h.2 in let q = k.2 in omega arith
 
--- the first row comes before each later one
-head_before : (r s : PlainRow) (rows : List PlainRow) → AllPairs Before (r ∷ rows) → Contains rows s → Before r s
-head_before r s rows ordered c = let h = c.1 in subst (Before r) c.2 (ordered 0 (suc c.0) s (omega arith) (omega arith))
-
-tail_ordered : (r : PlainRow) (rows : List PlainRow) → AllPairs Before (r ∷ rows) → AllPairs Before rows
-tail_ordered r rows ordered i j d h k = ordered (suc i) (suc j) d (omega arith) (omega arith)
-
--- what is among the rest of the one is among the rest of the other
-rest_in : (r : PlainRow) (rows others : List PlainRow) → AllPairs Before (r ∷ rows) → ((s : PlainRow) → Contains (r ∷ rows) s → Contains (r ∷ others) s) → (s : PlainRow) → Contains rows s → Contains others s
-rest_in r rows others ordered into s c = by_case (cons_case r s others (into s (behind r s rows c)))
-  where
-    by_case : (r ≡ s) ⊎ Contains others s → Contains others s
-    by_case (inr k) = k
-    by_case (inl e) = let b = head_before r s rows ordered c in absurd (before_once r s b (subst (λ x. Before s x) (sym e) (subst (λ x. Before x s) e b)))
-
--- rows in order with the same elements are the same
-pub same_rows : (xs ys : List PlainRow) → AllPairs Before xs → AllPairs Before ys → ((r : PlainRow) → Contains xs r → Contains ys r) → ((r : PlainRow) → Contains ys r → Contains xs r) → xs ≡ ys
-same_rows [] [] ox oy into back = refl
-same_rows [] (y ∷ ys) ox oy into back = absurd (nothing y (back y (here y ys)))
-same_rows (x ∷ xs) [] ox oy into back = absurd (nothing x (into x (here x xs)))
-same_rows (x ∷ xs) (y ∷ ys) ox oy into back = by_heads (same_rows xs ys) (cons_case y x ys (into x (here x xs))) (cons_case x y xs (back y (here y ys)))
-  where
-    by_same : (AllPairs Before xs → AllPairs Before ys → ((r : PlainRow) → Contains xs r → Contains ys r) → ((r : PlainRow) → Contains ys r → Contains xs r) → xs ≡ ys)
-        → x ≡ y → (x ∷ xs) ≡ (y ∷ ys)
-    by_same again e =
-        let into_x : (r : PlainRow) → Contains (x ∷ xs) r → Contains (x ∷ ys) r = λ r c. subst (λ h. Contains (h ∷ ys) r) (sym e) (into r c) in
-        let back_y : (r : PlainRow) → Contains (y ∷ ys) r → Contains (y ∷ xs) r = λ r c. subst (λ h. Contains (h ∷ xs) r) e (back r c) in
-        let rest = again (tail_ordered x xs ox) (tail_ordered y ys oy) (rest_in x xs ys ox into_x) (rest_in y ys xs oy back_y) in
-        ap (λ h. h ∷ xs) e ∙ ap (λ t. y ∷ t) rest
-
-    by_heads : (AllPairs Before xs → AllPairs Before ys → ((r : PlainRow) → Contains xs r → Contains ys r) → ((r : PlainRow) → Contains ys r → Contains xs r) → xs ≡ ys)
-        → (y ≡ x) ⊎ Contains ys x → (x ≡ y) ⊎ Contains xs y → (x ∷ xs) ≡ (y ∷ ys)
-    by_heads again (inl e) k = by_same again (sym e)
-    by_heads again (inr h) (inl e) = by_same again e
-    by_heads again (inr h) (inr k) = absurd (before_once x y (head_before x y xs ox k) (head_before y x ys oy h))
-
 pub one_list_where : (P : PlainRow → Type 0) (xs ys : List PlainRow) → AreRowsWhere P xs → AreRowsWhere P ys → xs ≡ ys
 one_list_where P xs ys p q =
-    same_rows xs ys p.ordered q.ordered (λ r h. q.all r (All-contains P xs r p.only h)) (λ r h. p.all r (All-contains P ys r q.only h))
+    same_lists Before before_once xs ys p.ordered q.ordered (λ r h. q.all r (All-contains P xs r p.only h)) (λ r h. p.all r (All-contains P ys r q.only h))
 
 pub one_list : (c : Checked) (xs ys : List PlainRow) → AreRows c xs → AreRows c ys → xs ≡ ys
 one_list c xs ys p q = one_list_where (IsRow c) xs ys p q

@@ -11,7 +11,8 @@ use Rattle.pair_check.specs.PlainRow.{PlainRow}
 use Rattle.pair_check.specs.Rows.{Checked, IsRowOfTwo, Before, AreRowsOfPair}
 use Rattle.row_check.specs.Tiles.{pairs_of}
 use Rattle.row_check.specs.Walks.{is_owned, pairs_with, IsOfOne, AreRowsOfPairs}
-use Rattle.row_check.proofs.RowLists.{pairs_append, here, nothing, cons_case, across, no_rows, alike, joined}
+use Rattle.board_index.proofs.OneList.{here, nothing, cons_case}
+use Rattle.row_check.proofs.RowLists.{pairs_append, across, no_rows, alike, joined}
 
 abbrev pub Pair : Type 0
 Pair = Entry × Entry

@@ -1,9 +1,10 @@
 -- Lists of rows in order: put end to end, and told by their rows.
-use Rattle.std.proofs.Common.{◌≡◌, ◌⊎◌, ℕ, zero, suc, ◌<◌, List, [], ◌∷◌, ◌++◌, length, get_or, inl, inr, refl, subst, arith}
+use Rattle.std.proofs.Common.{◌≡◌, ◌⊎◌, List, [], ◌∷◌, ◌++◌, get_or, inl, inr, subst, arith}
 use Rattle.std.specs.List.{All, AllPairs, Contains}
 use Rattle.std.proofs.lemmas.List.Elements.{All-nil, All-head, All-tail, All-append, All-weaker, All-contains, Contains-get_or, Contains-append_left, Contains-append_right}
 use Rattle.std.proofs.lemmas.List.Kept.{AllPairs-cons}
 use Rattle.box_index.proofs.EntryLists.{pairs_first, pairs_rest}
+use Rattle.board_index.proofs.OneList.{nothing, cons_case}
 use Rattle.pair_check.specs.PlainRow.{PlainRow}
 use Rattle.pair_check.specs.Rows.{Before, AreRowsWhere}
 
@@ -14,22 +15,6 @@ module _ {X : Type 0} where
   pairs_append R (x ∷ xs) ys h g k =
       AllPairs-cons R x (xs ++ ys) (All-append (R x) xs ys (pairs_first R x xs h) (All-head (λ z. All (R z) ys) x xs k))
       (pairs_append R xs ys (pairs_rest R x xs h) g (All-tail (λ z. All (R z) ys) x xs k))
-
-  pub here : (x : X) (xs : List X) → Contains (x ∷ xs) x
-  here x xs = (0, omega arith, refl)
-
-  pub behind : (x y : X) (xs : List X) → Contains xs y → Contains (x ∷ xs) y
-  behind x y xs c = let h = c.1 in (suc c.0, omega arith, c.2)
-
-  pub nothing : (x : X) → Contains [] x → ⊥
-  nothing x c = let h = c.1 in omega arith
-
-  pub cons_case : (x y : X) (xs : List X) → Contains (x ∷ xs) y → (x ≡ y) ⊎ Contains xs y
-  cons_case x y xs c = by_place c.0 c.1 c.2
-    where
-      by_place : (k : ℕ) → k < length (x ∷ xs) → get_or (x ∷ xs) k y ≡ y → (x ≡ y) ⊎ Contains xs y
-      by_place zero h e = inl e
-      by_place (suc k) h e = inr (k, omega arith, e)
 
   pub pairs_front : (R : X → X → Type 0) (xs ys : List X) → AllPairs R (xs ++ ys) → AllPairs R xs
   pairs_front R [] ys h = λ i j d l m. absurd (omega arith)

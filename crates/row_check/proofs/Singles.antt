@@ -12,7 +12,8 @@ use Rattle.pair_check.specs.Singles.{BreaksAlone}
 use Rattle.pair_check.specs.Rows.{Checked, deciders, IsRowOfOne, AreRowsOfItem}
 use Rattle.row_check.specs.Walks.{HasMore}
 use Rattle.row_check.specs.Whole.{AreSingles}
-use Rattle.row_check.proofs.RowLists.{nothing, no_rows, joined}
+use Rattle.board_index.proofs.OneList.{nothing}
+use Rattle.row_check.proofs.RowLists.{no_rows, joined}
 use Rattle.row_check.proofs.WholeRows.{below_next}
 
 pub nothing_more : (P : List PlainRow → Type 0) (rows : List PlainRow) → P [] → HasMore P rows rows

@@ -18,7 +18,8 @@ use Rattle.pair_check.specs.Rows.{Checked, IsRowOfTwo}
 use Rattle.board_index.specs.Holding.{IsEntryOf}
 use Rattle.row_check.specs.Tiles.{IsIndexOf, IsAskedIn, AreRowsOfTile, pairs_of, is_changed}
 use Rattle.row_check.specs.Walks.{is_owned, AreRowsOfPairs}
-use Rattle.row_check.proofs.RowLists.{here, behind, nothing, cons_case, alike, no_rows}
+use Rattle.board_index.proofs.OneList.{here, behind, nothing, cons_case}
+use Rattle.row_check.proofs.RowLists.{alike, no_rows}
 use Rattle.row_check.proofs.PairLists.{Pair, Passes}
 use Rattle.row_check.proofs.TestedPairs.{touches, test_of}
 use Rattle.row_check.proofs.NearPairs.{broken_near}

@@ -22,7 +22,8 @@ use Rattle.board_index.proofs.Numbers.{all_rise, has_number}
 use Rattle.row_check.specs.Tiles.{IsIndexOf, IsAskedIn, AreRowsOfTile}
 use Rattle.row_check.specs.Walks.{HasMore}
 use Rattle.row_check.specs.Whole.{StandApart, AreOnceWhere, AreEnough, AreSingles, IsAskedInOne, IsOfTiles, IsOfChanged, ids_of}
-use Rattle.row_check.proofs.RowLists.{here, behind, nothing, cons_case, pairs_append, across, alike}
+use Rattle.board_index.proofs.OneList.{here, behind, nothing, cons_case}
+use Rattle.row_check.proofs.RowLists.{pairs_append, across, alike}
 use Rattle.row_check.proofs.PairLists.{pairs_take}
 use Rattle.row_check.proofs.TileRows.{entries_near}
 use Rattle.row_check.proofs.NearPairs.{broken_has_parts}
