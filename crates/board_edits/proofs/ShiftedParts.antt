@@ -9,7 +9,6 @@ use Rattle.geo_seg.specs.declared.shapes.Core.{Core}
 use Rattle.geo_seg.specs.declared.shapes.Core.TheVariants.{Line, Area as Polygon}
 use Rattle.geo_seg.specs.Shifts.{IsShiftedPoint, IsShiftedCore, is_coordinate, point_stays, core_stays}
 use Rattle.board_items.specs.declared.parts.Part.{Part}
-use Rattle.board_items.specs.declared.item.What.{What}
 use Rattle.board_items.specs.declared.item.Item.{Item}
 use Rattle.board_items.specs.Boards.{PlainBoard, AllAdmitted, is_near, is_on_board, name_of, has_layers_of}
 use Rattle.board_items.specs.Parts.{parts_of}

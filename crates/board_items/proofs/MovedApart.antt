@@ -11,7 +11,6 @@ use Rattle.geo_seg.specs.Cores.{IsPointOf}
 use Rattle.geo_seg.specs.Inside.{IsInside}
 use Rattle.geo_seg.specs.Shifts.{IsShiftedPoint, IsShiftedCore}
 use Rattle.board_items.specs.declared.parts.Part.{Part}
-use Rattle.board_items.specs.declared.item.What.{What}
 use Rattle.board_items.specs.declared.item.Item.{Item}
 use Rattle.board_items.specs.Parts.{parts_of}
 use Rattle.board_items.specs.Extents.{AreBoundsOf}

@@ -30,7 +30,6 @@ use drc_io::Name;
 use indexmap::IndexMap;
 use plain_types::GREATEST_LENGTH;
 use std::alloc::{AllocError, Global};
-use std::cmp::Ordering;
 use std::marker::Model;
 
 /// The most items that a board holds.

@@ -6,7 +6,7 @@ ghost use Rattle.board_items.specs.Units.{found_of, is_body, has_other_unit, has
 
 use crate::board::Board;
 use crate::found::Found;
-use crate::item::{Item, What};
+use crate::item::What;
 use crate::walk::{NamedIter, UnitIter};
 use drc_io::Name;
 

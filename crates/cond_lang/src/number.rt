@@ -1,9 +1,8 @@
 //! Numbers with a unit, as they stand in a text.
 
-ghost use Rattle.std.specs.Prelude.{◌≡◌, ◌≤◌, ◌-◌, length, MatchResult, ℤ, pos, ◌≤ℤ◌};
+ghost use Rattle.std.specs.Prelude.{◌≡◌, ◌≤◌, ◌-◌, length, MatchResult};
 ghost use Rattle.exact_dec.specs.Computed.{after_sign, front_digits, after_digits};
 ghost use Rattle.cond_lang.specs.Found.{read, fault};
-ghost use Rattle.cond_lang.specs.Signs.{is_digit as is_digit_byte};
 ghost use Rattle.cond_lang.specs.Numbers.{digits as digits_of, are_zeros as are_zeros_in, fraction as fraction_of, mantissa as mantissa_of, power as power_of, metric as metric_of, unit as unit_of, spelled as spelled_of, measure as measure_of};
 
 use crate::error::CondError;

@@ -1,10 +1,10 @@
 //! Conditions: chains, negations and brackets.
 
-ghost use Rattle.std.specs.Prelude.{◌≡◌, ◌≤◌, ◌⊎◌, ◌*◌, ◌+◌, Bool, true, [], length, map, drop, MatchResult, IfOk};
-ghost use Rattle.cond_lang.specs.Found.{Found, read, fault};
+ghost use Rattle.std.specs.Prelude.{◌≡◌, ◌≤◌, ◌⊎◌, ◌*◌, ◌+◌, true, [], length, map, drop, MatchResult, IfOk};
+ghost use Rattle.cond_lang.specs.Found.{read, fault};
 ghost use Rattle.cond_lang.specs.Trees.{CondTree, any, all, negated as negated_tree, cond_tree_of, trees_of};
 ghost use Rattle.cond_lang.specs.Grammar.{Spells};
-ghost use Rattle.cond_lang.specs.Conditions.{joined, begins_with as begins_with_byte, shallow_at, chain, alternatives, negation as negation_of, disjunction, reading, twice};
+ghost use Rattle.cond_lang.specs.Conditions.{begins_with as begins_with_byte, shallow_at, chain, alternatives, negation as negation_of, disjunction, reading, twice};
 
 use crate::cond::{Cond, Conds};
 use crate::error::CondError;

@@ -2,7 +2,6 @@
 
 ghost use Rattle.std.specs.Prelude.{◌≡◌, ◌≤◌, ◌⊎◌, length, MatchResult};
 ghost use Rattle.cond_lang.specs.Found.{read, fault};
-ghost use Rattle.cond_lang.specs.Signs.{after_blanks};
 ghost use Rattle.cond_lang.specs.Trees.{cond_tree_of};
 ghost use Rattle.cond_lang.specs.Values.{selected as selected_of, member as member_of, begins_number as begins_number_byte, head as head_of, argument as argument_of, opened as opened_of, called as called_of, with_equals as with_equals_of, operator as operator_of, is_text_prop as is_text_prop_of, is_text as is_text_term, is_order as is_order_op, clash as clash_of, comparison as comparison_of, compared as compared_of, atom as atom_of_text};
 

@@ -1,5 +1,5 @@
 -- When a count of faults rises at the edge of the program.
-use Rattle.std.specs.Prelude.{ℕ, Bool, false, ◌==◌, List, length, if◌then◌else◌, Result, Ok, Err, is_err}
+use Rattle.std.specs.Prelude.{ℕ, Bool, false, ◌==◌, List, length, if◌then◌else◌, Result, Ok, Err}
 use Rattle.drc_io.specs.Causes.{next_count}
 
 -- the count after a call that met a fault or not

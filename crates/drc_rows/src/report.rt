@@ -1,6 +1,6 @@
 //! The lines of rows, and lines with a number.
 
-ghost use Rattle.std.specs.Prelude.{◌≡◌, ◌<◌, ℕ, [], length, map, All};
+ghost use Rattle.std.specs.Prelude.{◌≡◌, ◌<◌, ℕ, length, map, All};
 ghost use Rattle.std.specs.List.{flat_map};
 ghost use Rattle.drc_io.specs.Sinks.{Writes};
 ghost use Rattle.cond_lang.specs.Rules.{plain_rule};

@@ -1,6 +1,6 @@
 // The edges of a path, and a segment.
 
-ghost use Rattle.std.specs.Prelude.{◌≡◌, ◌≤ℤ◌, ◌<◌, pos, IsTrue, ◌↔◌, length, drop};
+ghost use Rattle.std.specs.Prelude.{◌≡◌, ◌<◌, pos, IsTrue, ◌↔◌, length, drop};
 ghost use Rattle.geo_seg.specs.Nearer.{IsDistance};
 ghost use Rattle.geo_seg.specs.Points.{IsOn};
 ghost use Rattle.geo_seg.specs.Boxes.{IsLeastBox, FitsWithin};

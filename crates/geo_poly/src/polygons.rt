@@ -1,6 +1,6 @@
 // Polygons with all their points. The boxes that they keep decide most questions.
 
-ghost use Rattle.std.specs.Prelude.{◌≤ℤ◌, pos, IsTrue, ◌↔◌, ◌⊎◌};
+ghost use Rattle.std.specs.Prelude.{IsTrue, ◌↔◌, ◌⊎◌};
 ghost use Rattle.geo_seg.specs.Points.{IsOn, spot_of};
 ghost use Rattle.geo_seg.specs.Nearer.{IsDistance, AreApart, AreWithin};
 ghost use Rattle.geo_seg.specs.Distances.{IsGap};

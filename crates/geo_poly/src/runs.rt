@@ -1,7 +1,7 @@
 // Two outlines, each taken in runs of edges, and those again in shorter ones: two runs whose boxes are
 // clear of each other are not looked at any nearer.
 
-ghost use Rattle.std.specs.Prelude.{◌≡◌, ◌≤ℤ◌, ◌<◌, ◌≤◌, pos, IsTrue, ◌↔◌, length};
+ghost use Rattle.std.specs.Prelude.{◌≡◌, ◌<◌, ◌≤◌, IsTrue, ◌↔◌, length};
 ghost use Rattle.geo_seg.specs.Nearer.{IsDistance};
 ghost use Rattle.geo_seg.specs.Inside.{path, outline, EachEdge, SomeEdge};
 ghost use Rattle.geo_seg.specs.Runs.{IsRunBox};

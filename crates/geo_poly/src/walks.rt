@@ -1,7 +1,7 @@
 // Walks along the outline of a polygon, which pass over runs of edges that lie far away: where the
 // polygon keeps the box of a run, and the box decides.
 
-ghost use Rattle.std.specs.Prelude.{◌≡◌, ◌≤ℤ◌, ◌<◌, ◌≤◌, List, pos, IsTrue, ◌↔◌, length, take, drop};
+ghost use Rattle.std.specs.Prelude.{◌≡◌, ◌<◌, ◌≤◌, List, pos, IsTrue, ◌↔◌, length, take, drop};
 ghost use Rattle.geo_seg.specs.Nearer.{IsUpTo, IsDistance};
 ghost use Rattle.geo_seg.specs.declared.points.Seg.{Seg};
 ghost use Rattle.geo_seg.specs.Points.{IsOn};

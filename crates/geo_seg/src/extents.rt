@@ -1,6 +1,6 @@
 // The least boxes that hold points, segments and shapes.
 
-ghost use Rattle.std.specs.Prelude.{◌≤ℤ◌, ◌≡◌, ◌++◌, ◌∷◌, [], List, pos};
+ghost use Rattle.std.specs.Prelude.{◌≡◌, ◌++◌, ◌∷◌, [], List, pos};
 ghost use Rattle.geo_seg.specs.Nearer.{IsUpTo};
 ghost use Rattle.geo_seg.specs.declared.points.Point.{Point};
 ghost use Rattle.geo_seg.specs.Boxes.{FitsWithin, IsLeastBox, widened};

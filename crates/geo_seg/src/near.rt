@@ -1,7 +1,7 @@
 // How near points and segments are, with no rounding. Most pairs of a board are far apart, so boxes
 // are compared first, and products are formed only where these do not decide.
 
-ghost use Rattle.std.specs.Prelude.{◌≡◌, ◌≤ℤ◌, ◌≤◌, ◌*ℤ◌, pos, true, unsigned_abs, IsTrue, ◌↔◌};
+ghost use Rattle.std.specs.Prelude.{◌≡◌, ◌≤◌, ◌*ℤ◌, true, unsigned_abs, IsTrue, ◌↔◌};
 ghost use Rattle.geo_seg.specs.Points.{IsAt, IsOn};
 ghost use Rattle.geo_seg.specs.Nearer.{IsDistance, square, AreApart, AreWithin, DoMeet};
 ghost use Rattle.geo_seg.specs.Gap.{IsLeastGap, IsFramed, IsCrossing, IsEndReached, AreEndsApart};

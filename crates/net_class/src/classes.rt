@@ -1,6 +1,6 @@
 //! The classes of a project, and the class of a net.
 
-ghost use Rattle.std.specs.Prelude.{◌≡◌, map, find, IfOk};
+ghost use Rattle.std.specs.Prelude.{◌≡◌, map, IfOk};
 ghost use Rattle.std.specs.Option.{option_map};
 ghost use Rattle.plain_types.specs.Lengths.{IsLength};
 ghost use Rattle.json_exact.specs.Handles.{json_of};

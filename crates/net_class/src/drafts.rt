@@ -1,6 +1,6 @@
 //! The classes of a project while it is read.
 
-ghost use Rattle.std.specs.Prelude.{◌≡◌, Some, map, find, IfOk, OnOk};
+ghost use Rattle.std.specs.Prelude.{◌≡◌, Some, map, find, IfOk};
 ghost use Rattle.std.specs.Option.{option_map};
 ghost use Rattle.net_class.specs.ClassesOf.{is_named, default_clearance, class_from};
 ghost use Rattle.net_class.specs.Walk.{with_written};

@@ -1,6 +1,6 @@
 //! The members of the objects in a project.
 
-ghost use Rattle.std.specs.Prelude.{◌≡◌, ℤ, IfOk, IfSome};
+ghost use Rattle.std.specs.Prelude.{◌≡◌, IfOk};
 ghost use Rattle.json_exact.specs.Json.{begins_at, is_object};
 ghost use Rattle.json_exact.specs.Handles.{json_of};
 ghost use Rattle.plain_types.specs.Lengths.{IsLength, IsLengthIfSome};

@@ -1,6 +1,6 @@
 //! Patterns of names.
 
-ghost use Rattle.std.specs.Prelude.{◌≡◌, ◌↔◌, ◌<◌, ◌≤◌, IsTrue, IfSome, MatchOption, None, Some, true, false, length, slice_index};
+ghost use Rattle.std.specs.Prelude.{◌≡◌, ◌↔◌, ◌<◌, ◌≤◌, IsTrue, IfSome, MatchOption, None, Some, false, length, slice_index};
 ghost use Rattle.net_class.specs.Wild.{Matches, matches, sign_of, is_same, continues, next_character};
 ghost use Rattle.net_class.specs.Runs.{behind, run_of, matches_an_end};
 

@@ -2,9 +2,9 @@
 
 ghost use Rattle.std.specs.Prelude.{◌≡◌, [], map, OnOk};
 ghost use Rattle.json_exact.specs.Json.{items};
-ghost use Rattle.json_exact.specs.Handles.{json_of, items_left};
+ghost use Rattle.json_exact.specs.Handles.{json_of};
 ghost use Rattle.net_class.specs.ClassesOf.{written_in, patterns_in};
-ghost use Rattle.net_class.specs.Walk.{with_written, with_class, with_classes, with_texts, with_pattern, with_patterns};
+ghost use Rattle.net_class.specs.Walk.{with_class, with_classes, with_texts, with_pattern, with_patterns};
 ghost use Rattle.net_class.specs.Views.{plain_pattern, json_if, Gives, GivesPatterns, Leaves};
 
 use crate::drafts::Drafts;

@@ -1,6 +1,6 @@
 //! The copper of pads.
 
-ghost use Rattle.std.specs.Prelude.{◌≡◌, ◌<◌, ◌∷◌, ◌++◌, [], All, IfOk, List, Option, Some, None, if◌then◌else◌};
+ghost use Rattle.std.specs.Prelude.{◌≡◌, ◌<◌, ◌++◌, All, IfOk, List, Option, Some, None, if◌then◌else◌};
 ghost use Rattle.board_items.specs.declared.parts.Part.{Part};
 ghost use Rattle.part_read.specs.There.{both, after};
 ghost use Rattle.part_read.specs.Figures.{drawn, IsDrawable};

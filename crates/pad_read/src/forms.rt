@@ -1,6 +1,6 @@
 //! The forms of pads.
 
-ghost use Rattle.std.specs.Prelude.{◌≡◌, [], IfOk};
+ghost use Rattle.std.specs.Prelude.{◌≡◌, IfOk};
 ghost use Rattle.sexpr_read.specs.Views.{tree_of};
 ghost use Rattle.part_read.specs.Nodes.{Gives};
 ghost use Rattle.pad_read.specs.PadSizes.{AreRead};

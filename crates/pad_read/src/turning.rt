@@ -1,6 +1,6 @@
 //! How pads are turned, and what must be at most 500 mm.
 
-ghost use Rattle.std.specs.Prelude.{◌≡◌, ◌<◌, pos, IfSome};
+ghost use Rattle.std.specs.Prelude.{◌≡◌, ◌<◌, IfSome};
 ghost use Rattle.pad_read.specs.PadFrames.{hole_sizes, is_round_hole, is_turning, quarter_of};
 ghost use Rattle.pad_read.specs.PadOf.{sizes_fit, some_fit, local_of, equals_drill, has_copper};
 

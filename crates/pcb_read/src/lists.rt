@@ -22,7 +22,7 @@ use part_read::{
 };
 use plain_types::one;
 use sexpr_read::Node;
-use std::alloc::{AllocError, Global};
+use std::alloc::Global;
 use zone_read::read_zone;
 
 // ---- room

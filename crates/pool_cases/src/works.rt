@@ -1,6 +1,6 @@
 //! Works.
 
-ghost use Rattle.std.specs.Prelude.{◌≡◌, ℕ, ◌*◌, length, slice_index};
+ghost use Rattle.std.specs.Prelude.{◌≡◌, ◌*◌, length, slice_index};
 
 use std::alloc::{AllocError, Global};
 use tile_pool::TileWork;

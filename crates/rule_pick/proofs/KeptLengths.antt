@@ -1,5 +1,5 @@
 -- Lengths as they are kept.
-use Rattle.std.proofs.Common.{◌≡◌, refl, ℤ, pos, negsuc, ◌≤ℤ◌, ◌<ℤ◌, Option, None, Some, arith}
+use Rattle.std.proofs.Common.{◌≡◌, refl, ℤ, pos, negsuc, ◌≤ℤ◌, ◌<ℤ◌, None, Some, arith}
 use Rattle.std.proofs.lemmas.Int.{ints}
 use Rattle.rule_pick.specs.KeptLengths.{length_of}
 

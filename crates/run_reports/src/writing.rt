@@ -1,14 +1,13 @@
 //! Reports of a board, whole and short.
 
-ghost use Rattle.std.specs.Prelude.{◌≡◌, ◌++◌, ℕ, List, [], All, map, length, filter};
+ghost use Rattle.std.specs.Prelude.{◌≡◌, ◌++◌, [], All, map, length, filter};
 ghost use Rattle.std.specs.List.{flat_map};
 ghost use Rattle.drc_io.specs.Sinks.{Writes};
 ghost use Rattle.cond_lang.specs.Rules.{plain_rule};
 ghost use Rattle.rule_text.specs.Views.{plain_rules};
 ghost use Rattle.pair_check.specs.Rows.{HasItems, HasSource};
 ghost use Rattle.net_groups.specs.NetParts.{is_open, IsWritable};
-ghost use Rattle.drc_rows.specs.Notes.{note_count};
-ghost use Rattle.drc_rows.specs.Report.{rows_text, notes_text, number_line};
+ghost use Rattle.drc_rows.specs.Report.{rows_text, notes_text};
 ghost use Rattle.drc_rows.specs.ReportOf.{part_text, nets_text, tiles_line, first_line, whole_report, short_report};
 ghost use Rattle.run_reports.specs.Counts.{counts_text};
 

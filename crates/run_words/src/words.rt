@@ -1,6 +1,6 @@
 //! What the words of the command line say.
 
-ghost use Rattle.std.specs.Prelude.{◌≡◌, ◌≤◌, false, Some, None, IfOk, IfSome, option_map, codes};
+ghost use Rattle.std.specs.Prelude.{◌≡◌, ◌≤◌, false, Some, None, IfOk, IfSome, option_map};
 ghost use Rattle.clap.specs.Words.{app_of, rule_of, first_value, found_of};
 ghost use Rattle.run_words.specs.Calls.{option_rule, bare_app, app_with_files, drc_app, number_in, workers_of, source_of, reading_of, reading_by, words_of};
 ghost use Rattle.run_words.specs.Views.{source_in, reading_in, SourceFits, RequestFits};

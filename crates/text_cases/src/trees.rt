@@ -6,7 +6,7 @@
 ghost use Rattle.std.specs.Prelude.{◌≤◌, length};
 
 use case_lines::{Fault, add, first_word, quoted, refused, text_of, told};
-use sexpr_read::{Doc, Node, TextError, parse_all, parse_one};
+use sexpr_read::{Doc, Node, parse_all, parse_one};
 use std::alloc::Global;
 
 /// The answer of the call of this name.

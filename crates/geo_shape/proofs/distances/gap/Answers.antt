@@ -1,4 +1,4 @@
-use Rattle.std.proofs.Common.{◌≡◌, ◌⊎◌, ◌∙◌, ℤ, pos, ◌+ℤ◌, ◌*ℤ◌, ◌≤ℤ◌, refl, sym, ap, subst, arith}
+use Rattle.std.proofs.Common.{◌≡◌, ◌⊎◌, ◌∙◌, ℤ, pos, ◌+ℤ◌, ◌*ℤ◌, ◌≤ℤ◌, refl, ap, subst, arith}
 use Rattle.std.proofs.lemmas.Int.{ints}
 use Rattle.int_algebra.proofs.Scalars.{passed}
 use Rattle.geo_seg.proofs.Passed.{d_kept}

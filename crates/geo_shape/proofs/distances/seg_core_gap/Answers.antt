@@ -1,4 +1,4 @@
-use Rattle.std.proofs.Common.{ℤ, sym, subst}
+use Rattle.std.proofs.Common.{sym, subst}
 use Rattle.int_algebra.proofs.Scalars.{passed}
 use Rattle.geo_seg.specs.declared.shapes.Core.{Core}
 use Rattle.geo_seg.specs.Points.{IsOn}

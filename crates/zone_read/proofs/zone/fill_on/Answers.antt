@@ -1,4 +1,4 @@
-use Rattle.std.proofs.Common.{◌≡◌, ◌∙◌, sym, ap, subst, refl, true, ◌∷◌, []}
+use Rattle.std.proofs.Common.{◌≡◌, ◌∙◌, sym, ap, subst, refl, true}
 use Rattle.sexpr_read.specs.Views.{tree_of}
 use Rattle.board_items.specs.declared.item.What.TheVariants.{Fill}
 use Rattle.board_items.specs.declared.item.Item.{Item}
