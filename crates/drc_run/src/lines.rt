@@ -1,6 +1,6 @@
 //! Lines that stand in the place of reports.
 
-ghost use Rattle.std.specs.Prelude.{◌≡◌, ◌++◌, ℕ, List};
+ghost use Rattle.std.specs.Prelude.{◌≡◌};
 ghost use Rattle.drc_io.specs.Sinks.{Writes};
 ghost use Rattle.run_texts.specs.Refusing.{plus_text, digits_text, why_of};
 ghost use Rattle.drc_run.specs.Output.{refusal, cannot_read};

@@ -1,6 +1,6 @@
 //! What each command of a script would do alone, and which of them leaves the fewest rows.
 
-ghost use Rattle.std.specs.Prelude.{◌≡◌, ◌≤◌, ◌<◌, ◌⊎◌, ◌++◌, ◌+◌, ℕ, List, Option, Some, Err, codes, decimal, false, map, length, All, IfOk, IfErr, slice_get};
+ghost use Rattle.std.specs.Prelude.{◌≡◌, ◌≤◌, ◌<◌, ◌⊎◌, ◌++◌, ◌+◌, Option, Some, Err, codes, decimal, false, map, length, All, IfOk, IfErr, slice_get};
 ghost use Rattle.std.specs.List.{flat_map};
 ghost use Rattle.std.specs.Io.KnownBytes.{Keeps};
 ghost use Rattle.drc_io.specs.Causes.{Rose};

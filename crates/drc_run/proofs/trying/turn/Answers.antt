@@ -1,4 +1,4 @@
-use Rattle.std.proofs.Common.{◌∙◌, ap, inl, refl, sym, subst, [], ◌∷◌}
+use Rattle.std.proofs.Common.{◌∙◌, ap, refl, sym, subst, [], ◌∷◌}
 use Rattle.edit_script.specs.Commands.{plain_command}
 use Rattle.drc_state.specs.Changes.{plain_change, LeadsBack}
 use Rattle.drc_session.specs.Sessions.{PlainSession}
