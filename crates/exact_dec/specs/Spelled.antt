@@ -15,9 +15,13 @@ pub record HasDigits (p : Spelling) : Type 0 where
   pub fraction : all_ascii_digits p.fraction ≡ true
   pub exponent : all_ascii_digits p.exponent ≡ true
 
+-- the number of all digits, as if there were no point
+abbrev pub digits_of : Spelling → ℕ
+digits_of p = number (p.whole ++ p.fraction)
+
 -- the value without its sign, as a fraction
 abbrev pub top : Spelling → ℕ
-top p = number (p.whole ++ p.fraction) * 10 ^ raised p.lowers p.exponent
+top p = digits_of p * 10 ^ raised p.lowers p.exponent
 
 abbrev pub bottom : Spelling → ℕ
 bottom p = 10 ^ (length p.fraction + lowered p.lowers p.exponent)

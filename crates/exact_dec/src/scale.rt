@@ -3,7 +3,7 @@
 ghost use Rattle.std.specs.Prelude.{◌≡◌, ◌<◌, ◌≤◌, ◌+◌, ◌*◌, ◌^◌, ◌++◌, ℕ, true, length, MatchOption};
 ghost use Rattle.std.specs.Str.{all_ascii_digits};
 ghost use Rattle.exact_dec.specs.Decimal.{number};
-ghost use Rattle.exact_dec.specs.Spelled.{spelled, HasDigits, top, bottom, IsQuotient};
+ghost use Rattle.exact_dec.specs.Spelled.{spelled, HasDigits, digits_of, top, bottom, IsQuotient};
 
 use crate::parts::DecimalParts;
 
@@ -128,9 +128,9 @@ fn scaled_up(parts: &DecimalParts<'_>, by: usize, unit: u64) -> Option<Quotient>
     requires digits { HasDigits (spelled parts.now) }
     ensures { MatchOption result
         (100000000 * 10 ^ length parts.now.fraction.now
-        < number (parts.now.whole.now ++ parts.now.fraction.now) * 10 ^ by)
+        < digits_of (spelled parts.now) * 10 ^ by)
         (λ q. (q.whole ≤ 100000001 * unit) × IsQuotient
-        (unit * (number (parts.now.whole.now ++ parts.now.fraction.now) * 10 ^ by))
+        (unit * (digits_of (spelled parts.now) * 10 ^ by))
         (10 ^ length parts.now.fraction.now) q.whole q.exact) }
 {
     let moved = by.min(parts.fraction.len());
@@ -149,9 +149,9 @@ fn scaled_down(parts: &DecimalParts<'_>, by: usize, unit: u64) -> Option<Quotien
     requires digits { HasDigits (spelled parts.now) }
     ensures { MatchOption result
         (100000000 * 10 ^ (length parts.now.fraction.now + by)
-        < number (parts.now.whole.now ++ parts.now.fraction.now))
+        < digits_of (spelled parts.now))
         (λ q. (q.whole ≤ 100000001 * unit) × IsQuotient
-        (unit * number (parts.now.whole.now ++ parts.now.fraction.now))
+        (unit * digits_of (spelled parts.now))
         (10 ^ (length parts.now.fraction.now + by)) q.whole q.exact) }
 {
     let moved = by.min(parts.whole.len());
