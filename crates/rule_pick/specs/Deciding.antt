@@ -65,6 +65,10 @@ local_of kind a b = if has_own kind then greater_if a.local (local_if b) else No
 abbrev pub asked_by : Kind → PlainRule → Option PlainConstraint
 asked_by kind rule = find (λ c. kind_number c.kind == kind_number kind) rule.constraints
 
+-- the rule asks this of the kind
+abbrev pub Asks : Kind → PlainRule → PlainConstraint → Type 0
+Asks kind rule constraint = asked_by kind rule ≡ Some constraint
+
 -- F.Cu or B.Cu
 abbrev pub is_outer : ℕ → Bool
 is_outer layer = (layer == 0) || (layer == 31)
@@ -150,7 +154,7 @@ pub record IsRulePick (rules : List PlainRule) (mins : PlainMins) (kind : Kind) 
   pub constraint : PlainConstraint
   pub local : local_of kind a b ≡ None
   pub deciding : IsDeciding rules kind a b layer place rule
-  pub asked : asked_by kind rule ≡ Some constraint
+  pub asked : Asks kind rule constraint
   pub value : picked ≡ pick_of_rule (minimum mins a.micro kind) a place rule constraint
 
 -- they have none, and no rule decides

@@ -1,10 +1,10 @@
 //! Which rule decides.
 
-ghost use Rattle.std.specs.Prelude.{◌≡◌, ◌<◌, map, length, false, Some, IsTrue, MatchOption};
+ghost use Rattle.std.specs.Prelude.{◌≡◌, ◌<◌, map, length, false, IsTrue, MatchOption};
 ghost use Rattle.std.specs.Option.{option_map, option_copied};
 ghost use Rattle.cond_lang.specs.Rules.{plain_constraint, plain_rule};
 ghost use Rattle.cond_lang.specs.Trees.{cond_tree_of};
-ghost use Rattle.rule_pick.specs.Deciding.{asked_by, is_outer, admits, holds_either_way, applies, matches_rule, IsDeciding, NoneMatches};
+ghost use Rattle.rule_pick.specs.Deciding.{asked_by, Asks, is_outer, admits, holds_either_way, applies, matches_rule, IsDeciding, NoneMatches};
 
 use crate::facts::Facts;
 use crate::meaning::holds;
@@ -77,7 +77,7 @@ fn matching<'r>(
     rule: &'r Rule,
 ) -> Option<&'r Constraint>
     ensures { MatchOption result (matches_rule kind a.now (option_copied b.entry) layer (plain_rule rule.now) ≡ false)
-        (λ c. IsTrue (matches_rule kind a.now (option_copied b.entry) layer (plain_rule rule.now)) × (asked_by kind (plain_rule rule.now) ≡ Some (plain_constraint c.now))) }
+        (λ c. IsTrue (matches_rule kind a.now (option_copied b.entry) layer (plain_rule rule.now)) × Asks kind (plain_rule rule.now) (plain_constraint c.now)) }
 {
     let constraint = asked_by(kind, rule)?;
     if admits(rule.layer, layer) && applies(&rule.cond, a, b) {
@@ -97,7 +97,7 @@ pub(crate) fn deciding<'r>(
 ) -> Option<Decided<'r>>
     requires { length rules.now < 4294967295 }
     ensures { MatchOption result (NoneMatches (map plain_rule rules.now) kind a.now (option_copied b.entry) layer)
-        (λ d. IsDeciding (map plain_rule rules.now) kind a.now (option_copied b.entry) layer d.place (plain_rule d.rule.now) × (asked_by kind (plain_rule d.rule.now) ≡ Some (plain_constraint d.constraint.now))) }
+        (λ d. IsDeciding (map plain_rule rules.now) kind a.now (option_copied b.entry) layer d.place (plain_rule d.rule.now) × Asks kind (plain_rule d.rule.now) (plain_constraint d.constraint.now)) }
 {
     let mut left = rules.len();
     while 0 < left {
