@@ -8,7 +8,6 @@ use Rattle.geo_seg.specs.Boxes.{BoxesMeet}
 use Rattle.board_items.specs.declared.item.Item.{Item}
 use Rattle.board_items.specs.declared.item.What.{What}
 use Rattle.board_items.specs.declared.item.What.TheVariants as what
-use Rattle.board_items.specs.declared.parts.Part.{Part}
 use Rattle.board_items.specs.Boards.{PlainBoard, item_at}
 use Rattle.board_items.specs.Extents.{AreBoundsOf}
 use Rattle.board_items.specs.Parts.{parts_of}
@@ -18,6 +17,7 @@ use Rattle.box_index.specs.Tiles.{PlainIndex}
 use Rattle.rule_pick.specs.FactsOf.{MeetsArea, MeetsCourtyard}
 use Rattle.item_facts.specs.Near.{IsNear, HoldsMarks}
 use Rattle.item_facts.proofs.MarkBoxes.{near_area, near_courtyard}
+use Rattle.item_facts.proofs.Marked.{no_parts}
 use Rattle.kept_facts.specs.Kept.{mark_at, mark_of, GivesIf, GiveSame, IsUnconcerned, AreMarksBefore}
 use Rattle.kept_facts.specs.Walks.{IsNameIf, HasNear, HasOthers, HasConcerned, AreAskedTo}
 use Rattle.kept_facts.proofs.Stays.{among, giver}
@@ -98,10 +98,6 @@ far_same item before now p q = record {
 
 other_way : (b c : Bounds) → BoxesMeet b c → BoxesMeet c b
 other_way b c m = record { left = m.right; right = m.left; top = m.bottom; bottom = m.top }
-
-no_parts : (parts : List Part) → AreBoundsOf parts None → parts ≡ []
-no_parts [] h = refl
-no_parts (part ∷ parts) h = absurd h
 
 one_item : (a b : Item) → Some a ≡ Some b → a ≡ b
 one_item a b e = cc
