@@ -1,6 +1,6 @@
 //! The facts of all items, found one after the other or side by side.
 
-ghost use Rattle.std.specs.Prelude.{◌≡◌, ◌<◌, ◌≤◌, true, ℕ, length, Some, IsSome, IfOk, IfSome};
+ghost use Rattle.std.specs.Prelude.{◌≡◌, ◌<◌, true, ℕ, length, Some, IsSome, IfOk, IfSome};
 ghost use Rattle.board_items.specs.declared.item.Item.{Item as PlainItem};
 ghost use Rattle.board_items.specs.Boards.{item_at};
 ghost use Rattle.net_class.specs.Views.{plain_class};

@@ -4,7 +4,7 @@ ghost use Rattle.std.specs.Prelude.{◌≡◌, ◌≤◌, ℕ, true, false, List
 ghost use Rattle.board_items.specs.Back.{IsPutBack, entries_of};
 ghost use Rattle.board_items.specs.Boards.{PlainBoard, Rise};
 ghost use Rattle.board_items.specs.Units.{without_unit};
-ghost use Rattle.edit_script.specs.Commands.{PlainCommand, PlainStep, edit, undo, redo, again};
+ghost use Rattle.edit_script.specs.Commands.{PlainCommand, PlainStep, edit, undo, redo};
 ghost use Rattle.drc_state.specs.States.{State};
 ghost use Rattle.drc_state.specs.Steps.{is_rules, Answers};
 ghost use Rattle.drc_state.specs.Changes.{PlainChange, is_replace, Makes, returned};
