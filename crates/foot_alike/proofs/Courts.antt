@@ -1,5 +1,5 @@
 -- The courtyard of a footprint that is moved is the courtyard, moved.
-use Rattle.std.proofs.Common.{◌≡◌, ◌∙◌, refl, sym, ap, subst, ℕ, suc, ℤ, pos, ◌+◌, ◌+ℤ◌, ◌*ℤ◌, Bool, true, false, ◌&&◌, ◌||◌, ◌==◌, not, cond, List, [], ◌∷◌, ◌++◌, map, inl, inr, Option, Some, option_map, arith}
+use Rattle.std.proofs.Common.{◌≡◌, ◌∙◌, refl, sym, ap, subst, ℕ, suc, ℤ, pos, ◌+◌, ◌+ℤ◌, ◌*ℤ◌, Bool, true, false, ◌&&◌, ◌||◌, ◌==◌, not, cond, List, [], ◌∷◌, ◌++◌, map, inl, inr, Option, Some, arith}
 use Rattle.std.specs.List.{AllZip, list_all, slice_get}
 use Rattle.std.specs.Ordering.{int_eq}
 use Rattle.std.proofs.lemmas.Int.{ints}
@@ -8,7 +8,7 @@ use Rattle.geo_seg.specs.declared.points.Seg.{Seg}
 use Rattle.geo_seg.specs.declared.shapes.Core.{Core}
 use Rattle.geo_seg.specs.declared.shapes.Core.TheVariants.{Line as LineCore, Area}
 use Rattle.geo_seg.specs.declared.shapes.Shape.{Shape}
-use Rattle.geo_seg.specs.Shifts.{IsShiftedPoint, IsShiftedCore, IsShiftedShape}
+use Rattle.geo_seg.specs.Shifts.{IsShiftedPoint, IsShiftedCore}
 use Rattle.copper_layers.specs.declared.set.LayerSet.{LayerSet}
 use Rattle.board_items.specs.declared.parts.Part.{Part}
 use Rattle.board_items.specs.Moves.{AreShifted, IsShiftedPart}
@@ -16,12 +16,12 @@ use Rattle.part_read.specs.declared.numbers.Spot.{Spot}
 use Rattle.part_read.specs.declared.stances.Stance.{Stance}
 use Rattle.part_read.specs.declared.radii.Radius.{Radius}
 use Rattle.part_read.specs.declared.figures.Figure.{Figure}
-use Rattle.part_read.specs.declared.figures.Figure.TheVariants.{Line as LineFigure, Rect as RectFigure, Circle as CircleFigure, Outline as OutlineFigure}
+use Rattle.part_read.specs.declared.figures.Figure.TheVariants.{Line, Rect, Circle, Outline}
+use Rattle.part_read.specs.declared.figures.Drawing.{Drawing}
 use Rattle.part_read.specs.There.{both, after}
 use Rattle.part_read.specs.OnBoard.{tested, fits_board, point_at}
-use Rattle.part_read.specs.Stances.{point_stood, points_stood}
-use Rattle.part_read.specs.Figures.{box_core, no_radius, radius_of, around}
-use Rattle.part_read.proofs.There.{some_same, map_some, both_some}
+use Rattle.part_read.specs.Figures.{no_radius, radius_of, radius_with, around, parts_around, cores_of, drawn}
+use Rattle.part_read.proofs.There.{some_same, both_some}
 use Rattle.part_read.proofs.Shapes.{one_point, one_shape, is_tested}
 use Rattle.courtyard.specs.Ends.{place as spot_of_point, is_same, is_short}
 use Rattle.court_moves.specs.Moves.{IsShiftedSeg, AreShiftedSegs, HasPoint, HasCorner}
@@ -31,17 +31,20 @@ use Rattle.footprint_read.specs.declared.sides.CourtSide.{CourtSide}
 use Rattle.footprint_read.specs.declared.sides.Course.{Course}
 use Rattle.footprint_read.specs.declared.courts.Court.{Court}
 use Rattle.footprint_read.specs.declared.courts.Court.TheVariants.{Unchecked, Parts, Off}
-use Rattle.footprint_read.specs.Courtyards.{at, is_long, ends_at, many_at, is_met, is_closed, line_to, seg_of, segs_of, line_core, core_of, reach_of, court_part, figure_part, figure_parts, outline_part, HasParts, IsCourt, parts_in, lies_on_board}
+use Rattle.footprint_read.specs.Courtyards.{at, is_long, ends_at, many_at, is_met, is_closed, line_to, seg_of, segs_of, figure_parts, outline_part, HasParts, IsCourt, parts_in, lies_on_board}
 use Rattle.read_alike.specs.Alike.{Shift}
 use Rattle.read_alike.specs.Moved.{moved_spot}
 use Rattle.read_alike.specs.Standing.{StandsMoved}
-use Rattle.read_alike.proofs.Figures.{tested_some, point_carried, points_carried}
+use Rattle.read_alike.proofs.Figures.{tested_some, line_carried, filled_carried, parts_carried}
 use Rattle.read_alike.proofs.Shapes.{half_near, fits_moved}
-use Rattle.draw_alike.proofs.Cores.{box_moved}
+use Rattle.draw_alike.proofs.Cores.{box_carried, open_carried}
 use Rattle.pad_alike.specs.Heads.{moved_stance}
 use Rattle.pad_alike.proofs.Placing.{split}
 use Rattle.pad_alike.proofs.Standing.{moved_stances}
 use Rattle.foot_alike.proofs.Siding.{moved_course, moved_side}
+
+abbrev no_layers : LayerSet
+no_layers = record { bits = 0 }
 
 -- ---- lines that are closed
 
@@ -85,89 +88,45 @@ module _ (d : Shift) where
   abbrev ddy : ℤ
   ddy = pos 2 *ℤ d.dy
 
-  first_core : {a b : Core} → a ∷ [] ≡ b ∷ [] → a ≡ b
-  first_core h = cc
-
-  same_part : (part other : Part) → other.layers ≡ part.layers → (r : Radius) (core : Core) → part ≡ court_part r core → other.shape.radius ≡ part.shape.radius → court_part r other.shape.core ≡ other
-  same_part part other layers r core is radius =
-      let same : around r other.shape.core ≡ other.shape = one_shape (around r other.shape.core) other.shape refl (sym (radius ∙ ap (λ (p : Part). p.shape.radius) is)) in
-      ap (λ (s : Shape). let p : Part = record { layers = record { bits = 0 }; shape = s } in p) same
-      ∙ ap (λ (l : LayerSet). let p : Part = record { layers = l; shape = other.shape } in p) (sym (layers ∙ ap (λ (p : Part). p.layers) is))
-
   module _ (stance : Stance) where
     abbrev new : Stance
     new = moved_stance d stance
 
-    stood_again : (s : Spot) (p q : Point) → point_stood stance s ≡ Some p → IsShiftedPoint ddx ddy p q → point_stood new s ≡ Some q
-    stood_again s p q some h = point_carried d stance new s s p q ((moved_stances d stance).stands s s refl) some h
-
-    line_again : (a b : Spot) (core other : Core) → both line_core (point_stood stance a) (point_stood stance b) ≡ Some core → IsShiftedShape ddx ddy (around no_radius core) (around no_radius other)
-        → both line_core (point_stood new a) (point_stood new b) ≡ Some other
-    line_again a b core other some h =
-        let k = both_some line_core (point_stood stance a) (point_stood stance b) core some in
-        by_core k.0 k.1 k.2 k.3 other (subst (λ (c : Core). IsShiftedShape ddx ddy (around no_radius c) (around no_radius other)) k.4 h)
-      where
-        by_core : (p q : Point) → point_stood stance a ≡ Some p → point_stood stance b ≡ Some q → (other : Core) → IsShiftedShape ddx ddy (around no_radius (line_core p q)) (around no_radius other)
-            → both line_core (point_stood new a) (point_stood new b) ≡ Some other
-        by_core p q ep eq (Area corners) h = absurd h.core
-        by_core p q ep eq (LineCore s) h =
-            ap (λ (o : Option Point). both line_core o (point_stood new b)) (stood_again a p s.a ep h.core.0)
-            ∙ ap (λ (o : Option Point). both line_core (Some s.a) o) (stood_again b q s.b eq h.core.1)
-
-    box_again : (a b : Spot) (core other : Core) → both box_core (point_stood stance a) (point_stood stance b) ≡ Some core → IsShiftedShape ddx ddy (around no_radius core) (around no_radius other)
-        → both box_core (point_stood new a) (point_stood new b) ≡ Some other
-    box_again a b core other some h =
-        let k = both_some box_core (point_stood stance a) (point_stood stance b) core some in
-        let moved = subst (λ (c : Core). IsShiftedShape ddx ddy (around no_radius c) (around no_radius other)) k.4 h in
-        let m = box_moved d stance new true k.0 k.1 (other ∷ []) (moved.core, tt) in
-        ap (λ (o : Option Point). both box_core o (point_stood new b)) (stood_again a k.0 m.one k.2 m.is_one)
-        ∙ ap (λ (o : Option Point). both box_core (Some m.one) o) (stood_again b k.1 m.two k.3 m.is_two)
-        ∙ ap (λ (c : Core). let o : Option Core = Some c in o) (sym (first_core m.are))
-
-    abbrev area : List Point → Core
-    area ps = Area ps
+    stands : (s : Spot) → StandsMoved d stance new s s
+    stands s = (moved_stances d stance).stands s s refl
 
     all_stand : (spots : List Spot) → AllZip (StandsMoved d stance new) spots spots
     all_stand [] = tt
-    all_stand (s ∷ spots) = ((moved_stances d stance).stands s s refl, all_stand spots)
+    all_stand (s ∷ spots) = (stands s, all_stand spots)
 
-    core_again : (figure : Figure) (core other : Core) → core_of stance figure ≡ Some core → IsShiftedShape ddx ddy (around no_radius core) (around no_radius other) → core_of new figure ≡ Some other
-    core_again (LineFigure a b) core other some h = line_again a b core other some h
-    core_again (RectFigure a b) core other some h = box_again a b core other some h
-    core_again (CircleFigure c r) core other some h = line_again c c core other some h
-    core_again (OutlineFigure spots) core other some h =
-        let k = map_some area (points_stood stance spots) core some in
-        by_core k.0 k.1 other (subst (λ (c : Core). IsShiftedShape ddx ddy (around no_radius c) (around no_radius other)) k.2 h)
-      where
-        by_core : (ps : List Point) → points_stood stance spots ≡ Some ps → (other : Core) → IsShiftedShape ddx ddy (around no_radius (Area ps)) (around no_radius other) → option_map area (points_stood new spots) ≡ Some other
-        by_core ps e (LineCore s) h = absurd h.core
-        by_core ps e (Area qs) h = ap (option_map area) (points_carried d stance new spots spots ps qs (all_stand spots) e h.core)
+    cores_again : (filled : Bool) (figure : Figure) (cores others : List Core) → cores_of stance filled figure ≡ Some cores → AllZip (IsShiftedCore ddx ddy) cores others → cores_of new filled figure ≡ Some others
+    cores_again filled (Line a b) cores others some h = line_carried d stance new a b a b cores others (stands a) (stands b) some h
+    cores_again filled (Rect a b) cores others some h = box_carried d stance new filled a b a b cores others (stands a) (stands b) some h
+    cores_again filled (Circle c r) cores others some h = line_carried d stance new c c c c cores others (stands c) (stands c) some h
+    cores_again true (Outline spots) cores others some h = filled_carried d stance new spots spots cores others (all_stand spots) some h
+    cores_again false (Outline spots) cores others some h = open_carried d stance new spots spots cores others (all_stand spots) some h
 
-    figure_again : (figure : Figure) (part other : Part) → figure_part stance figure ≡ Some part → IsShiftedPart ddx ddy part other → figure_part new figure ≡ Some other
-    figure_again figure part other some h =
-        let k = both_some court_part (radius_of (reach_of figure)) (core_of stance figure) part some in
-        let shape = subst (λ (p : Part). IsShiftedShape ddx ddy p.shape other.shape) k.4 h.shape in
-        let core = core_again figure k.1 other.shape.core k.3 (record { core = shape.core; radius = refl }) in
-        ap (λ (r : Option Radius). both court_part r (core_of new figure)) k.2
-        ∙ ap (λ (o : Option Core). both court_part (Some k.0) o) core
-        ∙ ap (λ (p : Part). let o : Option Part = Some p in o) (same_part part other h.layers k.0 k.1 k.4 h.shape.radius)
+    drawn_again : (x : Drawing) (parts others : List Part) → drawn no_layers stance x ≡ Some parts → AreShifted ddx ddy parts others → drawn no_layers new x ≡ Some others
+    drawn_again x parts others some h =
+        let k = both_some (parts_around no_layers) (radius_of (radius_with x.width x.figure)) (cores_of stance x.filled x.figure) parts some in
+        let c = parts_carried ddx ddy no_layers k.0 k.1 others (subst (λ (l : List Part). AreShifted ddx ddy l others) k.4 h) in
+        ap (λ (r : Option Radius). both (parts_around no_layers) r (cores_of new x.filled x.figure)) k.2
+        ∙ ap (λ (o : Option (List Core)). both (parts_around no_layers) (Some k.0) o) (cores_again x.filled x.figure k.1 c.0 k.3 c.1)
+        ∙ ap (λ (l : List Part). let o : Option (List Part) = Some l in o) (sym c.2)
 
     nothing_more : (parts others : List Part) → [] ≡ parts → AreShifted ddx ddy parts others → (let o : Option (List Part) = Some [] in o) ≡ Some others
     nothing_more [] [] e h = refl
     nothing_more [] (o ∷ others) e h = absurd h
     nothing_more (p ∷ parts) others e h = absurd cc
 
-    figures_again : (figures : List Figure) (parts others : List Part) → figure_parts stance figures ≡ Some parts → AreShifted ddx ddy parts others → figure_parts new figures ≡ Some others
+    figures_again : (drawings : List Drawing) (parts others : List Part) → figure_parts stance drawings ≡ Some parts → AreShifted ddx ddy parts others → figure_parts new drawings ≡ Some others
     figures_again [] parts others some h = nothing_more parts others (some_same some) h
-    figures_again (figure ∷ figures) parts others some h =
-        let k = both_some (λ (p : Part) (ps : List Part). p ∷ ps) (figure_part stance figure) (figure_parts stance figures) parts some in
-        by_first k.0 k.1 k.2 others (subst (λ (l : List Part). AreShifted ddx ddy l others) k.4 h) (λ rest m. figures_again figures k.1 rest k.3 m)
-      where
-        by_first : (part : Part) (parts : List Part) → figure_part stance figure ≡ Some part → (others : List Part) → AreShifted ddx ddy (part ∷ parts) others
-            → ((rest : List Part) → AreShifted ddx ddy parts rest → figure_parts new figures ≡ Some rest) → figure_parts new (figure ∷ figures) ≡ Some others
-        by_first part parts e [] h more = absurd h
-        by_first part parts e (o ∷ rest) h more =
-            ap (λ (z : Option Part). both (λ (p : Part) (ps : List Part). p ∷ ps) z (figure_parts new figures)) (figure_again figure part o e h.0) ∙ ap (after (o ∷ [])) (more rest h.1)
+    figures_again (x ∷ drawings) parts others some h =
+        let k = both_some (λ (ps qs : List Part). ps ++ qs) (drawn no_layers stance x) (figure_parts stance drawings) parts some in
+        let m = split d k.0 k.1 others (subst (λ (l : List Part). AreShifted ddx ddy l others) k.4 h) in
+        ap (λ (o : Option (List Part)). both (λ (ps qs : List Part). ps ++ qs) o (figure_parts new drawings)) (drawn_again x k.0 m.us k.2 m.first)
+        ∙ ap (after m.us) (figures_again drawings k.1 m.vs k.3 m.rest)
+        ∙ ap (λ (l : List Part). let o : Option (List Part) = Some l in o) (sym m.are)
 
   -- ---- outlines
 
@@ -181,7 +140,9 @@ module _ (d : Shift) where
     where
       by_core : (core : Core) → other.shape.core ≡ core → IsShiftedCore ddx ddy (Area ps) core → (qs : List Point) × AllZip (IsShiftedPoint ddx ddy) ps qs × (outline_part qs ≡ other)
       by_core (LineCore s) e k = absurd k
-      by_core (Area qs) e k = (qs, k, ap (λ (c : Core). court_part no_radius c) (sym e) ∙ same_part (outline_part ps) other h.layers no_radius (Area ps) refl h.shape.radius)
+      by_core (Area qs) e k =
+          let same : around no_radius (Area qs) ≡ other.shape = one_shape (around no_radius (Area qs)) other.shape (sym e) (sym h.shape.radius) in
+          (qs, k, ap (λ (z : Shape). let p : Part = record { layers = no_layers; shape = z } in p) same ∙ ap (λ (l : LayerSet). let p : Part = record { layers = l; shape = other.shape } in p) (sym h.layers))
 
   outlines_of : (polys : List (List Point)) (others : List Part) → AreShifted ddx ddy (map outline_part polys) others → Outlines polys others
   outlines_of [] [] h = record { moved = []; zip = tt; are = refl }
@@ -328,7 +289,7 @@ module _ (d : Shift) where
         drawn = k.us;
         segs = s.others;
         polys = m.moved;
-        of_figures = figures_again stance side.figures has.drawn k.us has.of_figures k.first;
+        of_figures = figures_again stance side.drawings has.drawn k.us has.of_figures k.first;
         of_lines = s.there;
         chained = chained_moved ddx ddy has.segs s.others has.polys m.moved s.shifted has.chained m.zip;
         all = k.are ∙ ap (λ (l : List Part). k.us ++ l) (sym m.are);

@@ -1,27 +1,33 @@
 -- Courtyards lie on no layer.
-use Rattle.std.proofs.Common.{◌≡◌, refl, ap, sym, subst, List, [], ◌∷◌, map, Some}
+use Rattle.std.proofs.Common.{◌≡◌, refl, sym, subst, List, [], ◌∷◌, ◌++◌, map, Some}
 use Rattle.std.proofs.lemmas.List.Elements.{All-nil, All-cons, All-append}
 use Rattle.geo_seg.specs.declared.points.Point.{Point}
+use Rattle.geo_seg.specs.declared.shapes.Core.{Core}
 use Rattle.board_items.specs.declared.parts.Part.{Part}
 use Rattle.part_read.specs.declared.stances.Stance.{Stance}
-use Rattle.part_read.specs.declared.figures.Figure.{Figure}
-use Rattle.part_read.specs.Figures.{radius_of}
+use Rattle.part_read.specs.declared.radii.Radius.{Radius}
+use Rattle.part_read.specs.declared.figures.Drawing.{Drawing}
+use Rattle.part_read.specs.Figures.{cores_of, radius_of, radius_with, around, parts_around, drawn}
 use Rattle.part_read.proofs.There.{both_some}
 use Rattle.footprint_read.specs.declared.sides.CourtSide.{CourtSide}
 use Rattle.footprint_read.specs.declared.courts.Court.{Court}
 use Rattle.footprint_read.specs.declared.courts.Court.TheVariants.{Unchecked, Parts, Off}
 use Rattle.footprint_read.specs.Bare.{AreBare}
-use Rattle.footprint_read.specs.Courtyards.{court_part, figure_part, figure_parts, core_of, reach_of, outline_part, parts_in, IsCourt}
+use Rattle.footprint_read.specs.Courtyards.{figure_parts, outline_part, parts_in, IsCourt}
 
 abbrev pub IsBare : Part → Type 0
 IsBare part = part.layers.bits ≡ 0
 
-figures_bare : (stance : Stance) (figures : List Figure) (parts : List Part) → figure_parts stance figures ≡ Some parts → AreBare parts
+around_bare : (r : Radius) (cores : List Core) → AreBare (parts_around (record { bits = 0 }) r cores)
+around_bare r [] = All-nil IsBare
+around_bare r (c ∷ cores) = All-cons IsBare (record { layers = record { bits = 0 }; shape = around r c }) (parts_around (record { bits = 0 }) r cores) refl (around_bare r cores)
+
+figures_bare : (stance : Stance) (drawings : List Drawing) (parts : List Part) → figure_parts stance drawings ≡ Some parts → AreBare parts
 figures_bare stance [] parts h = let same : [] ≡ parts = cc in subst (λ (x : List Part). AreBare x) same (All-nil IsBare)
-figures_bare stance (f ∷ fs) parts h =
-    let k = both_some (λ (p : Part) (ps : List Part). p ∷ ps) (figure_part stance f) (figure_parts stance fs) parts h in
-    let m = both_some court_part (radius_of (reach_of f)) (core_of stance f) k.0 k.2 in
-    subst (λ (x : List Part). AreBare x) (sym k.4) (All-cons IsBare k.0 k.1 (ap (λ (p : Part). p.layers.bits) m.4) (figures_bare stance fs k.1 k.3))
+figures_bare stance (d ∷ ds) parts h =
+    let k = both_some (λ (ps qs : List Part). ps ++ qs) (drawn (record { bits = 0 }) stance d) (figure_parts stance ds) parts h in
+    let m = both_some (parts_around (record { bits = 0 })) (radius_of (radius_with d.width d.figure)) (cores_of stance d.filled d.figure) k.0 k.2 in
+    subst (λ (x : List Part). AreBare x) (sym k.4) (All-append IsBare k.0 k.1 (subst (λ (x : List Part). AreBare x) (sym m.4) (around_bare m.0 m.1)) (figures_bare stance ds k.1 k.3))
 
 outlines_bare : (polys : List (List Point)) → AreBare (map outline_part polys)
 outlines_bare [] = All-nil IsBare
@@ -32,4 +38,4 @@ court_bare stance side Unchecked h = All-nil IsBare
 court_bare stance side Off h = All-nil IsBare
 court_bare stance side (Parts parts) h =
     let p = h.1 in
-    subst (λ (x : List Part). AreBare x) (sym p.all) (All-append IsBare p.drawn (map outline_part p.polys) (figures_bare stance side.figures p.drawn p.of_figures) (outlines_bare p.polys))
+    subst (λ (x : List Part). AreBare x) (sym p.all) (All-append IsBare p.drawn (map outline_part p.polys) (figures_bare stance side.drawings p.drawn p.of_figures) (outlines_bare p.polys))

@@ -49,7 +49,7 @@ not_both : (side : CourtSide) → (side.curved ≡ true) ⊎ (is_closed side.lin
 not_both side (inl h) k = never h k.0
 not_both side (inr h) k = never k.1 h
 
-not_off : (stance : Stance) (side : CourtSide) (parts : List Part) → HasParts stance side parts → (figure_parts stance side.figures ≡ None) ⊎ (segs_of side.lines ≡ None) → ⊥
+not_off : (stance : Stance) (side : CourtSide) (parts : List Part) → HasParts stance side parts → (figure_parts stance side.drawings ≡ None) ⊎ (segs_of side.lines ≡ None) → ⊥
 not_off stance side parts h (inl k) = let e : None ≡ Some h.drawn = sym k ∙ h.of_figures in absurd cc
 not_off stance side parts h (inr k) = let e : None ≡ Some h.segs = sym k ∙ h.of_lines in absurd cc
 

@@ -1,32 +1,32 @@
 -- Courtyards: on each side the rectangles, outlines and circles of its layer, and the closed outlines of its lines. A side with a
 -- curve or a loose line is not checked. Widths and fills have no effect.
-use Rattle.std.specs.Prelude.{◌≡◌, ℕ, ◌+◌, ℤ, pos, ◌*ℤ◌, ◌==◌, ◌&&◌, ◌||◌, nat_le, length, Bool, true, false, not, cond, List, [], ◌∷◌, ◌++◌, map, codes, Option, None, Some, option_map, Result, Ok, Err, ◌⊎◌, if◌then◌else◌}
+use Rattle.std.specs.Prelude.{◌≡◌, ℕ, ◌+◌, ℤ, pos, ◌==◌, ◌&&◌, ◌||◌, nat_le, length, Bool, true, false, not, cond, List, [], ◌∷◌, ◌++◌, map, codes, Option, None, Some, Result, Ok, Err, ◌⊎◌, if◌then◌else◌}
 use Rattle.std.specs.List.{list_any, list_all}
 use Rattle.sexpr_read.specs.Tree.{Tree, parts}
 use Rattle.geo_seg.specs.declared.points.Point.{Point}
 use Rattle.geo_seg.specs.declared.points.Seg.{Seg}
-use Rattle.geo_seg.specs.declared.shapes.Core.{Core}
-use Rattle.geo_seg.specs.declared.shapes.Core.TheVariants.{Line as LineCore, Area}
+use Rattle.geo_seg.specs.declared.shapes.Core.TheVariants.{Area}
 use Rattle.board_errors.specs.declared.errors.BoardError.{BoardError}
 use Rattle.board_errors.specs.declared.errors.BoardError.TheVariants.{Missing}
 use Rattle.board_items.specs.declared.parts.Part.{Part}
 use Rattle.part_read.specs.declared.numbers.Spot.{Spot}
 use Rattle.part_read.specs.declared.stances.Stance.{Stance}
-use Rattle.part_read.specs.declared.radii.Radius.{Radius}
 use Rattle.part_read.specs.declared.drawings.GraphicKind.{GraphicKind}
 use Rattle.part_read.specs.declared.drawings.GraphicKind.TheVariants.{Line, Rect, Circle, Outline}
 use Rattle.part_read.specs.declared.figures.Figure.{Figure}
-use Rattle.part_read.specs.declared.figures.Figure.TheVariants.{Line as LineFigure, Rect as RectFigure, Circle as CircleFigure, Outline as OutlineFigure}
+use Rattle.part_read.specs.declared.figures.Figure.TheVariants.{Rect as RectFigure, Circle as CircleFigure, Outline as OutlineFigure}
+use Rattle.part_read.specs.declared.figures.Drawing.{Drawing}
 use Rattle.list_read.specs.Answers.{◌>>=◌, needed}
 use Rattle.list_read.specs.Heads.{place, has_head}
 use Rattle.list_read.specs.Elements.{element}
-use Rattle.part_read.specs.There.{both, all_there}
+use Rattle.part_read.specs.There.{both}
 use Rattle.part_read.specs.Numbers.{spot_of}
 use Rattle.part_read.specs.OnBoard.{tested, fits_board, point_at}
-use Rattle.part_read.specs.Stances.{stood, point_stood, points_stood}
+use Rattle.part_read.specs.Stances.{stood}
 use Rattle.part_read.specs.Circles.{radius_between}
-use Rattle.part_read.specs.Figures.{box_core, no_radius, radius_of, around}
+use Rattle.part_read.specs.Figures.{no_radius, around}
 use Rattle.part_read.specs.Drawings.{spots_among}
+use Rattle.pad_read.specs.PadOf.{all_drawn}
 use Rattle.courtyard.specs.Ends.{is_same}
 use Rattle.courtyard.specs.Outlines.{AreChained}
 use Rattle.footprint_read.specs.declared.sides.Course.{Course}
@@ -35,12 +35,16 @@ use Rattle.footprint_read.specs.declared.courts.Court.{Court}
 use Rattle.footprint_read.specs.declared.courts.Court.TheVariants.{Unchecked, Parts, Off}
 
 abbrev pub empty_side : CourtSide
-empty_side = record { curved = false; figures = []; lines = [] }
+empty_side = record { curved = false; drawings = []; lines = [] }
 
 -- ---- what a list on the layer of a courtyard adds to its side
 
+-- a figure with all that it encloses, and nothing around it
+abbrev pub solid : Figure → Drawing
+solid figure = record { figure = figure; width = pos 0; filled = true }
+
 abbrev pub with_figure : CourtSide → Figure → CourtSide
-with_figure side figure = record side { figures = side.figures ++ figure ∷ [] }
+with_figure side figure = record side { drawings = side.drawings ++ solid figure ∷ [] }
 
 abbrev pub with_curve : CourtSide → CourtSide
 with_curve side = record side { curved = true }
@@ -125,33 +129,12 @@ abbrev pub segs_of : List Course → Option (List Seg)
 segs_of [] = Some []
 segs_of (line ∷ lines) = if is_long line then both (λ seg segs. seg ∷ segs) (seg_of line) (segs_of lines) else segs_of lines
 
-abbrev pub line_core : Point → Point → Core
-line_core p q = LineCore (line_to p q)
-
--- a rectangle and an outline with all that they enclose, and the centre of a circle, if it lies on the board
-abbrev pub core_of : Stance → Figure → Option Core
-core_of stance (LineFigure a b) = both line_core (point_stood stance a) (point_stood stance b)
-core_of stance (RectFigure a b) = both box_core (point_stood stance a) (point_stood stance b)
-core_of stance (CircleFigure c r) = both line_core (point_stood stance c) (point_stood stance c)
-core_of stance (OutlineFigure spots) = option_map (λ points. Area points) (points_stood stance spots)
-
--- what lies around that belongs to it, in half nanometres: the radius of a circle
-abbrev pub reach_of : Figure → ℤ
-reach_of (CircleFigure c r) = pos 2 *ℤ r
-reach_of figure = pos 0
-
-abbrev pub court_part : Radius → Core → Part
-court_part r core = record { layers = record { bits = 0 }; shape = around r core }
-
--- the part of a figure, if it lies on the board and its diameter is at most 500 mm
-abbrev pub figure_part : Stance → Figure → Option Part
-figure_part stance figure = both court_part (radius_of (reach_of figure)) (core_of stance figure)
-
-abbrev pub figure_parts : Stance → List Figure → Option (List Part)
-figure_parts stance figures = all_there (map (figure_part stance) figures)
+-- the parts of all figures, if they lie on the board and no diameter is above 500 mm
+abbrev pub figure_parts : Stance → List Drawing → Option (List Part)
+figure_parts stance drawings = all_drawn (record { bits = 0 }) stance drawings
 
 abbrev pub outline_part : List Point → Part
-outline_part points = court_part no_radius (Area points)
+outline_part points = record { layers = record { bits = 0 }; shape = around no_radius (Area points) }
 
 -- ---- the courtyard of a side: it is not checked, or it lies on the board and has these parts, or it leaves the board
 
@@ -160,7 +143,7 @@ pub record HasParts (stance : Stance) (side : CourtSide) (parts : List Part) : T
   pub drawn : List Part
   pub segs : List Seg
   pub polys : List (List Point)
-  pub of_figures : figure_parts stance side.figures ≡ Some drawn
+  pub of_figures : figure_parts stance side.drawings ≡ Some drawn
   pub of_lines : segs_of side.lines ≡ Some segs
   pub chained : AreChained segs polys
   pub all : parts ≡ drawn ++ map outline_part polys
@@ -171,7 +154,7 @@ IsChecked side = (side.curved ≡ false) × (is_closed side.lines ≡ true)
 abbrev pub IsCourt : Stance → CourtSide → Court → Type 0
 IsCourt stance side Unchecked = (side.curved ≡ true) ⊎ (is_closed side.lines ≡ false)
 IsCourt stance side (Parts parts) = IsChecked side × HasParts stance side parts
-IsCourt stance side Off = IsChecked side × ((figure_parts stance side.figures ≡ None) ⊎ (segs_of side.lines ≡ None))
+IsCourt stance side Off = IsChecked side × ((figure_parts stance side.drawings ≡ None) ⊎ (segs_of side.lines ≡ None))
 
 abbrev pub parts_in : Court → List Part
 parts_in (Parts parts) = parts

@@ -15,7 +15,8 @@ use crate::sides::{Course, CourtSide};
 use board_items::BoardError;
 use list_read::{element, has_head};
 use part_read::{
-    Corners, Figure, GraphicKind, Spot, Stance, missing, radius_between, spot_in, spots_in, stand,
+    Corners, Drawing, Figure, GraphicKind, Spot, Stance, missing, radius_between, spot_in,
+    spots_in, stand,
 };
 use sexpr_read::Node;
 use std::alloc::{AllocError, Global};
@@ -31,13 +32,19 @@ fn spot_needed(node: Node<'_, '_>, head: &[u8]) -> Result<Spot, BoardError>
     }
 }
 
+/// With a figure and all that it encloses, and nothing around it.
 fn with_figure(side: CourtSide, figure: Figure) -> Result<CourtSide, AllocError>
     requires { HasReach figure }
     ensures { IfOk result (λ all. all ≡ with_figure side figure) }
 {
+    let drawing = Drawing {
+        figure,
+        width: 0,
+        filled: true,
+    };
     Ok(CourtSide {
         curved: side.curved,
-        figures: side.figures.with(figure)?,
+        drawings: side.drawings.with(drawing)?,
         lines: side.lines,
     })
 }
@@ -47,7 +54,7 @@ fn with_course(side: CourtSide, course: Course) -> Result<CourtSide, AllocError>
 {
     Ok(CourtSide {
         curved: side.curved,
-        figures: side.figures,
+        drawings: side.drawings,
         lines: side.lines.with(course)?,
     })
 }

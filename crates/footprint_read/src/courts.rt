@@ -1,23 +1,18 @@
 //! The courtyard of a side.
 
-ghost use Rattle.std.specs.Prelude.{◌≡◌, ◌<◌, ◌++◌, ◌∷◌, [], map, IfOk, OnOk, All, option_map};
-ghost use Rattle.part_read.specs.There.{both};
-ghost use Rattle.part_read.specs.OnBoard.{point_at};
+ghost use Rattle.std.specs.Prelude.{◌≡◌, ◌<◌, ◌++◌, map, IfOk, OnOk, All, option_map};
 ghost use Rattle.part_read.specs.Stances.{IsWithin};
-ghost use Rattle.part_read.specs.Figures.{HasReach, box_core};
+ghost use Rattle.part_read.specs.Figures.{IsDrawable};
 ghost use Rattle.footprint_read.specs.Bare.{AreBare};
-ghost use Rattle.footprint_read.specs.Courtyards.{seg_of, segs_of, line_core, core_of, reach_of, court_part, figure_part, figure_parts, outline_part, parts_in, IsCourt};
+ghost use Rattle.footprint_read.specs.Courtyards.{seg_of, segs_of, figure_parts, outline_part, parts_in, IsCourt};
 
 use crate::closing::{is_closed, is_long};
 use crate::sides::{Course, CourtSide};
-use board_items::{Nm, Part, Parts};
+use board_items::{Part, Parts};
 use copper_layers::LayerSet;
 use courtyard::closed_outlines;
-use geo_seg::{Core, Point, Poly, Seg};
-use part_read::{
-    Figure, Radius, Stance, around, box_core, no_radius, point_at, point_stood, points_stood,
-    radius_of,
-};
+use geo_seg::{Core, Poly, Seg};
+use part_read::{Drawing, Stance, around, draw_into, no_radius, point_at};
 use smallvec::SmallVec;
 use std::alloc::{AllocError, Global};
 
@@ -66,123 +61,44 @@ fn segs_of(alloc: Global, lines: &[Course]) -> Result<Option<Vec<Seg>>, AllocErr
 
 // ---- figures
 
-fn line_core(p: Option<Point>, q: Option<Point>) -> Option<Core>
-    ensures { result ≡ both line_core p q }
-{
-    let Some(a) = p else {
-        return None;
-    };
-    let Some(b) = q else {
-        return None;
-    };
-    Some(Core::Line(Seg { a, b }))
-}
-
-fn rect_core(alloc: Global, p: Option<Point>, q: Option<Point>) -> Result<Option<Core>, AllocError>
-    ensures { IfOk result (λ core. core ≡ both box_core p q) }
-{
-    let Some(a) = p else {
-        return Ok(None);
-    };
-    let Some(b) = q else {
-        return Ok(None);
-    };
-    Ok(Some(box_core(alloc, a, b)?))
-}
-
-/// The core of a figure that stands so, unless it leaves the board. An outline keeps the boxes of its runs of corners.
-fn core_of(alloc: Global, stance: Stance, figure: &Figure) -> Result<Option<Core>, AllocError>
-    requires quarter { stance.quarter < 4 }
-    requires at { IsWithin 3000000000000 stance.at }
-    requires reach { HasReach figure.now }
-    ensures { IfOk result (λ core. core ≡ core_of stance figure.now) }
-{
-    match figure {
-        Figure::Line(start, end) => Ok(line_core(
-            point_stood(stance, *start),
-            point_stood(stance, *end),
-        )),
-        Figure::Rect(start, end) => rect_core(
-            alloc,
-            point_stood(stance, *start),
-            point_stood(stance, *end),
-        ),
-        Figure::Circle(center, _) => {
-            let point = point_stood(stance, *center);
-            Ok(line_core(point, point))
-        }
-        Figure::Outline(corners) => {
-            let Some(points) = points_stood(alloc, stance, corners.as_slice())? else {
-                return Ok(None);
-            };
-            Ok(Some(Core::Area(Poly::indexed(alloc, points)?)))
-        }
-    }
-}
-
-fn reach_of(figure: &Figure) -> Nm
-    requires { HasReach figure.now }
-    ensures { result ≡ reach_of figure.now }
-{
-    match figure {
-        Figure::Circle(_, radius) => 2 * *radius,
-        _ => 0,
-    }
-}
-
-fn court_part(radius: Radius, core: Core) -> Part
-    ensures { result ≡ court_part radius core }
-{
-    Part {
-        layers: LayerSet { bits: 0 },
-        shape: around(radius, core),
-    }
-}
-
-/// The part of a figure, unless it leaves the board or its diameter is above 500 mm.
-fn figure_part(alloc: Global, stance: Stance, figure: &Figure) -> Result<Option<Part>, AllocError>
-    requires quarter { stance.quarter < 4 }
-    requires at { IsWithin 3000000000000 stance.at }
-    requires reach { HasReach figure.now }
-    ensures { IfOk result (λ part. part ≡ figure_part stance figure.now) }
-{
-    let Some(radius) = radius_of(reach_of(figure)) else {
-        return Ok(None);
-    };
-    let Some(core) = core_of(alloc, stance, figure)? else {
-        return Ok(None);
-    };
-    Ok(Some(court_part(radius, core)))
-}
-
+/// The parts of all figures, unless one leaves the board or its diameter is above 500 mm. An outline keeps the boxes of its
+/// runs of corners.
 fn figure_parts(
     alloc: Global,
     stance: Stance,
-    figures: &[Figure],
+    drawings: &[Drawing],
 ) -> Result<Option<SmallVec<Part, 2>>, AllocError>
     requires quarter { stance.quarter < 4 }
     requires at { IsWithin 3000000000000 stance.at }
-    requires reach { All HasReach figures.now }
-    ensures { IfOk result (λ parts. option_map (λ found. found.items) parts ≡ figure_parts stance figures.now) }
+    requires drawable { All IsDrawable drawings.now }
+    ensures { IfOk result (λ parts. option_map (λ found. found.items) parts ≡ figure_parts stance drawings.now) }
 {
+    let layers = LayerSet { bits: 0 };
     let mut parts = SmallVec::new(alloc);
-    for figure in figures {
-        let found = figure_part(alloc, stance, figure)?;
-        let Some(part) = found else {
+    for drawing in drawings {
+        if !draw_into(alloc, layers, stance, drawing, &mut parts)? {
             return Ok(None);
-        };
-        parts.push(part)?;
+        }
     }
     Ok(Some(parts))
 }
 
 // ---- the whole side
 
+fn outline_part(poly: Poly) -> Part
+    ensures { result ≡ outline_part poly }
+{
+    Part {
+        layers: LayerSet { bits: 0 },
+        shape: around(no_radius(), Core::Area(poly)),
+    }
+}
+
 fn append_outlines(parts: &mut SmallVec<Part, 2>, polys: Vec<Poly>) -> Result<(), AllocError>
     ensures { OnOk result (parts.new.items ≡ parts.old.items ++ map outline_part polys.items) }
 {
     for poly in polys {
-        parts.push(court_part(no_radius(), Core::Area(poly)))?;
+        parts.push(outline_part(poly))?;
     }
     Ok(())
 }
@@ -210,7 +126,7 @@ fn court_by(alloc: Global, stance: Stance, side: &CourtSide) -> Result<Court, Al
     if !is_closed(alloc, side.lines.as_slice())? {
         return Ok(Court::Unchecked);
     }
-    let Some(mut parts) = figure_parts(alloc, stance, side.figures.as_slice())? else {
+    let Some(mut parts) = figure_parts(alloc, stance, side.drawings.as_slice())? else {
         return Ok(Court::Off);
     };
     let Some(segs) = segs_of(alloc, side.lines.as_slice())? else {

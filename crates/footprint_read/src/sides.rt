@@ -1,9 +1,9 @@
 //! The sides of a footprint, as far as its courtyards go.
 
 ghost use Rattle.std.specs.Prelude.{◌≡◌, ◌++◌, ◌∷◌, [], IfOk, All};
-ghost use Rattle.part_read.specs.Figures.{HasReach};
+ghost use Rattle.part_read.specs.Figures.{IsDrawable};
 
-use part_read::{Figure, Spot};
+use part_read::{Drawing, Spot};
 use plain_types::Listed;
 use std::alloc::{AllocError, Global};
 use std::marker::Model;
@@ -15,46 +15,46 @@ pub struct Course {
     pub b: Spot,
 }
 
-/// Figures in nanometres, relative to the footprint. Contracts see the list.
+/// Drawings, relative to the footprint, all of which can be drawn. Contracts see the list.
 #[derive(Drop)]
-pub struct Figures {
-    list: Vec<Figure>,
+pub struct Drawings {
+    list: Vec<Drawing>,
 }
 
-impl Model for Figures {
+impl Model for Drawings {
     ghost use Rattle.std.specs.Prelude.{List, All};
-    ghost use Rattle.part_read.specs.declared.figures.Figure.{Figure};
-    ghost use Rattle.part_read.specs.Figures.{HasReach};
+    ghost use Rattle.part_read.specs.declared.figures.Drawing.{Drawing};
+    ghost use Rattle.part_read.specs.Figures.{IsDrawable};
 
-    ghost Value = { List Figure };
+    ghost Value = { List Drawing };
 
-    ghost view = { λ f. f.list.items };
+    ghost view = { λ d. d.list.items };
 
-    ghost invariant = { λ f. All HasReach f.list.items };
+    ghost invariant = { λ d. All IsDrawable d.list.items };
 }
 
-impl Figures {
-    pub fn new(alloc: Global) -> Figures
+impl Drawings {
+    pub fn new(alloc: Global) -> Drawings
         ensures { result ≡ [] }
     {
-        Figures {
+        Drawings {
             list: Vec::new(alloc),
         }
     }
 
     /// With one more.
-    pub fn with(self, figure: Figure) -> Result<Figures, AllocError>
-        requires { HasReach figure }
-        ensures { IfOk result (λ all. all ≡ self ++ figure ∷ []) }
+    pub fn with(self, drawing: Drawing) -> Result<Drawings, AllocError>
+        requires { IsDrawable drawing }
+        ensures { IfOk result (λ all. all ≡ self ++ drawing ∷ []) }
     {
         let mut list = self.list;
-        list.push(figure)?;
-        Ok(Figures { list })
+        list.push(drawing)?;
+        Ok(Drawings { list })
     }
 
-    pub fn as_slice(&self) -> &[Figure]
+    pub fn as_slice(&self) -> &[Drawing]
         ensures same { result.now ≡ self.now }
-        ensures reach { All HasReach result.now }
+        ensures drawable { All IsDrawable result.now }
     {
         &self.list
     }
@@ -65,7 +65,7 @@ impl Figures {
 pub struct CourtSide {
     /// It has a curve.
     pub curved: bool,
-    pub figures: Figures,
+    pub drawings: Drawings,
     pub lines: Listed<Course>,
 }
 
@@ -78,7 +78,7 @@ impl CourtSide {
     {
         CourtSide {
             curved: false,
-            figures: Figures::new(alloc),
+            drawings: Drawings::new(alloc),
             lines: Listed::new(alloc),
         }
     }
@@ -89,7 +89,7 @@ impl CourtSide {
     {
         CourtSide {
             curved: true,
-            figures: self.figures,
+            drawings: self.drawings,
             lines: self.lines,
         }
     }

@@ -3,6 +3,6 @@ use Rattle.footprint_read.specs.Courtyards.{figure_parts}
 use Rattle.part_read.specs.There.{after}
 use Rattle.footprint_read.proofs.courts.figure_parts.Given as goal
 
--- the parts so far, and those of the figures that are left, are all
-abbrev pub invariant-loop-figure : goal.invariant-loop-figure
-invariant-loop-figure l = after l.parts.items (figure_parts l.stance (drop l.figure-index l.figures)) ≡ figure_parts l.stance l.figures
+-- the parts so far, and those of the drawings that are left, are all
+abbrev pub invariant-loop-drawing : goal.invariant-loop-drawing
+invariant-loop-drawing l = after l.parts.items (figure_parts l.stance (drop l.drawing-index l.drawings)) ≡ figure_parts l.stance l.drawings
