@@ -5,7 +5,7 @@ use Rattle.std.proofs.lemmas.Bool.{lt-ltb}
 use Rattle.std.proofs.lemmas.List.{map-append, length-map}
 use Rattle.int_algebra.proofs.Tested.{front as first_holds, back as second_holds}
 use Rattle.sexpr_read.specs.declared.place.Span.{Span}
-use Rattle.sexpr_read.specs.Tree.{Forest, Tree, branch, trees, parts}
+use Rattle.sexpr_read.specs.Tree.{Forest, Tree, branch, parts}
 use Rattle.board_errors.specs.declared.errors.BoardError.{BoardError}
 use Rattle.board_errors.specs.declared.errors.BoardError.TheVariants.{OutOfBoard, TooMany}
 use Rattle.copper_layers.specs.declared.set.LayerSet.{LayerSet}
@@ -29,7 +29,7 @@ use Rattle.footprint_read.specs.declared.courts.Court.{Court}
 use Rattle.footprint_read.specs.declared.courts.Court.TheVariants.{Unchecked, Parts, Off}
 use Rattle.footprint_read.specs.Courtyards.{IsCourt, parts_in, lies_on_board}
 use Rattle.footprint_read.specs.FootHead.{head_of}
-use Rattle.footprint_read.specs.FootprintOf.{with_children, empty, body_of, court_notes, all_given, items_of, with_room, in_room, is_placed, finished, contents_of, SaysInside, SaysWithHead, FootprintSays}
+use Rattle.footprint_read.specs.FootprintOf.{body_of, court_notes, all_given, items_of, with_room, in_room, is_placed, finished, contents_of, SaysInside, SaysWithHead, FootprintSays}
 use Rattle.read_alike.specs.Alike.{Shift}
 use Rattle.read_alike.specs.Agreeing.{Agrees}
 use Rattle.read_alike.specs.Carried.{IsCarried, Becomes, of_unit}
@@ -41,9 +41,8 @@ use Rattle.pad_alike.specs.Heads.{moved_stance, moved_head}
 use Rattle.foot_alike.specs.Places.{AtMoved}
 use Rattle.foot_alike.proofs.Finding.{name_again}
 use Rattle.foot_alike.proofs.Heading.{HeadAgain, head_again}
-use Rattle.foot_alike.proofs.Siding.{moved_side}
 use Rattle.foot_alike.proofs.Courts.{court_with, CourtAgain, court_again}
-use Rattle.foot_alike.proofs.Children.{Become, split_now, Steps, StepTo, all_steps}
+use Rattle.foot_alike.proofs.Children.{Become, split_now, Reached, Follows, all_steps}
 use Rattle.foot_alike.proofs.Feet.{foot_says, all_items}
 
 -- ---- room
@@ -90,23 +89,14 @@ module _ (d : Shift) (board other : PlainBoard) (copper : other.copper ≡ board
 
   -- ---- what the children give
 
-  record ContentsAgain (head : Head) (contents : Contents) (now : List Item) : Type 0 where
-    new : Contents
-    there : contents_of other own (moved_head d head) two ≡ Ok new
-    items : items_of new.given ≡ of_unit own now
-    front : new.front ≡ moved_side d contents.front
-    back : new.back ≡ moved_side d contents.back
+  abbrev ContentsAgain : Head → Contents → List Item → Type 0
+  ContentsAgain head contents now = Reached d own contents (contents_of other own (moved_head d head) two) now
 
   contents_again : (head : Head) (contents : Contents) (now : List Item) → contents_of board unit head one ≡ Ok contents → Become d own (items_of contents.given) now → ContentsAgain head contents now
   contents_again head contents now e become =
-      let run : Contents → Result Contents BoardError = λ x. with_children other own (moved_head d head) x (trees j) in
-      let k : StepTo d own empty contents run now = subst (λ (a : Result Contents BoardError). Steps d own empty a run) e (all_steps d own board other copper nets unit head i j empty h) now become in
-      let m = k.go empty (record { items = none_yet k.now k.become; front = refl; back = refl }) in
-      record { new = m.contents; there = m.is; items = m.matches.items; front = m.matches.front; back = m.matches.back }
-    where
-      none_yet : (l : List Item) → Become d own [] l → [] ≡ of_unit own l
-      none_yet [] k = refl
-      none_yet (x ∷ l) k = absurd k
+      let all : Follows d own (Ok contents) (contents_of other own (moved_head d head) two) =
+      subst (λ (a : Result Contents BoardError). Follows d own a (contents_of other own (moved_head d head) two)) e (all_steps d own board other copper nets unit head i j h) in
+      all now become
 
   -- ---- notes of courtyards
 
@@ -210,12 +200,12 @@ module _ (d : Shift) (board other : PlainBoard) (copper : other.copper ≡ board
   items_again : (head : Head) (contents : Contents) (front back new_front new_back : Court) (now : List Item) (a : AllNow head contents front back now) (c : ContentsAgain head contents a.given)
       → body_of own (moved_head d head) two new_front new_back ≡ record a.moved { unit = own }
       → court_notes own two (codes "F.CrtYd") new_front ≡ of_unit own a.front_notes → court_notes own two (codes "B.CrtYd") new_back ≡ of_unit own a.back_notes
-      → items_of (all_given own (moved_head d head) two c.new.given new_front new_back) ≡ of_unit own now
+      → items_of (all_given own (moved_head d head) two c.contents.given new_front new_back) ≡ of_unit own now
   items_again head contents front back new_front new_back now a c body of_front of_back =
       let f = court_notes own two (codes "F.CrtYd") new_front in
       let b = court_notes own two (codes "B.CrtYd") new_back in
-      all_items own (moved_head d head) two c.new.given new_front new_back
-      ∙ ap (λ (x : Item). (((x ∷ []) ++ items_of c.new.given) ++ f) ++ b) body
+      all_items own (moved_head d head) two c.contents.given new_front new_back
+      ∙ ap (λ (x : Item). (((x ∷ []) ++ items_of c.contents.given) ++ f) ++ b) body
       ∙ ap (λ (l : List Item). (((record a.moved { unit = own } ∷ []) ++ l) ++ f) ++ b) c.items
       ∙ ap (λ (l : List Item). (((record a.moved { unit = own } ∷ []) ++ of_unit own a.given) ++ l) ++ b) of_front
       ∙ ap (λ (l : List Item). (((record a.moved { unit = own } ∷ []) ++ of_unit own a.given) ++ of_unit own a.front_notes) ++ l) of_back
@@ -239,13 +229,13 @@ module _ (d : Shift) (board other : PlainBoard) (copper : other.copper ≡ board
       let new_back = court_with d back b.backs in
       let body = body_again head front back new_front new_back a.moved b f.parts k.parts in
       let items = items_again head contents front back new_front new_back now a c body (notes_again (codes "F.CrtYd") front b.fronts a.front_notes a.of_front) (notes_again (codes "B.CrtYd") back b.backs a.back_notes a.of_back) in
-      let of_front : IsCourt (moved_stance d head.stance) c.new.front new_front = subst (λ (x : CourtSide). IsCourt (moved_stance d head.stance) x new_front) (sym c.front) f.is in
-      let of_back : IsCourt (moved_stance d head.stance) c.new.back new_back = subst (λ (x : CourtSide). IsCourt (moved_stance d head.stance) x new_back) (sym c.back) k.is in
+      let of_front : IsCourt (moved_stance d head.stance) c.contents.front new_front = subst (λ (x : CourtSide). IsCourt (moved_stance d head.stance) x new_front) (sym c.front) f.is in
+      let of_back : IsCourt (moved_stance d head.stance) c.contents.back new_back = subst (λ (x : CourtSide). IsCourt (moved_stance d head.stance) x new_back) (sym c.back) k.is in
       let placed : is_placed (moved_head d head) new_front new_back ≡ true =
       two_pass (fits_board (moved_spot d head.stance.at)) (lies_on_board new_front && lies_on_board new_back) (two_pass (is_near (head.stance.at.x +ℤ d.dx)) (is_near (head.stance.at.y +ℤ d.dy)) b.near_x b.near_y)
       (two_pass (lies_on_board new_front) (lies_on_board new_back) f.lies k.lies) in
       let long : length (of_unit own now) ≡ length now = length-map now (λ (x : Item). record x { unit = own }) in
-      says_again (moved_head d head) c.new new_front new_back (of_unit own now) (head_there head eh b.near_x b.near_y) c.there of_front of_back placed items (omega (arith, long, few)) low
+      says_again (moved_head d head) c.contents new_front new_back (of_unit own now) (head_there head eh b.near_x b.near_y) c.is of_front of_back placed items (omega (arith, long, few)) low
 
   pub foot_carried : (items now : List Item) → AllZip (Becomes d) items now → FootprintSays board unit one (Ok items) → length now ≤ room_of other → own < 4294967295 → FootprintSays other own two (Ok (of_unit own now))
   foot_carried items now become says few low =

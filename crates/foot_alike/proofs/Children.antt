@@ -21,9 +21,9 @@ use Rattle.pad_read.specs.declared.head.Head.{Head}
 use Rattle.pad_read.specs.PadOf.{pad_of}
 use Rattle.footprint_read.specs.declared.sides.CourtSide.{CourtSide}
 use Rattle.footprint_read.specs.declared.contents.Contents.{Contents}
-use Rattle.footprint_read.specs.Courtyards.{with_curve, with_graphic}
-use Rattle.footprint_read.specs.FootprintOf.{given_at, with_items, adding, at_front, at_back, with_drawn, with_arc, drawn_kind, is_curve, is_writing, with_other, with_child_by, with_child, with_children, items_of}
-use Rattle.footprint_read.proofs.Standing.{items_append}
+use Rattle.footprint_read.specs.Courtyards.{curve_side, graphic_side}
+use Rattle.footprint_read.specs.FootprintOf.{empty, given_at, giving, at_front, at_back, drawn_gives, arc_gives, drawn_kind, is_curve, is_writing, other_gives, kind_gives, child_gives, contents_then, children_give, items_of}
+use Rattle.footprint_read.proofs.Standing.{items_given, items_append}
 use Rattle.read_alike.specs.Alike.{Shift, Alike}
 use Rattle.read_alike.specs.Agreeing.{Agrees, Same}
 use Rattle.read_alike.specs.Carried.{Becomes, of_unit, Leads, ReadsItems}
@@ -35,11 +35,7 @@ use Rattle.foot_alike.specs.Places.{AtMoved}
 use Rattle.pad_alike.proofs.Standing.{moved_stances}
 use Rattle.pad_alike.proofs.Pads.{pad_carried}
 use Rattle.foot_alike.proofs.Finding.{other_head}
-use Rattle.foot_alike.proofs.Siding.{moved_side, SideMoved, graphic_moved}
-
-pub items_given : (place : ℕ) (items : List Item) → items_of (given_at place items) ≡ items
-items_given place [] = refl
-items_given place (i ∷ is) = ap (λ (xs : List Item). i ∷ xs) (items_given place is)
+use Rattle.foot_alike.proofs.Siding.{moved_side, SideMoved, graphic_moved, sides_moved}
 
 module _ (d : Shift) (own : ℕ) where
   abbrev pub Become : List Item → List Item → Type 0
@@ -59,132 +55,73 @@ module _ (d : Shift) (own : ℕ) where
       let k = split_now xs ys now h.1 in
       record { first = n ∷ k.first; rest = k.rest; are = ap (λ (l : List Item). n ∷ l) k.are; first_become = (h.0, k.first_become); rest_become = k.rest_become }
 
-  -- ---- what was given so far, in both
+  -- ---- what is given in both
 
-  pub record Matches (c z : Contents) (now : List Item) : Type 0 where
-    pub items : items_of z.given ≡ of_unit own now
-    pub front : z.front ≡ moved_side d c.front
-    pub back : z.back ≡ moved_side d c.back
-
-  pub record Reached (z : Contents) (answer : Result Contents BoardError) (all : List Item) : Type 0 where
+  -- the other answer gives what the items become, and the moved sides
+  pub record Reached (c : Contents) (answer : Result Contents BoardError) (now : List Item) : Type 0 where
     pub contents : Contents
     pub is : answer ≡ Ok contents
-    pub matches : Matches z contents all
+    pub items : items_of contents.given ≡ of_unit own now
+    pub front : contents.front ≡ moved_side d c.front
+    pub back : contents.back ≡ moved_side d c.back
 
-  pub record StepTo (c z : Contents) (run : Contents → Result Contents BoardError) (all : List Item) : Type 0 where
-    pub now : List Item
-    pub become : Become (items_of c.given) now
-    pub go : (x : Contents) → Matches c x now → Reached z (run x) all
+  -- where the one is accepted, whatever its items become
+  abbrev pub Follows : Result Contents BoardError → Result Contents BoardError → Type 0
+  Follows (Err e) answer = ⊤
+  Follows (Ok c) answer = (now : List Item) → Become (items_of c.given) now → Reached c answer now
 
-  -- from what was given before to what is given then, whatever that becomes
-  abbrev pub Steps : Contents → Result Contents BoardError → (Contents → Result Contents BoardError) → Type 0
-  Steps c (Err e) run = ⊤
-  Steps c (Ok z) run = (all : List Item) → Become (items_of z.given) all → StepTo c z run all
+  none_now : (now : List Item) → Become [] now → [] ≡ of_unit own now
+  none_now [] h = refl
+  none_now (n ∷ now) h = absurd h
 
-  stays : (c : Contents) → Steps c (Ok c) (λ x. Ok x)
-  stays c all become = record { now = all; become = become; go = λ x m. record { contents = x; is = refl; matches = m } }
+  nothing : Follows (Ok empty) (Ok empty)
+  nothing now become = record { contents = empty; is = refl; items = none_now now become; front = refl; back = refl }
 
-  steps_then : (c : Contents) (a : Result Contents BoardError) (f run more : Contents → Result Contents BoardError) → Steps c a run → ((z : Contents) → Steps z (f z) more) → Steps c (a >>= f) (λ x. run x >>= more)
-  steps_then c (Err e) f run more h k = tt
-  steps_then c (Ok z) f run more h k = by_answer (f z) (k z)
-    where
-      by_answer : (b : Result Contents BoardError) → Steps z b more → Steps c b (λ x. run x >>= more)
-      by_answer (Err e) k = tt
-      by_answer (Ok y) k = λ all become.
-          let second = k all become in
-          let first = h second.now second.become in
-          record {
-            now = first.now;
-            become = first.become;
-            go = λ x m.
-                let one = first.go x m in
-                let two = second.go one.contents one.matches in
-                record { contents = two.contents; is = ap (λ (r : Result Contents BoardError). r >>= more) one.is ∙ two.is; matches = two.matches };
-          }
-
-  -- by what is the same in both
-  steps_same : {A : Type 0} (c : Contents) (a b : Result A BoardError) (f : A → Result Contents BoardError) (g : Contents → A → Result Contents BoardError) → Agrees Same a b → ((v : A) → Steps c (f v) (λ x. g x v)) → Steps c (a >>= f) (λ x. b >>= g x)
-  steps_same c (Err e) b f g h k = tt
-  steps_same c (Ok v) (Err e) f g h k = absurd h
-  steps_same c (Ok v) (Ok w) f g h k = subst (λ (z : _). Steps c (f v) (λ x. g x z)) (sym h) (k v)
-
-  -- ---- items
-
-  adds : (c : Contents) (t u : Tree) (answer other : Result (List Item) BoardError) → Leads (ReadsItems d own) answer other → Steps c (adding c t answer) (λ x. adding x u other)
-  adds c t u (Err e) other h = tt
-  adds c t u (Ok items) other h = λ all become.
-      let joined : items_of (c.given ++ given_at (place t) items) ≡ items_of c.given ++ items = items_append c.given (given_at (place t) items) ∙ ap (λ (l : List Item). items_of c.given ++ l) (items_given (place t) items) in
-      let k = split_now (items_of c.given) items all (subst (λ (l : List Item). Become l all) joined become) in
+  both_follow : (a b more others : Result Contents BoardError) → Follows a b → Follows more others → Follows (a >>= λ x. more >>= λ y. Ok (contents_then x y)) (b >>= λ x. others >>= λ y. Ok (contents_then x y))
+  both_follow (Err e) b more others h k = tt
+  both_follow (Ok x) b (Err e) others h k = tt
+  both_follow (Ok x) b (Ok y) others h k = λ now become.
+      let s = split_now (items_of x.given) (items_of y.given) now (subst (λ (l : List Item). Become l now) (items_append x.given y.given) become) in
+      let one = h s.first s.first_become in
+      let two = k s.rest s.rest_become in
       record {
-        now = k.first;
-        become = k.first_become;
-        go = λ x m. record {
-          contents = with_items x u (of_unit own k.rest);
-          is = ap (adding x u) (h k.rest k.rest_become);
-          matches = record {
-            items =
-                items_append x.given (given_at (place u) (of_unit own k.rest))
-                ∙ ap (λ (l : List Item). l ++ items_of (given_at (place u) (of_unit own k.rest))) m.items
-                ∙ ap (λ (l : List Item). of_unit own k.first ++ l) (items_given (place u) (of_unit own k.rest))
-                ∙ sym (map-append (λ (i : Item). record i { unit = own }) k.first k.rest)
-                ∙ ap (of_unit own) (sym k.are);
-            front = m.front;
-            back = m.back;
-          };
-        };
+        contents = contents_then one.contents two.contents;
+        is = ap (λ (r : Result Contents BoardError). r >>= λ x. others >>= λ y. Ok (contents_then x y)) one.is ∙ ap (λ (r : Result Contents BoardError). r >>= λ y. Ok (contents_then one.contents y)) two.is;
+        items =
+            items_append one.contents.given two.contents.given
+            ∙ ap (λ (l : List Item). l ++ items_of two.contents.given) one.items
+            ∙ ap (λ (l : List Item). of_unit own s.first ++ l) two.items
+            ∙ sym (map-append (λ (i : Item). record i { unit = own }) s.first s.rest)
+            ∙ ap (of_unit own) (sym s.are);
+        front = sides_moved d x.front y.front one.contents.front two.contents.front one.front two.front;
+        back = sides_moved d x.back y.back one.contents.back two.contents.back one.back two.back;
       }
 
-  -- ---- courtyards
+  -- by what is the same in both
+  same_follow : {A : Type 0} (a b : Result A BoardError) (f g : A → Result Contents BoardError) → Agrees Same a b → ((v : A) → Follows (f v) (g v)) → Follows (a >>= f) (b >>= g)
+  same_follow (Err e) b f g h k = tt
+  same_follow (Ok v) (Err e) f g h k = absurd h
+  same_follow (Ok v) (Ok w) f g h k = subst (λ (z : _). Follows (f v) (g z)) (sym h) (k v)
 
-  fronts : (c : Contents) (answer : Result CourtSide BoardError) (other : CourtSide → Result CourtSide BoardError) → Agrees (SideMoved d) answer (other (moved_side d c.front)) → Steps c (at_front c answer) (λ x. at_front x (other x.front))
-  fronts c (Err e) other h = tt
-  fronts c (Ok side) other h = λ all become. record {
-    now = all;
-    become = become;
-    go = λ x m.
-        let k = answer_is (other (moved_side d c.front)) refl h in
-        record {
-          contents = record x { front = moved_side d side };
-          is = ap (λ (s : CourtSide). at_front x (other s)) m.front ∙ ap (at_front x) k;
-          matches = record { items = m.items; front = refl; back = m.back };
-        };
-  }
-    where
-      answer_is : (b : Result CourtSide BoardError) → other (moved_side d c.front) ≡ b → Agrees (SideMoved d) (Ok side) b → other (moved_side d c.front) ≡ Ok (moved_side d side)
-      answer_is (Ok y) e k = e ∙ ap (λ (s : CourtSide). let r : Result CourtSide BoardError = Ok s in r) k
-      answer_is (Err f) e k = absurd k
-
-  backs : (c : Contents) (answer : Result CourtSide BoardError) (other : CourtSide → Result CourtSide BoardError) → Agrees (SideMoved d) answer (other (moved_side d c.back)) → Steps c (at_back c answer) (λ x. at_back x (other x.back))
-  backs c (Err e) other h = tt
-  backs c (Ok side) other h = λ all become. record {
-    now = all;
-    become = become;
-    go = λ x m.
-        let k = answer_is (other (moved_side d c.back)) refl h in
-        record {
-          contents = record x { back = moved_side d side };
-          is = ap (λ (s : CourtSide). at_back x (other s)) m.back ∙ ap (at_back x) k;
-          matches = record { items = m.items; front = m.front; back = refl };
-        };
-  }
-    where
-      answer_is : (b : Result CourtSide BoardError) → other (moved_side d c.back) ≡ b → Agrees (SideMoved d) (Ok side) b → other (moved_side d c.back) ≡ Ok (moved_side d side)
-      answer_is (Ok y) e k = e ∙ ap (λ (s : CourtSide). let r : Result CourtSide BoardError = Ok s in r) k
-      answer_is (Err f) e k = absurd k
-
-  curve_front : (c : Contents) → Steps c (Ok (record c { front = with_curve c.front })) (λ x. Ok (record x { front = with_curve x.front }))
-  curve_front c all become = record {
-    now = all;
-    become = become;
-    go = λ x m. record { contents = record x { front = with_curve x.front }; is = refl; matches = record { items = m.items; front = ap with_curve m.front; back = m.back } };
+  items_follow : (t u : Tree) (answer other : Result (List Item) BoardError) → Leads (ReadsItems d own) answer other → Follows (giving t answer) (giving u other)
+  items_follow t u (Err e) other h = tt
+  items_follow t u (Ok items) other h = λ now become. record {
+    contents = record empty { given = given_at (place u) (of_unit own now) };
+    is = ap (giving u) (h now (subst (λ (l : List Item). Become l now) (items_given (place t) items) become));
+    items = items_given (place u) (of_unit own now);
+    front = refl;
+    back = refl;
   }
 
-  curve_back : (c : Contents) → Steps c (Ok (record c { back = with_curve c.back })) (λ x. Ok (record x { back = with_curve x.back }))
-  curve_back c all become = record {
-    now = all;
-    become = become;
-    go = λ x m. record { contents = record x { back = with_curve x.back }; is = refl; matches = record { items = m.items; front = m.front; back = ap with_curve m.back } };
-  }
+  fronts : (answer other : Result CourtSide BoardError) → Agrees (SideMoved d) answer other → Follows (at_front answer) (at_front other)
+  fronts (Err e) other h = tt
+  fronts (Ok side) (Err e) h = absurd h
+  fronts (Ok side) (Ok new) h = λ now become. record { contents = record empty { front = new }; is = refl; items = none_now now become; front = h; back = refl }
+
+  backs : (answer other : Result CourtSide BoardError) → Agrees (SideMoved d) answer other → Follows (at_back answer) (at_back other)
+  backs (Err e) other h = tt
+  backs (Ok side) (Err e) h = absurd h
+  backs (Ok side) (Ok new) h = λ now become. record { contents = record empty { back = new }; is = refl; items = none_now now become; front = refl; back = h }
 
   -- ---- one child
 
@@ -202,26 +139,24 @@ module _ (d : Shift) (own : ℕ) where
       same_ground : Agrees Same (ground_of board.copper one) (ground_of other.copper two)
       same_ground = subst (λ c. Agrees Same (ground_of board.copper one) (ground_of c two)) (sym copper) (ground_alike None board.copper i j s r h)
 
-      drawn_step : (c : Contents) (kind : GraphicKind) (lies : Ground) → Steps c (with_drawn board unit head c kind one lies) (λ x. with_drawn other own new_head x kind two lies)
-      drawn_step c kind Front = fronts c (with_graphic head.stance kind c.front one) (λ side. with_graphic new_head.stance kind side two) (graphic_moved d head.stance kind c.front one two h)
-      drawn_step c kind Back = backs c (with_graphic head.stance kind c.back one) (λ side. with_graphic new_head.stance kind side two) (graphic_moved d head.stance kind c.back one two h)
-      drawn_step c kind (Copper layer) = adds c one two (graphic_by board unit head.stance kind one (Copper layer)) (graphic_by other own new_head.stance kind two (Copper layer)) (graphics (Copper layer) kind)
-        where
-          graphics : (lies : Ground) (kind : GraphicKind) → Leads (ReadsItems d own) (graphic_by board unit head.stance kind one lies) (graphic_by other own new_head.stance kind two lies)
-          graphics lies kind = graphic_carried None d head.stance new_head.stance (moved_stances d head.stance) board other nets unit own kind i j s r h lies
-      drawn_step c kind Outlines =
-          adds c one two (graphic_by board unit head.stance kind one Outlines) (graphic_by other own new_head.stance kind two Outlines)
-          (graphic_carried None d head.stance new_head.stance (moved_stances d head.stance) board other nets unit own kind i j s r h Outlines)
-      drawn_step c kind Elsewhere =
-          adds c one two (graphic_by board unit head.stance kind one Elsewhere) (graphic_by other own new_head.stance kind two Elsewhere)
-          (graphic_carried None d head.stance new_head.stance (moved_stances d head.stance) board other nets unit own kind i j s r h Elsewhere)
+      graphics : (lies : Ground) (kind : GraphicKind) → Follows (giving one (graphic_by board unit head.stance kind one lies)) (giving two (graphic_by other own new_head.stance kind two lies))
+      graphics lies kind =
+          items_follow one two (graphic_by board unit head.stance kind one lies) (graphic_by other own new_head.stance kind two lies)
+          (graphic_carried None d head.stance new_head.stance (moved_stances d head.stance) board other nets unit own kind i j s r h lies)
 
-      arc_step : (c : Contents) (lies : Ground) → Steps c (with_arc c one lies) (λ x. with_arc x two lies)
-      arc_step c Front = curve_front c
-      arc_step c Back = curve_back c
-      arc_step c (Copper layer) = adds c one two (curve_by one (Copper layer)) (curve_by two (Copper layer)) (curve_carried d own one two (Copper layer))
-      arc_step c Outlines = adds c one two (curve_by one Outlines) (curve_by two Outlines) (curve_carried d own one two Outlines)
-      arc_step c Elsewhere = adds c one two (curve_by one Elsewhere) (curve_by two Elsewhere) (curve_carried d own one two Elsewhere)
+      drawn_step : (kind : GraphicKind) (lies : Ground) → Follows (drawn_gives board unit head kind one lies) (drawn_gives other own new_head kind two lies)
+      drawn_step kind Front = fronts (graphic_side head.stance kind one) (graphic_side new_head.stance kind two) (graphic_moved d head.stance kind one two h)
+      drawn_step kind Back = backs (graphic_side head.stance kind one) (graphic_side new_head.stance kind two) (graphic_moved d head.stance kind one two h)
+      drawn_step kind (Copper layer) = graphics (Copper layer) kind
+      drawn_step kind Outlines = graphics Outlines kind
+      drawn_step kind Elsewhere = graphics Elsewhere kind
+
+      arc_step : (lies : Ground) → Follows (arc_gives one lies) (arc_gives two lies)
+      arc_step Front = fronts (Ok curve_side) (Ok curve_side) refl
+      arc_step Back = backs (Ok curve_side) (Ok curve_side) refl
+      arc_step (Copper layer) = items_follow one two (curve_by one (Copper layer)) (curve_by two (Copper layer)) (curve_carried d own one two (Copper layer))
+      arc_step Outlines = items_follow one two (curve_by one Outlines) (curve_by two Outlines) (curve_carried d own one two Outlines)
+      arc_step Elsewhere = items_follow one two (curve_by one Elsewhere) (curve_by two Elsewhere) (curve_carried d own one two Elsewhere)
 
       head_same : (word : List ℕ) → has_head word two ≡ has_head word one
       head_same word = sym (heads_alike None one two word h)
@@ -229,20 +164,20 @@ module _ (d : Shift) (own : ℕ) where
       zone_note : Leads (ReadsItems d own) (Ok (note_of (name_in one) unit FootZone [] ∷ [])) (Ok (note_of (name_in two) own FootZone [] ∷ []))
       zone_note = note_read d own unit FootZone (name_in one) [] (name_in two) [] (sym (name_alike None i j s r h)) refl
 
-      abbrev other_by : PlainBoard → ℕ → Bool → Bool → Bool → Contents → Tree → Result Contents BoardError
-      other_by board unit curve writing zone c t =
-          if curve then (ground_of board.copper t >>= with_arc c t)
-          else if writing then (ground_of board.copper t >>= λ lies. adding c t (text_by unit Text t lies))
-          else if zone then Ok (with_items c t (note_of (name_in t) unit FootZone [] ∷ []))
-          else Ok c
+      abbrev other_by : PlainBoard → ℕ → Bool → Bool → Bool → Tree → Result Contents BoardError
+      other_by board unit curve writing zone t =
+          if curve then (ground_of board.copper t >>= arc_gives t)
+          else if writing then (ground_of board.copper t >>= λ lies. giving t (text_by unit Text t lies))
+          else if zone then giving t (Ok (note_of (name_in t) unit FootZone [] ∷ []))
+          else Ok empty
 
-      by_heads : (c : Contents) (curve writing zone : Bool) → Steps c (other_by board unit curve writing zone c one) (λ x. other_by other own curve writing zone x two)
-      by_heads c true writing zone = steps_same c (ground_of board.copper one) (ground_of other.copper two) (with_arc c one) (λ x. with_arc x two) same_ground (λ lies. arc_step c lies)
-      by_heads c false true zone =
-          steps_same c (ground_of board.copper one) (ground_of other.copper two) (λ lies. adding c one (text_by unit Text one lies)) (λ x lies. adding x two (text_by own Text two lies)) same_ground
-          (λ lies. adds c one two (text_by unit Text one lies) (text_by own Text two lies) (text_carried None d own unit Text i j s r lies h))
-      by_heads c false false true = adds c one two (Ok (note_of (name_in one) unit FootZone [] ∷ [])) (Ok (note_of (name_in two) own FootZone [] ∷ [])) zone_note
-      by_heads c false false false = stays c
+      by_heads : (curve writing zone : Bool) → Follows (other_by board unit curve writing zone one) (other_by other own curve writing zone two)
+      by_heads true writing zone = same_follow (ground_of board.copper one) (ground_of other.copper two) (arc_gives one) (arc_gives two) same_ground arc_step
+      by_heads false true zone =
+          same_follow (ground_of board.copper one) (ground_of other.copper two) (λ lies. giving one (text_by unit Text one lies)) (λ lies. giving two (text_by own Text two lies)) same_ground
+          (λ lies. items_follow one two (text_by unit Text one lies) (text_by own Text two lies) (text_carried None d own unit Text i j s r lies h))
+      by_heads false false true = items_follow one two (Ok (note_of (name_in one) unit FootZone [] ∷ [])) (Ok (note_of (name_in two) own FootZone [] ∷ [])) zone_note
+      by_heads false false false = nothing
 
       curve_same : is_curve two ≡ is_curve one
       curve_same = ap (λ (b : Bool). b || has_head (codes "fp_curve") two) (head_same (codes "fp_arc")) ∙ ap (λ (b : Bool). has_head (codes "fp_arc") one || b) (head_same (codes "fp_curve"))
@@ -253,17 +188,16 @@ module _ (d : Shift) (own : ℕ) where
           ∙ ap (λ (b : Bool). has_head (codes "fp_text") one || b || has_head (codes "property") two) (head_same (codes "fp_text_box"))
           ∙ ap (λ (b : Bool). has_head (codes "fp_text") one || has_head (codes "fp_text_box") one || b) (head_same (codes "property"))
 
-      other_step : (c : Contents) → Steps c (with_other board unit c one) (λ x. with_other other own x two)
-      other_step c =
-          subst (λ (b : Bool). Steps c (with_other board unit c one) (λ x. other_by other own b (is_writing two) (has_head (codes "zone") two) x two)) (sym curve_same)
-          (subst (λ (b : Bool). Steps c (with_other board unit c one) (λ x. other_by other own (is_curve one) b (has_head (codes "zone") two) x two)) (sym writing_same)
-          (subst (λ (b : Bool). Steps c (with_other board unit c one) (λ x. other_by other own (is_curve one) (is_writing one) b x two)) (sym (head_same (codes "zone")))
-          (by_heads c (is_curve one) (is_writing one) (has_head (codes "zone") one))))
+      other_step : Follows (other_gives board unit one) (other_gives other own two)
+      other_step =
+          subst (λ (b : Bool). Follows (other_gives board unit one) (other_by other own b (is_writing two) (has_head (codes "zone") two) two)) (sym curve_same)
+          (subst (λ (b : Bool). Follows (other_gives board unit one) (other_by other own (is_curve one) b (has_head (codes "zone") two) two)) (sym writing_same)
+          (subst (λ (b : Bool). Follows (other_gives board unit one) (other_by other own (is_curve one) (is_writing one) b two)) (sym (head_same (codes "zone")))
+          (by_heads (is_curve one) (is_writing one) (has_head (codes "zone") one))))
 
-      kind_step : (c : Contents) (o : Option GraphicKind) → Steps c (with_child_by board unit head c one o) (λ x. with_child_by other own new_head x two o)
-      kind_step c None = other_step c
-      kind_step c (Some kind) =
-          steps_same c (ground_of board.copper one) (ground_of other.copper two) (with_drawn board unit head c kind one) (λ x. with_drawn other own new_head x kind two) same_ground (λ lies. drawn_step c kind lies)
+      kind_step : (o : Option GraphicKind) → Follows (kind_gives board unit head one o) (kind_gives other own new_head two o)
+      kind_step None = other_step
+      kind_step (Some kind) = same_follow (ground_of board.copper one) (ground_of other.copper two) (drawn_gives board unit head kind one) (drawn_gives other own new_head kind two) same_ground (drawn_step kind)
 
       kind_same : drawn_kind two ≡ drawn_kind one
       kind_same =
@@ -280,29 +214,30 @@ module _ (d : Shift) (own : ℕ) where
               else if outline then Some Outline
               else None
 
-      abbrev child_by : PlainBoard → ℕ → Head → Bool → Option GraphicKind → Contents → Tree → Result Contents BoardError
-      child_by board unit head pad kind c t = if pad then adding c t (pad_of board unit head t >>= λ pad. Ok (pad ∷ [])) else with_child_by board unit head c t kind
+      abbrev child_by : PlainBoard → ℕ → Head → Bool → Option GraphicKind → Tree → Result Contents BoardError
+      child_by board unit head pad kind t = if pad then giving t (pad_of board unit head t >>= λ pad. Ok (pad ∷ [])) else kind_gives board unit head t kind
 
-      by_pad : (c : Contents) (pad : Bool) → Steps c (child_by board unit head pad (drawn_kind one) c one) (λ x. child_by other own new_head pad (drawn_kind one) x two)
-      by_pad c true =
-          adds c one two (one_item (pad_of board unit head one)) (one_item (pad_of other own new_head two)) (one_read d own (pad_of board unit head one) (pad_of other own new_head two) (pad_carried d board other copper nets unit own head i j s r h))
-      by_pad c false = kind_step c (drawn_kind one)
+      by_pad : (pad : Bool) → Follows (child_by board unit head pad (drawn_kind one) one) (child_by other own new_head pad (drawn_kind one) two)
+      by_pad true =
+          items_follow one two (one_item (pad_of board unit head one)) (one_item (pad_of other own new_head two))
+          (one_read d own (pad_of board unit head one) (pad_of other own new_head two) (pad_carried d board other copper nets unit own head i j s r h))
+      by_pad false = kind_step (drawn_kind one)
 
-      pub list_step : (c : Contents) → Steps c (with_child board unit head c one) (λ x. with_child other own new_head x two)
-      unfolding with_child
-      list_step c =
-          subst (λ (b : Bool). Steps c (child_by board unit head (has_head (codes "pad") one) (drawn_kind one) c one) (λ x. child_by other own new_head b (drawn_kind two) x two)) (sym (head_same (codes "pad")))
-          (subst (λ (o : Option GraphicKind). Steps c (child_by board unit head (has_head (codes "pad") one) (drawn_kind one) c one) (λ x. child_by other own new_head (has_head (codes "pad") one) o x two)) (sym kind_same) (by_pad c (has_head (codes "pad") one)))
+      list_step : Follows (child_gives board unit head one) (child_gives other own new_head two)
+      unfolding child_gives
+      list_step =
+          subst (λ (b : Bool). Follows (child_by board unit head (has_head (codes "pad") one) (drawn_kind one) one) (child_by other own new_head b (drawn_kind two) two)) (sym (head_same (codes "pad")))
+          (subst (λ (o : Option GraphicKind). Follows (child_by board unit head (has_head (codes "pad") one) (drawn_kind one) one) (child_by other own new_head (has_head (codes "pad") one) o two)) (sym kind_same) (by_pad (has_head (codes "pad") one)))
 
     -- an atom gives nothing
-    atom_step : (c : Contents) (s r : Span) (q p : Bool) (x y : List ℕ) → Steps c (with_child board unit head c (leaf s q x)) (λ z. with_child other own new_head z (leaf r p y))
-    unfolding with_child has_head
-    atom_step c s r q p x y = stays c
+    atom_step : (s r : Span) (q p : Bool) (x y : List ℕ) → Follows (child_gives board unit head (leaf s q x)) (child_gives other own new_head (leaf r p y))
+    unfolding child_gives has_head
+    atom_step s r q p x y = nothing
 
     -- nor does the list that says where the footprint is
-    place_gives : (any : PlainBoard) (n : ℕ) (head : Head) (c : Contents) (s : Span) (f : Forest) → first_is (trees f) (codes "at") ≡ true → with_child any n head c (branch s f) ≡ Ok c
-    unfolding with_child
-    place_gives any n head c s f first =
+    place_gives : (any : PlainBoard) (n : ℕ) (head : Head) (s : Span) (f : Forest) → first_is (trees f) (codes "at") ≡ true → child_gives any n head (branch s f) ≡ Ok empty
+    unfolding child_gives
+    place_gives any n head s f first =
         rw (
           other_head s f (codes "pad") first refl,
           other_head s f (codes "fp_line") first refl,
@@ -317,42 +252,36 @@ module _ (d : Shift) (own : ℕ) where
           other_head s f (codes "zone") first refl,
         ) refl
 
-    place_step : (c : Contents) (s r : Span) (f g : Forest) → first_is (trees f) (codes "at") ≡ true → first_is (trees g) (codes "at") ≡ true → Steps c (with_child board unit head c (branch s f)) (λ x. with_child other own new_head x (branch r g))
-    place_step c s r f g one two =
-        subst (λ (a : Result Contents BoardError). Steps c a (λ x. with_child other own new_head x (branch r g))) (sym (place_gives board unit head c s f one))
-        (λ all become. record { now = all; become = become; go = λ x m. record { contents = x; is = place_gives other own new_head x r g two; matches = m } })
+    place_step : (s r : Span) (f g : Forest) → first_is (trees f) (codes "at") ≡ true → first_is (trees g) (codes "at") ≡ true → Follows (child_gives board unit head (branch s f)) (child_gives other own new_head (branch r g))
+    place_step s r f g one two =
+        subst (λ (a : Result Contents BoardError). Follows a (child_gives other own new_head (branch r g))) (sym (place_gives board unit head s f one))
+        (subst (λ (b : Result Contents BoardError). Follows (Ok empty) b) (sym (place_gives other own new_head r g two)) nothing)
 
     -- ---- all of them
 
-    pub plain_steps : (f g : Forest) (c : Contents) → Alike None f g → Steps c (with_children board unit head c (trees f)) (λ x. with_children other own new_head x (trees g))
-    plain_steps none none c h = stays c
-    plain_steps none (atom t r e rest) c h = absurd h
-    plain_steps none (list t within rest) c h = absurd h
-    plain_steps (atom s q x others) none c h = absurd h
-    plain_steps (atom s q x others) (list t within rest) c h = absurd h
-    plain_steps (list s i others) none c h = absurd h
-    plain_steps (list s i others) (atom t r e rest) c h = absurd h
-    plain_steps (atom s q x others) (atom t r e rest) c h =
-        steps_then c (with_child board unit head c (leaf s q x)) (λ z. with_children board unit head z (trees others)) (λ z. with_child other own new_head z (leaf t r e)) (λ z. with_children other own new_head z (trees rest))
-        (atom_step c s t q r x e) (λ z. plain_steps others rest z h.2)
-    plain_steps (list s i others) (list t j rest) c h =
-        steps_then c (with_child board unit head c (branch s i)) (λ z. with_children board unit head z (trees others)) (λ z. with_child other own new_head z (branch t j)) (λ z. with_children other own new_head z (trees rest))
-        (list_step i j s t h.0 c) (λ z. plain_steps others rest z h.1)
+    first_and : (t u : Tree) (ts us : List Tree) → Follows (child_gives board unit head t) (child_gives other own new_head u) → Follows (children_give board unit head ts) (children_give other own new_head us)
+        → Follows (children_give board unit head (t ∷ ts)) (children_give other own new_head (u ∷ us))
+    first_and t u ts us h k = both_follow (child_gives board unit head t) (child_gives other own new_head u) (children_give board unit head ts) (children_give other own new_head us) h k
 
-    pub all_steps : (f g : Forest) (c : Contents) → AtMoved d f g → Steps c (with_children board unit head c (trees f)) (λ x. with_children other own new_head x (trees g))
-    all_steps none none c h = stays c
-    all_steps none (atom t r e rest) c h = absurd h
-    all_steps none (list t within rest) c h = absurd h
-    all_steps (atom s q x others) none c h = absurd h
-    all_steps (atom s q x others) (list t within rest) c h = absurd h
-    all_steps (list s i others) none c h = absurd h
-    all_steps (list s i others) (atom t r e rest) c h = absurd h
-    all_steps (atom s q x others) (atom t r e rest) c h =
-        steps_then c (with_child board unit head c (leaf s q x)) (λ z. with_children board unit head z (trees others)) (λ z. with_child other own new_head z (leaf t r e)) (λ z. with_children other own new_head z (trees rest))
-        (atom_step c s t q r x e) (λ z. all_steps others rest z h.2)
-    all_steps (list s i others) (list t j rest) c (inl (place, more)) =
-        steps_then c (with_child board unit head c (branch s i)) (λ z. with_children board unit head z (trees others)) (λ z. with_child other own new_head z (branch t j)) (λ z. with_children other own new_head z (trees rest))
-        (place_step c s t i j place.first place.second) (λ z. plain_steps others rest z more)
-    all_steps (list s i others) (list t j rest) c (inr (plain, alike, more)) =
-        steps_then c (with_child board unit head c (branch s i)) (λ z. with_children board unit head z (trees others)) (λ z. with_child other own new_head z (branch t j)) (λ z. with_children other own new_head z (trees rest))
-        (list_step i j s t alike c) (λ z. all_steps others rest z more)
+    plain_steps : (f g : Forest) → Alike None f g → Follows (children_give board unit head (trees f)) (children_give other own new_head (trees g))
+    plain_steps none none h = nothing
+    plain_steps none (atom t r e rest) h = absurd h
+    plain_steps none (list t within rest) h = absurd h
+    plain_steps (atom s q x others) none h = absurd h
+    plain_steps (atom s q x others) (list t within rest) h = absurd h
+    plain_steps (list s i others) none h = absurd h
+    plain_steps (list s i others) (atom t r e rest) h = absurd h
+    plain_steps (atom s q x others) (atom t r e rest) h = first_and (leaf s q x) (leaf t r e) (trees others) (trees rest) (atom_step s t q r x e) (plain_steps others rest h.2)
+    plain_steps (list s i others) (list t j rest) h = first_and (branch s i) (branch t j) (trees others) (trees rest) (list_step i j s t h.0) (plain_steps others rest h.1)
+
+    pub all_steps : (f g : Forest) → AtMoved d f g → Follows (children_give board unit head (trees f)) (children_give other own new_head (trees g))
+    all_steps none none h = nothing
+    all_steps none (atom t r e rest) h = absurd h
+    all_steps none (list t within rest) h = absurd h
+    all_steps (atom s q x others) none h = absurd h
+    all_steps (atom s q x others) (list t within rest) h = absurd h
+    all_steps (list s i others) none h = absurd h
+    all_steps (list s i others) (atom t r e rest) h = absurd h
+    all_steps (atom s q x others) (atom t r e rest) h = first_and (leaf s q x) (leaf t r e) (trees others) (trees rest) (atom_step s t q r x e) (all_steps others rest h.2)
+    all_steps (list s i others) (list t j rest) (inl (place, more)) = first_and (branch s i) (branch t j) (trees others) (trees rest) (place_step s t i j place.first place.second) (plain_steps others rest more)
+    all_steps (list s i others) (list t j rest) (inr (plain, alike, more)) = first_and (branch s i) (branch t j) (trees others) (trees rest) (list_step i j s t alike) (all_steps others rest more)

@@ -26,15 +26,14 @@ use Rattle.footprint_read.specs.declared.sides.CourtSide.{CourtSide}
 use Rattle.footprint_read.specs.declared.contents.Contents.{Contents}
 use Rattle.footprint_read.specs.declared.courts.Court.{Court}
 use Rattle.footprint_read.specs.declared.courts.Court.TheVariants.{Unchecked, Parts, Off}
-use Rattle.footprint_read.specs.Courtyards.{with_graphic, IsCourt}
+use Rattle.footprint_read.specs.Courtyards.{graphic_side, IsCourt}
 use Rattle.footprint_read.specs.FootHead.{head_of}
 use Rattle.footprint_read.specs.declared.contents.Given.{Given}
-use Rattle.footprint_read.specs.FootprintOf.{given_at, with_items, adding, at_front, at_back, with_drawn, with_arc, drawn_kind, is_curve, is_writing, with_other, with_child_by, with_child, with_children, empty, body_of, court_notes, all_given, items_of, with_room, is_placed, finished, contents_of, SaysInside, SaysWithHead, FootprintSays}
-use Rattle.footprint_read.proofs.Standing.{items_append, placed_fits}
+use Rattle.footprint_read.specs.FootprintOf.{empty, given_at, giving, at_front, at_back, drawn_gives, arc_gives, drawn_kind, is_curve, is_writing, other_gives, kind_gives, child_gives, contents_then, children_give, body_of, court_notes, all_given, items_of, with_room, is_placed, finished, contents_of, SaysInside, SaysWithHead, FootprintSays}
+use Rattle.footprint_read.proofs.Standing.{items_given, items_append, placed_fits}
 use Rattle.read_alike.specs.Carried.{ItemsOf}
 use Rattle.draw_alike.proofs.Placed.{same_ok, one_item_of, graphic_of, note_stands, text_of_unit, curve_of_unit}
 use Rattle.pad_alike.proofs.Pads.{pad_stands}
-use Rattle.foot_alike.proofs.Children.{items_given}
 
 -- ---- what it says
 
@@ -114,77 +113,73 @@ both_stand unit (x ∷ xs) ys h k = (h.0, h.1, both_stand unit xs ys h.2 k)
 
 module _ (unit : ℕ) where
   -- an answer that gives what stands so
-  abbrev Stand : Contents → Result Contents BoardError → Type 0
-  Stand c (Err e) = ⊤
-  Stand c (Ok z) = ItemsOf unit (items_of z.given)
+  abbrev Stand : Result Contents BoardError → Type 0
+  Stand (Err e) = ⊤
+  Stand (Ok z) = ItemsOf unit (items_of z.given)
 
-  adding_stands : (c : Contents) (t : Tree) (answer : Result (List Item) BoardError) → ItemsOf unit (items_of c.given) → ((items : List Item) → answer ≡ Ok items → ItemsOf unit items) → Stand c (adding c t answer)
-  adding_stands c t (Err e) h law = tt
-  adding_stands c t (Ok items) h law =
-      subst (λ (l : List Item). ItemsOf unit l) (sym (items_append c.given (given_at (place t) items) ∙ ap (λ (l : List Item). items_of c.given ++ l) (items_given (place t) items))) (both_stand unit (items_of c.given) items h (law items refl))
+  giving_stands : (t : Tree) (answer : Result (List Item) BoardError) → ((items : List Item) → answer ≡ Ok items → ItemsOf unit items) → Stand (giving t answer)
+  giving_stands t (Err e) law = tt
+  giving_stands t (Ok items) law = subst (λ (l : List Item). ItemsOf unit l) (sym (items_given (place t) items)) (law items refl)
 
-  front_stands : (c : Contents) (answer : Result CourtSide BoardError) → ItemsOf unit (items_of c.given) → Stand c (at_front c answer)
-  front_stands c (Err e) h = tt
-  front_stands c (Ok side) h = h
+  front_stands : (answer : Result CourtSide BoardError) → Stand (at_front answer)
+  front_stands (Err e) = tt
+  front_stands (Ok side) = tt
 
-  back_stands : (c : Contents) (answer : Result CourtSide BoardError) → ItemsOf unit (items_of c.given) → Stand c (at_back c answer)
-  back_stands c (Err e) h = tt
-  back_stands c (Ok side) h = h
+  back_stands : (answer : Result CourtSide BoardError) → Stand (at_back answer)
+  back_stands (Err e) = tt
+  back_stands (Ok side) = tt
 
-  ground_stands : (c : Contents) (a : Result Ground BoardError) (f : Ground → Result Contents BoardError) → ((lies : Ground) → Stand c (f lies)) → Stand c (a >>= f)
-  ground_stands c (Err e) f h = tt
-  ground_stands c (Ok lies) f h = h lies
+  ground_stands : (a : Result Ground BoardError) (f : Ground → Result Contents BoardError) → ((lies : Ground) → Stand (f lies)) → Stand (a >>= f)
+  ground_stands (Err e) f h = tt
+  ground_stands (Ok lies) f h = h lies
+
+  then_stands : (a b : Result Contents BoardError) → Stand a → Stand b → Stand (a >>= λ first. b >>= λ more. Ok (contents_then first more))
+  then_stands (Err e) b h k = tt
+  then_stands (Ok x) (Err e) h k = tt
+  then_stands (Ok x) (Ok y) h k = subst (λ (l : List Item). ItemsOf unit l) (sym (items_append x.given y.given)) (both_stand unit (items_of x.given) (items_of y.given) h k)
 
   module _ (board : PlainBoard) (head : Head) where
-    drawn_stands : (c : Contents) (kind : GraphicKind) (t : Tree) (lies : Ground) → ItemsOf unit (items_of c.given) → Stand c (with_drawn board unit head c kind t lies)
-    drawn_stands c kind t Front h = front_stands c (with_graphic head.stance kind c.front t) h
-    drawn_stands c kind t Back h = back_stands c (with_graphic head.stance kind c.back t) h
-    drawn_stands c kind t (Copper layer) h = adding_stands c t (graphic_by board unit head.stance kind t (Copper layer)) h (λ items e. graphic_of board unit head.stance kind t (Copper layer) items e)
-    drawn_stands c kind t Outlines h = adding_stands c t (graphic_by board unit head.stance kind t Outlines) h (λ items e. graphic_of board unit head.stance kind t Outlines items e)
-    drawn_stands c kind t Elsewhere h = adding_stands c t (graphic_by board unit head.stance kind t Elsewhere) h (λ items e. graphic_of board unit head.stance kind t Elsewhere items e)
+    drawn_stands : (kind : GraphicKind) (t : Tree) (lies : Ground) → Stand (drawn_gives board unit head kind t lies)
+    drawn_stands kind t Front = front_stands (graphic_side head.stance kind t)
+    drawn_stands kind t Back = back_stands (graphic_side head.stance kind t)
+    drawn_stands kind t (Copper layer) = giving_stands t (graphic_by board unit head.stance kind t (Copper layer)) (λ items e. graphic_of board unit head.stance kind t (Copper layer) items e)
+    drawn_stands kind t Outlines = giving_stands t (graphic_by board unit head.stance kind t Outlines) (λ items e. graphic_of board unit head.stance kind t Outlines items e)
+    drawn_stands kind t Elsewhere = giving_stands t (graphic_by board unit head.stance kind t Elsewhere) (λ items e. graphic_of board unit head.stance kind t Elsewhere items e)
 
-    arc_stands : (c : Contents) (t : Tree) (lies : Ground) → ItemsOf unit (items_of c.given) → Stand c (with_arc c t lies)
-    arc_stands c t Front h = h
-    arc_stands c t Back h = h
-    arc_stands c t (Copper layer) h = adding_stands c t (curve_by t (Copper layer)) h (λ items e. curve_of_unit unit t (Copper layer) items e)
-    arc_stands c t Outlines h = adding_stands c t (curve_by t Outlines) h (λ items e. curve_of_unit unit t Outlines items e)
-    arc_stands c t Elsewhere h = adding_stands c t (curve_by t Elsewhere) h (λ items e. curve_of_unit unit t Elsewhere items e)
+    arc_stands : (t : Tree) (lies : Ground) → Stand (arc_gives t lies)
+    arc_stands t Front = tt
+    arc_stands t Back = tt
+    arc_stands t (Copper layer) = giving_stands t (curve_by t (Copper layer)) (λ items e. curve_of_unit unit t (Copper layer) items e)
+    arc_stands t Outlines = giving_stands t (curve_by t Outlines) (λ items e. curve_of_unit unit t Outlines items e)
+    arc_stands t Elsewhere = giving_stands t (curve_by t Elsewhere) (λ items e. curve_of_unit unit t Elsewhere items e)
 
-    other_stands : (c : Contents) (t : Tree) → ItemsOf unit (items_of c.given) → Stand c (with_other board unit c t)
-    other_stands c t h = by_heads (is_curve t) (is_writing t) (has_head (codes "zone") t)
+    other_stands : (t : Tree) → Stand (other_gives board unit t)
+    other_stands t = by_heads (is_curve t) (is_writing t) (has_head (codes "zone") t)
       where
         by_heads : (curve writing zone : Bool)
-            → Stand c (if curve then (ground_of board.copper t >>= with_arc c t) else if writing then (ground_of board.copper t >>= λ lies. adding c t (text_by unit Text t lies)) else if zone then Ok (with_items c t (note_of (name_in t) unit FootZone [] ∷ [])) else Ok c)
-        by_heads true writing zone = ground_stands c (ground_of board.copper t) (with_arc c t) (λ lies. arc_stands c t lies h)
+            → Stand (if curve then (ground_of board.copper t >>= arc_gives t) else if writing then (ground_of board.copper t >>= λ lies. giving t (text_by unit Text t lies)) else if zone then giving t (Ok (note_of (name_in t) unit FootZone [] ∷ [])) else Ok empty)
+        by_heads true writing zone = ground_stands (ground_of board.copper t) (arc_gives t) (arc_stands t)
         by_heads false true zone =
-            ground_stands c (ground_of board.copper t) (λ lies. adding c t (text_by unit Text t lies)) (λ lies. adding_stands c t (text_by unit Text t lies) h (λ items e. text_of_unit unit Text t lies items e))
+            ground_stands (ground_of board.copper t) (λ lies. giving t (text_by unit Text t lies)) (λ lies. giving_stands t (text_by unit Text t lies) (λ items e. text_of_unit unit Text t lies items e))
         by_heads false false true =
-            adding_stands c t (Ok (note_of (name_in t) unit FootZone [] ∷ [])) h (λ items e. subst (λ (is : List Item). ItemsOf unit is) (same_ok e) (note_stands unit (name_in t) FootZone []))
-        by_heads false false false = h
+            giving_stands t (Ok (note_of (name_in t) unit FootZone [] ∷ [])) (λ items e. subst (λ (is : List Item). ItemsOf unit is) (same_ok e) (note_stands unit (name_in t) FootZone []))
+        by_heads false false false = tt
 
-    kind_stands : (c : Contents) (t : Tree) (o : Option GraphicKind) → ItemsOf unit (items_of c.given) → Stand c (with_child_by board unit head c t o)
-    kind_stands c t None h = other_stands c t h
-    kind_stands c t (Some kind) h = ground_stands c (ground_of board.copper t) (with_drawn board unit head c kind t) (λ lies. drawn_stands c kind t lies h)
+    kind_stands : (t : Tree) (o : Option GraphicKind) → Stand (kind_gives board unit head t o)
+    kind_stands t None = other_stands t
+    kind_stands t (Some kind) = ground_stands (ground_of board.copper t) (drawn_gives board unit head kind t) (drawn_stands kind t)
 
-    child_stands : (c : Contents) (t : Tree) → ItemsOf unit (items_of c.given) → Stand c (with_child board unit head c t)
-    unfolding with_child
-    child_stands c t h = by_pad (has_head (codes "pad") t)
+    child_stands : (t : Tree) → Stand (child_gives board unit head t)
+    unfolding child_gives
+    child_stands t = by_pad (has_head (codes "pad") t)
       where
-        by_pad : (b : Bool) → Stand c (if b then adding c t (pad_of board unit head t >>= λ pad. Ok (pad ∷ [])) else with_child_by board unit head c t (drawn_kind t))
-        by_pad true = adding_stands c t (one_item (pad_of board unit head t)) h (λ items e. one_item_of unit (pad_of board unit head t) items (λ item k. pad_stands board unit head t item k) e)
-        by_pad false = kind_stands c t (drawn_kind t) h
+        by_pad : (b : Bool) → Stand (if b then giving t (pad_of board unit head t >>= λ pad. Ok (pad ∷ [])) else kind_gives board unit head t (drawn_kind t))
+        by_pad true = giving_stands t (one_item (pad_of board unit head t)) (λ items e. one_item_of unit (pad_of board unit head t) items (λ item k. pad_stands board unit head t item k) e)
+        by_pad false = kind_stands t (drawn_kind t)
 
-    children_stand : (ts : List Tree) (c : Contents) → ItemsOf unit (items_of c.given) → Stand c (with_children board unit head c ts)
-    children_stand [] c h = h
-    children_stand (t ∷ ts) c h = by_child (with_child board unit head c t) (child_stands c t h) (λ z k. children_stand ts z k)
-      where
-        by_child : (a : Result Contents BoardError) → Stand c a → ((z : Contents) → ItemsOf unit (items_of z.given) → Stand z (with_children board unit head z ts)) → Stand c (a >>= λ more. with_children board unit head more ts)
-        by_child (Err e) k more = tt
-        by_child (Ok z) k more = same_stand z (with_children board unit head z ts) (more z k)
-          where
-            same_stand : (z : Contents) (a : Result Contents BoardError) → Stand z a → Stand c a
-            same_stand z (Err e) k = tt
-            same_stand z (Ok y) k = k
+    children_stand : (ts : List Tree) → Stand (children_give board unit head ts)
+    children_stand [] = tt
+    children_stand (t ∷ ts) = then_stands (child_gives board unit head t) (children_give board unit head ts) (child_stands t) (children_stand ts)
 
 notes_stand : (unit : ℕ) (tree : Tree) (layer : List ℕ) (court : Court) → ItemsOf unit (court_notes unit tree layer court)
 notes_stand unit tree layer Unchecked = note_stands unit (name_in tree) Courtyard layer
@@ -194,7 +189,7 @@ notes_stand unit tree layer Off = tt
 pub foot_stands : (board : PlainBoard) (unit : ℕ) (tree : Tree) (items : List Item) → FootprintSays board unit tree (Ok items) → ItemsOf unit items
 foot_stands board unit tree items says =
     let k = foot_says board unit tree items says in
-    let given : ItemsOf unit (items_of k.contents.given) = subst (λ (a : Result Contents BoardError). Stand unit empty a) k.has_contents (children_stand unit board k.head (parts tree) empty tt) in
+    let given : ItemsOf unit (items_of k.contents.given) = subst (λ (a : Result Contents BoardError). Stand unit a) k.has_contents (children_stand unit board k.head (parts tree)) in
     let body : ItemsOf unit (body_of unit k.head tree k.front k.back ∷ []) = (refl, placed_fits k.head k.front k.back k.placed, tt) in
     subst (λ (is : List Item). ItemsOf unit is) (sym (all_items unit k.head tree k.contents.given k.front k.back) ∙ k.are)
     (both_stand unit (((body_of unit k.head tree k.front k.back ∷ []) ++ items_of k.contents.given) ++ court_notes unit tree (codes "F.CrtYd") k.front) (court_notes unit tree (codes "B.CrtYd") k.back)

@@ -1,4 +1,4 @@
--- What lists on the layer of a courtyard add to their side, in a footprint that is moved.
+-- What lists on the layer of a courtyard give their side, in a footprint that is moved.
 use Rattle.std.proofs.Common.{◌≡◌, ◌∙◌, refl, sym, ap, subst, ℕ, Bool, true, false, ◌||◌, List, [], ◌∷◌, ◌++◌, map, length, codes, Option, None, Some, Result, Ok, Err}
 use Rattle.std.specs.Prelude.{nat_le, if◌then◌else◌}
 use Rattle.std.specs.List.{AllZip, list_any}
@@ -19,7 +19,7 @@ use Rattle.part_read.specs.Drawings.{spots_among}
 use Rattle.part_read.specs.Stances.{stood}
 use Rattle.footprint_read.specs.declared.sides.CourtSide.{CourtSide}
 use Rattle.footprint_read.specs.declared.sides.Course.{Course}
-use Rattle.footprint_read.specs.Courtyards.{with_figure, with_curve, with_line, with_rect, with_circle, with_spots, has_arc, with_outline, with_graphic}
+use Rattle.footprint_read.specs.Courtyards.{empty_side, side_then, curve_side, figure_side, line_side, rect_side, circle_side, spots_side, has_arc, outline_side, graphic_side}
 use Rattle.read_alike.specs.Alike.{Shift, Alike}
 use Rattle.read_alike.specs.Agreeing.{Agrees, Same, FoundAlike, forest_in}
 use Rattle.read_alike.specs.Moved.{IsMovedSpot, moved_spot}
@@ -46,37 +46,36 @@ module _ (d : Shift) where
   spot_same : (word : List ℕ) (t u : Tree) → PlainParts t u → Agrees Same (spot_of word t) (spot_of word u)
   spot_same word t u h = needed_step Same word t u spot_at spot_at h spot_plain
 
-  line_moved : (stance : Stance) (side : CourtSide) (t u : Tree) → PlainParts t u → Agrees SideMoved (with_line stance side t) (with_line (moved_stance d stance) (moved_side d side) u)
-  unfolding with_line
-  line_moved stance side t u h =
+  line_moved : (stance : Stance) (t u : Tree) → PlainParts t u → Agrees SideMoved (line_side stance t) (line_side (moved_stance d stance) u)
+  unfolding line_side
+  line_moved stance t u h =
       same_bind SideMoved (spot_of (codes "start") t) (spot_of (codes "start") u) _ _ (spot_same (codes "start") t u h) (λ a.
       same_bind SideMoved (spot_of (codes "end") t) (spot_of (codes "end") u) _ _ (spot_same (codes "end") t u h) (λ b.
-      ap (λ (z : Spot). record side { lines = map (moved_course d) side.lines ++ record { a = z; b = stood (moved_stance d stance) b } ∷ [] }) (stood_moved d stance a)
-      ∙ ap (λ (z : Spot). record side { lines = map (moved_course d) side.lines ++ record { a = moved_spot d (stood stance a); b = z } ∷ [] }) (stood_moved d stance b)
-      ∙ ap (λ (l : List Course). record side { lines = l }) (sym (map-append (moved_course d) side.lines (record { a = stood stance a; b = stood stance b } ∷ [])))))
+      ap (λ (z : Spot). record empty_side { lines = record { a = z; b = stood (moved_stance d stance) b } ∷ [] }) (stood_moved d stance a)
+      ∙ ap (λ (z : Spot). record empty_side { lines = record { a = moved_spot d (stood stance a); b = z } ∷ [] }) (stood_moved d stance b)))
 
-  rect_moved : (side : CourtSide) (t u : Tree) → PlainParts t u → Agrees SideMoved (with_rect side t) (with_rect (moved_side d side) u)
-  unfolding with_rect
-  rect_moved side t u h =
+  rect_moved : (t u : Tree) → PlainParts t u → Agrees SideMoved (rect_side t) (rect_side u)
+  unfolding rect_side
+  rect_moved t u h =
       same_bind SideMoved (spot_of (codes "start") t) (spot_of (codes "start") u) _ _ (spot_same (codes "start") t u h) (λ a.
       same_bind SideMoved (spot_of (codes "end") t) (spot_of (codes "end") u) _ _ (spot_same (codes "end") t u h) (λ b. refl))
 
-  circle_moved : (side : CourtSide) (t u : Tree) → PlainParts t u → Agrees SideMoved (with_circle side t) (with_circle (moved_side d side) u)
-  unfolding with_circle
-  circle_moved side t u h =
+  circle_moved : (t u : Tree) → PlainParts t u → Agrees SideMoved (circle_side t) (circle_side u)
+  unfolding circle_side
+  circle_moved t u h =
       same_bind SideMoved (spot_of (codes "center") t) (spot_of (codes "center") u) _ _ (spot_same (codes "center") t u h) (λ a.
       same_bind SideMoved (spot_of (codes "end") t) (spot_of (codes "end") u) _ _ (spot_same (codes "end") t u h) (λ b. refl))
 
-  spots_moved : (side : CourtSide) (t u : Tree) (curved : Bool) (spots : List Spot) → Agrees SideMoved (with_spots side t curved spots) (with_spots (moved_side d side) u curved spots)
-  spots_moved side t u curved spots = by_tests curved (nat_le 3 (length spots))
+  spots_moved : (t u : Tree) (curved : Bool) (spots : List Spot) → Agrees SideMoved (spots_side t curved spots) (spots_side u curved spots)
+  spots_moved t u curved spots = by_tests curved (nat_le 3 (length spots))
     where
-      with_by : CourtSide → Tree → Bool → Bool → Result CourtSide BoardError
-      with_by side t curved many =
-          if curved then Ok (with_curve side)
-          else if many then Ok (with_figure side (OutlineFigure spots))
+      side_by : Tree → Bool → Bool → Result CourtSide BoardError
+      side_by t curved many =
+          if curved then Ok curve_side
+          else if many then Ok (figure_side (OutlineFigure spots))
           else Err (Missing (place t))
 
-      by_tests : (curved many : Bool) → Agrees SideMoved (with_by side t curved many) (with_by (moved_side d side) u curved many)
+      by_tests : (curved many : Bool) → Agrees SideMoved (side_by t curved many) (side_by u curved many)
       by_tests true many = refl
       by_tests false true = refl
       by_tests false false = tt
@@ -98,24 +97,30 @@ module _ (d : Shift) where
   arc_same t u h =
       ap (list_any (has_head (codes "arc"))) (parts_are u) ∙ any_arc (forest_in t) (forest_in u) h ∙ sym (ap (list_any (has_head (codes "arc"))) (parts_are t))
 
-  outline_moved : (side : CourtSide) (t u : Tree) → PlainParts t u → Agrees SideMoved (with_outline side t) (with_outline (moved_side d side) u)
-  unfolding with_outline
-  outline_moved side t u h = by_found (element (codes "pts") t) (element (codes "pts") u) (element_in None (codes "pts") t u h)
+  outline_moved : (t u : Tree) → PlainParts t u → Agrees SideMoved (outline_side t) (outline_side u)
+  unfolding outline_side
+  outline_moved t u h = by_found (element (codes "pts") t) (element (codes "pts") u) (element_in None (codes "pts") t u h)
     where
-      of_list : CourtSide → Tree → Result CourtSide BoardError
-      of_list side t = spots_among true (parts t) >>= λ spots. with_spots side t (has_arc t) spots
+      of_list : Tree → Result CourtSide BoardError
+      of_list t = spots_among true (parts t) >>= λ spots. spots_side t (has_arc t) spots
 
-      by_found : (o p : Option Tree) → FoundAlike None (has_head (codes "pts")) o p → Agrees SideMoved (needed (Missing (place t)) o >>= of_list side) (needed (Missing (place u)) p >>= of_list (moved_side d side))
+      by_found : (o p : Option Tree) → FoundAlike None (has_head (codes "pts")) o p → Agrees SideMoved (needed (Missing (place t)) o >>= of_list) (needed (Missing (place u)) p >>= of_list)
       by_found None None k = tt
       by_found None (Some y) k = absurd k
       by_found (Some x) None k = absurd k
       by_found (Some x) (Some y) k =
           agrees_bind (AllZip (IsMovedSpot None)) SideMoved (spots_among true (parts x)) (spots_among true (parts y)) _ _ (parts_alike None true x y (inside x y k.0)) (λ ss ts m.
-          subst (λ (l : List Spot). Agrees SideMoved (with_spots side x (has_arc x) ss) (with_spots (moved_side d side) y (has_arc y) l)) (sym (same_spots ss ts m))
-          (subst (λ (b : Bool). Agrees SideMoved (with_spots side x (has_arc x) ss) (with_spots (moved_side d side) y b ss)) (sym (arc_same x y (inside x y k.0))) (spots_moved side x y (has_arc x) ss)))
+          subst (λ (l : List Spot). Agrees SideMoved (spots_side x (has_arc x) ss) (spots_side y (has_arc y) l)) (sym (same_spots ss ts m))
+          (subst (λ (b : Bool). Agrees SideMoved (spots_side x (has_arc x) ss) (spots_side y b ss)) (sym (arc_same x y (inside x y k.0))) (spots_moved x y (has_arc x) ss)))
 
-  pub graphic_moved : (stance : Stance) (kind : GraphicKind) (side : CourtSide) (t u : Tree) → PlainParts t u → Agrees SideMoved (with_graphic stance kind side t) (with_graphic (moved_stance d stance) kind (moved_side d side) u)
-  graphic_moved stance Line side t u h = line_moved stance side t u h
-  graphic_moved stance Rect side t u h = rect_moved side t u h
-  graphic_moved stance Circle side t u h = circle_moved side t u h
-  graphic_moved stance Outline side t u h = outline_moved side t u h
+  pub graphic_moved : (stance : Stance) (kind : GraphicKind) (t u : Tree) → PlainParts t u → Agrees SideMoved (graphic_side stance kind t) (graphic_side (moved_stance d stance) kind u)
+  graphic_moved stance Line t u h = line_moved stance t u h
+  graphic_moved stance Rect t u h = rect_moved t u h
+  graphic_moved stance Circle t u h = circle_moved t u h
+  graphic_moved stance Outline t u h = outline_moved t u h
+
+  pub sides_moved : (a b p q : CourtSide) → SideMoved a p → SideMoved b q → SideMoved (side_then a b) (side_then p q)
+  sides_moved a b p q h k =
+      ap (λ (s : CourtSide). side_then s q) h
+      ∙ ap (side_then (moved_side d a)) k
+      ∙ ap (λ (l : List Course). record { curved = a.curved || b.curved; drawings = a.drawings ++ b.drawings; lines = l }) (sym (map-append (moved_course d) a.lines b.lines))

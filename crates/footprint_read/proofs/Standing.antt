@@ -65,7 +65,7 @@ notes_ready board unit tree layer Off net = All-nil (IsReady board unit)
 pub one_ready : (board : PlainBoard) (unit : ℕ) (item : Item) → IsReady board unit item → All (IsReady board unit) (item ∷ [])
 one_ready board unit item h = All-cons (IsReady board unit) item [] h (All-nil (IsReady board unit))
 
-items_given : (place : ℕ) (items : List Item) → items_of (given_at place items) ≡ items
+pub items_given : (place : ℕ) (items : List Item) → items_of (given_at place items) ≡ items
 items_given place [] = refl
 items_given place (i ∷ is) = ap (λ (xs : List Item). i ∷ xs) (items_given place is)
 

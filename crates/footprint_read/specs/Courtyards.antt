@@ -34,61 +34,62 @@ use Rattle.footprint_read.specs.declared.sides.CourtSide.{CourtSide}
 use Rattle.footprint_read.specs.declared.courts.Court.{Court}
 use Rattle.footprint_read.specs.declared.courts.Court.TheVariants.{Unchecked, Parts, Off}
 
+-- ---- what a list on the layer of a courtyard gives its side
+
 abbrev pub empty_side : CourtSide
 empty_side = record { curved = false; drawings = []; lines = [] }
 
--- ---- what a list on the layer of a courtyard adds to its side
+-- what is given first, and what comes after it
+abbrev pub side_then : CourtSide → CourtSide → CourtSide
+side_then first more = record { curved = first.curved || more.curved; drawings = first.drawings ++ more.drawings; lines = first.lines ++ more.lines }
+
+abbrev pub curve_side : CourtSide
+curve_side = record empty_side { curved = true }
 
 -- a figure with all that it encloses, and nothing around it
-abbrev pub solid : Figure → Drawing
-solid figure = record { figure = figure; width = pos 0; filled = true }
-
-abbrev pub with_figure : CourtSide → Figure → CourtSide
-with_figure side figure = record side { drawings = side.drawings ++ solid figure ∷ [] }
-
-abbrev pub with_curve : CourtSide → CourtSide
-with_curve side = record side { curved = true }
+abbrev pub figure_side : Figure → CourtSide
+figure_side figure = record empty_side { drawings = record { figure = figure; width = pos 0; filled = true } ∷ [] }
 
 -- a line from one spot of the board to another
-unfoldable pub with_line : Stance → CourtSide → Tree → Result CourtSide BoardError
-with_line stance side tree = do
+unfoldable pub line_side : Stance → Tree → Result CourtSide BoardError
+line_side stance tree = do
   start ← spot_of (codes "start") tree
   end ← spot_of (codes "end") tree
-  Ok (record side { lines = side.lines ++ record { a = stood stance start; b = stood stance end } ∷ [] })
+  Ok (record empty_side { lines = record { a = stood stance start; b = stood stance end } ∷ [] })
 
-unfoldable pub with_rect : CourtSide → Tree → Result CourtSide BoardError
-with_rect side tree = do
+unfoldable pub rect_side : Tree → Result CourtSide BoardError
+rect_side tree = do
   start ← spot_of (codes "start") tree
   end ← spot_of (codes "end") tree
-  Ok (with_figure side (RectFigure start end))
+  Ok (figure_side (RectFigure start end))
 
-unfoldable pub with_circle : CourtSide → Tree → Result CourtSide BoardError
-with_circle side tree = do
+unfoldable pub circle_side : Tree → Result CourtSide BoardError
+circle_side tree = do
   center ← spot_of (codes "center") tree
   end ← spot_of (codes "end") tree
-  Ok (with_figure side (CircleFigure center (radius_between center end)))
+  Ok (figure_side (CircleFigure center (radius_between center end)))
 
-abbrev pub with_spots : CourtSide → Tree → Bool → List Spot → Result CourtSide BoardError
-with_spots side list curved spots =
-    if curved then Ok (with_curve side)
-    else if nat_le 3 (length spots) then Ok (with_figure side (OutlineFigure spots))
+abbrev pub spots_side : Tree → Bool → List Spot → Result CourtSide BoardError
+spots_side list curved spots =
+    if curved then Ok curve_side
+    else if nat_le 3 (length spots) then Ok (figure_side (OutlineFigure spots))
     else Err (Missing (place list))
 
 abbrev pub has_arc : Tree → Bool
 has_arc list = list_any (has_head (codes "arc")) (parts list)
 
 -- an outline; with an arc in it its points are not counted
-unfoldable pub with_outline : CourtSide → Tree → Result CourtSide BoardError
-with_outline side tree = do
+unfoldable pub outline_side : Tree → Result CourtSide BoardError
+outline_side tree = do
   list ← needed (Missing (place tree)) (element (codes "pts") tree)
   spots ← spots_among true (parts list)
-  with_spots side list (has_arc list) spots
+  spots_side list (has_arc list) spots
 
-abbrev pub with_graphic : Stance → GraphicKind → CourtSide → Tree → Result CourtSide BoardError
-with_graphic stance Line side tree = with_line stance side tree
-with_graphic stance Rect side tree = with_rect side tree
-with_graphic stance Circle side tree = with_circle side tree
-with_graphic stance Outline side tree = with_outline side tree
+abbrev pub graphic_side : Stance → GraphicKind → Tree → Result CourtSide BoardError
+graphic_side stance Line tree = line_side stance tree
+graphic_side stance Rect tree = rect_side tree
+graphic_side stance Circle tree = circle_side tree
+graphic_side stance Outline tree = outline_side tree
 
 -- ---- loose lines; a place is a spot as a pair of numbers
 

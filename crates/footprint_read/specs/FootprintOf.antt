@@ -29,36 +29,36 @@ use Rattle.footprint_read.specs.FootHead.{head_of}
 use Rattle.pad_read.specs.PadOf.{pad_of}
 use Rattle.footprint_read.specs.declared.courts.Court.{Court}
 use Rattle.footprint_read.specs.declared.courts.Court.TheVariants.{Unchecked}
-use Rattle.footprint_read.specs.Courtyards.{IsCourt, empty_side, parts_in, lies_on_board, with_curve, with_graphic}
+use Rattle.footprint_read.specs.Courtyards.{IsCourt, empty_side, side_then, curve_side, graphic_side, parts_in, lies_on_board}
 
--- ---- the children, in the order of the text
+-- ---- what each child gives
+
+abbrev pub empty : Contents
+empty = record { given = []; front = empty_side; back = empty_side }
 
 -- items, with the place of the list that gives them
 abbrev pub given_at : ℕ → List Item → List Given
 given_at place items = map (λ item. record { place = place; item = item }) items
 
-abbrev pub with_items : Contents → Tree → List Item → Contents
-with_items contents tree items = record contents { given = contents.given ++ given_at (place tree) items }
+abbrev pub giving : Tree → Result (List Item) BoardError → Result Contents BoardError
+giving tree answer = answer >>= λ items. Ok (record empty { given = given_at (place tree) items })
 
-abbrev pub adding : Contents → Tree → Result (List Item) BoardError → Result Contents BoardError
-adding contents tree answer = answer >>= λ items. Ok (with_items contents tree items)
+abbrev pub at_front : Result CourtSide BoardError → Result Contents BoardError
+at_front answer = answer >>= λ side. Ok (record empty { front = side })
 
-abbrev pub at_front : Contents → Result CourtSide BoardError → Result Contents BoardError
-at_front contents answer = answer >>= λ side. Ok (record contents { front = side })
+abbrev pub at_back : Result CourtSide BoardError → Result Contents BoardError
+at_back answer = answer >>= λ side. Ok (record empty { back = side })
 
-abbrev pub at_back : Contents → Result CourtSide BoardError → Result Contents BoardError
-at_back contents answer = answer >>= λ side. Ok (record contents { back = side })
-
-abbrev pub with_drawn : PlainBoard → ℕ → Head → Contents → GraphicKind → Tree → Ground → Result Contents BoardError
-with_drawn board unit head contents kind tree Front = at_front contents (with_graphic head.stance kind contents.front tree)
-with_drawn board unit head contents kind tree Back = at_back contents (with_graphic head.stance kind contents.back tree)
-with_drawn board unit head contents kind tree lies = adding contents tree (graphic_by board unit head.stance kind tree lies)
+abbrev pub drawn_gives : PlainBoard → ℕ → Head → GraphicKind → Tree → Ground → Result Contents BoardError
+drawn_gives board unit head kind tree Front = at_front (graphic_side head.stance kind tree)
+drawn_gives board unit head kind tree Back = at_back (graphic_side head.stance kind tree)
+drawn_gives board unit head kind tree lies = giving tree (graphic_by board unit head.stance kind tree lies)
 
 -- a curve on copper or on Edge.Cuts is refused, and one in a courtyard leaves its side unchecked
-abbrev pub with_arc : Contents → Tree → Ground → Result Contents BoardError
-with_arc contents tree Front = Ok (record contents { front = with_curve contents.front })
-with_arc contents tree Back = Ok (record contents { back = with_curve contents.back })
-with_arc contents tree lies = adding contents tree (curve_by tree lies)
+abbrev pub arc_gives : Tree → Ground → Result Contents BoardError
+arc_gives tree Front = at_front (Ok curve_side)
+arc_gives tree Back = at_back (Ok curve_side)
+arc_gives tree lies = giving tree (curve_by tree lies)
 
 abbrev pub drawn_kind : Tree → Option GraphicKind
 drawn_kind t =
@@ -75,28 +75,34 @@ is_curve t = has_head (codes "fp_arc") t || has_head (codes "fp_curve") t
 abbrev pub is_writing : Tree → Bool
 is_writing t = has_head (codes "fp_text") t || has_head (codes "fp_text_box") t || has_head (codes "property") t
 
-abbrev pub with_other : PlainBoard → ℕ → Contents → Tree → Result Contents BoardError
-with_other board unit contents t =
-    if is_curve t then (ground_of board.copper t >>= with_arc contents t)
-    else if is_writing t then (ground_of board.copper t >>= λ lies. adding contents t (text_by unit Text t lies))
-    else if has_head (codes "zone") t then Ok (with_items contents t (note_of (name_in t) unit FootZone [] ∷ []))
-    else Ok contents
+abbrev pub other_gives : PlainBoard → ℕ → Tree → Result Contents BoardError
+other_gives board unit t =
+    if is_curve t then (ground_of board.copper t >>= arc_gives t)
+    else if is_writing t then (ground_of board.copper t >>= λ lies. giving t (text_by unit Text t lies))
+    else if has_head (codes "zone") t then giving t (Ok (note_of (name_in t) unit FootZone [] ∷ []))
+    else Ok empty
 
-abbrev pub with_child_by : PlainBoard → ℕ → Head → Contents → Tree → Option GraphicKind → Result Contents BoardError
-with_child_by board unit head contents t (Some kind) = ground_of board.copper t >>= with_drawn board unit head contents kind t
-with_child_by board unit head contents t None = with_other board unit contents t
+abbrev pub kind_gives : PlainBoard → ℕ → Head → Tree → Option GraphicKind → Result Contents BoardError
+kind_gives board unit head t (Some kind) = ground_of board.copper t >>= drawn_gives board unit head kind t
+kind_gives board unit head t None = other_gives board unit t
 
-unfoldable pub with_child : PlainBoard → ℕ → Head → Contents → Tree → Result Contents BoardError
-with_child board unit head contents t =
-    if has_head (codes "pad") t then adding contents t (pad_of board unit head t >>= λ pad. Ok (pad ∷ []))
-    else with_child_by board unit head contents t (drawn_kind t)
+unfoldable pub child_gives : PlainBoard → ℕ → Head → Tree → Result Contents BoardError
+child_gives board unit head t =
+    if has_head (codes "pad") t then giving t (pad_of board unit head t >>= λ pad. Ok (pad ∷ []))
+    else kind_gives board unit head t (drawn_kind t)
 
-abbrev pub with_children : PlainBoard → ℕ → Head → Contents → List Tree → Result Contents BoardError
-with_children board unit head contents [] = Ok contents
-with_children board unit head contents (t ∷ ts) = with_child board unit head contents t >>= λ more. with_children board unit head more ts
+-- ---- what all children give, in the order of the text: the first refusal counts
 
-abbrev pub empty : Contents
-empty = record { given = []; front = empty_side; back = empty_side }
+-- what is given first, and what comes after it
+abbrev pub contents_then : Contents → Contents → Contents
+contents_then first more = record { given = first.given ++ more.given; front = side_then first.front more.front; back = side_then first.back more.back }
+
+abbrev pub children_give : PlainBoard → ℕ → Head → List Tree → Result Contents BoardError
+children_give board unit head [] = Ok empty
+children_give board unit head (t ∷ ts) = do
+  first ← child_gives board unit head t
+  more ← children_give board unit head ts
+  Ok (contents_then first more)
 
 -- ---- body and notes of courtyards
 
@@ -141,7 +147,7 @@ finished board unit head tree given front back = do
 -- ---- the whole: it gives these items, or this refusal
 
 abbrev pub contents_of : PlainBoard → ℕ → Head → Tree → Result Contents BoardError
-contents_of board unit head tree = with_children board unit head empty (parts tree)
+contents_of board unit head tree = children_give board unit head (parts tree)
 
 -- what the children gave and the courtyards of both sides, by their definition, make the answer
 pub record SaysOf (board : PlainBoard) (unit : ℕ) (head : Head) (tree : Tree) (contents : Contents) (answer : Result (List Item) BoardError) : Type 0 where

@@ -1,6 +1,6 @@
 //! The children of a footprint, in the order of the text.
 
-ghost use Rattle.std.specs.Prelude.{◌≡◌, ◌<◌, ◌∷◌, [], ℕ, IfOk, All};
+ghost use Rattle.std.specs.Prelude.{◌≡◌, ◌<◌, ◌∷◌, [], ℕ, Ok, IfOk, All};
 ghost use Rattle.sexpr_read.specs.Views.{tree_of};
 ghost use Rattle.board_items.specs.Boards.{PlainBoard};
 ghost use Rattle.board_items.specs.declared.item.About.TheVariants.{FootZone};
@@ -10,7 +10,8 @@ ghost use Rattle.part_read.specs.Nodes.{Gives};
 ghost use Rattle.part_read.specs.Grounds.{IsOn};
 ghost use Rattle.part_read.specs.Stances.{IsWithin};
 ghost use Rattle.part_read.specs.Ready.{IsReady};
-ghost use Rattle.footprint_read.specs.FootprintOf.{items_of, with_items, with_drawn, with_arc, drawn_kind, is_curve, is_writing, with_other, with_child, contents_of};
+ghost use Rattle.footprint_read.specs.FootprintOf.{items_of, giving, drawn_gives, arc_gives, drawn_kind, is_curve, is_writing, other_gives, child_gives, contents_of};
+ghost use Rattle.footprint_read.specs.Appending.{onto};
 
 use crate::contents::Contents;
 use crate::court_lists::with_graphic;
@@ -67,7 +68,7 @@ fn with_items(
     node: Node<'_, '_>,
     items: Vec<Item>,
 ) -> Result<Contents, AllocError>
-    ensures with { IfOk result (λ all. all ≡ with_items contents (tree_of node.entry) items.items) }
+    ensures with { IfOk result (λ all. onto contents (giving (tree_of node.entry) (Ok items.items)) ≡ Ok all) }
     ensures ready { (board : PlainBoard) (unit : ℕ) → All (IsReady board unit) (items_of contents.given) → All (IsReady board unit) items.items → IfOk result (λ all. All (IsReady board unit) (items_of all.given)) }
 {
     Ok(Contents {
@@ -78,6 +79,7 @@ fn with_items(
 }
 
 /// With a graphic on copper, on Edge.Cuts or in a courtyard.
+#[tactic(auto, using(crate::proofs::Appending::front_onto, crate::proofs::Appending::back_onto))]
 fn with_drawn(
     alloc: Global,
     board: &Board,
@@ -91,7 +93,7 @@ fn with_drawn(
     requires at { IsWithin 3000000000000 head.now.stance.at }
     requires on { IsOn board.now.copper drawn.lies }
     requires ready { All (IsReady board.now unit) (items_of contents.given) }
-    ensures read { Gives result (with_drawn board.now unit head.now contents drawn.kind (tree_of node.entry) drawn.lies) }
+    ensures read { Gives result (onto contents (drawn_gives board.now unit head.now drawn.kind (tree_of node.entry) drawn.lies)) }
     ensures ready { IfOk result (λ all. All (IsReady board.now unit) (items_of all.given)) }
 {
     match drawn.lies {
@@ -113,13 +115,14 @@ fn with_drawn(
 }
 
 /// With a curve: it is refused on copper and on Edge.Cuts, and in a courtyard it leaves the side unchecked.
+#[tactic(auto, using(crate::proofs::Appending::front_onto, crate::proofs::Appending::back_onto))]
 fn with_arc(
     alloc: Global,
     contents: Contents,
     node: Node<'_, '_>,
     lies: Ground,
 ) -> Result<Contents, BoardError>
-    ensures read { Gives result (with_arc contents (tree_of node.entry) lies) }
+    ensures read { Gives result (onto contents (arc_gives (tree_of node.entry) lies)) }
     ensures same { IfOk result (λ all. items_of all.given ≡ items_of contents.given) }
 {
     match lies {
@@ -156,6 +159,7 @@ fn zone_notes(
 }
 
 /// With what is neither a pad nor a graphic.
+#[tactic(auto, using(crate::proofs::Appending::then_nothing))]
 fn with_other(
     alloc: Global,
     board: &Board,
@@ -164,7 +168,7 @@ fn with_other(
     node: Node<'_, '_>,
 ) -> Result<Contents, BoardError>
     requires ready { All (IsReady board.now unit) (items_of contents.given) }
-    ensures read { Gives result (with_other board.now unit contents (tree_of node.entry)) }
+    ensures read { Gives result (onto contents (other_gives board.now unit (tree_of node.entry))) }
     ensures ready { IfOk result (λ all. All (IsReady board.now unit) (items_of all.given)) }
 {
     if is_curve(node) {
@@ -184,7 +188,7 @@ fn with_other(
 }
 
 /// A pad, a graphic, an edge, a note, or nothing.
-#[tactic(auto, using(crate::proofs::Standing::wider), unfolding(crate::specs::FootprintOf::with_child))]
+#[tactic(auto, using(crate::proofs::Standing::wider), unfolding(crate::specs::FootprintOf::child_gives))]
 fn with_child(
     alloc: Global,
     board: &Board,
@@ -196,7 +200,7 @@ fn with_child(
     requires quarter { head.now.stance.quarter < 4 }
     requires at { IsWithin 1000000000000 head.now.stance.at }
     requires ready { All (IsReady board.now unit) (items_of contents.given) }
-    ensures read { Gives result (with_child board.now unit head.now contents (tree_of node.entry)) }
+    ensures read { Gives result (onto contents (child_gives board.now unit head.now (tree_of node.entry))) }
     ensures ready { IfOk result (λ all. All (IsReady board.now unit) (items_of all.given)) }
 {
     if has_head(node, b"pad") {
@@ -212,7 +216,7 @@ fn with_child(
 }
 
 /// What all children give, in the order of the text.
-#[tactic(auto, using(crate::proofs::Standing::none_ready))]
+#[tactic(auto, using(crate::proofs::Standing::none_ready, crate::proofs::Appending::then_nothing, crate::proofs::Appending::onto_both))]
 pub fn contents_of(
     alloc: Global,
     board: &Board,

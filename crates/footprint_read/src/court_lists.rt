@@ -1,6 +1,6 @@
 //! What the lists of courtyards add to their sides.
 
-ghost use Rattle.std.specs.Prelude.{◌≡◌, ◌<◌, ◌++◌, ◌∷◌, [], IfOk};
+ghost use Rattle.std.specs.Prelude.{◌≡◌, ◌<◌, ◌∷◌, [], IfOk};
 ghost use Rattle.sexpr_read.specs.Views.{tree_of};
 ghost use Rattle.list_read.specs.Heads.{has_head};
 ghost use Rattle.list_read.specs.Elements.{element};
@@ -9,7 +9,8 @@ ghost use Rattle.part_read.specs.Nodes.{Gives};
 ghost use Rattle.part_read.specs.Numbers.{spot_at};
 ghost use Rattle.part_read.specs.Stances.{IsWithin};
 ghost use Rattle.part_read.specs.Figures.{HasReach};
-ghost use Rattle.footprint_read.specs.Courtyards.{with_figure, with_line, with_rect, with_circle, has_arc, with_outline, with_graphic};
+ghost use Rattle.footprint_read.specs.Courtyards.{empty_side, side_then, figure_side, line_side, rect_side, circle_side, has_arc, outline_side, graphic_side};
+ghost use Rattle.footprint_read.specs.Appending.{onto_side};
 
 use crate::sides::{Course, CourtSide};
 use board_items::BoardError;
@@ -35,7 +36,7 @@ fn spot_needed(node: Node<'_, '_>, head: &[u8]) -> Result<Spot, BoardError>
 /// With a figure and all that it encloses, and nothing around it.
 fn with_figure(side: CourtSide, figure: Figure) -> Result<CourtSide, AllocError>
     requires { HasReach figure }
-    ensures { IfOk result (λ all. all ≡ with_figure side figure) }
+    ensures { IfOk result (λ all. all ≡ side_then side (figure_side figure)) }
 {
     let drawing = Drawing {
         figure,
@@ -50,7 +51,7 @@ fn with_figure(side: CourtSide, figure: Figure) -> Result<CourtSide, AllocError>
 }
 
 fn with_course(side: CourtSide, course: Course) -> Result<CourtSide, AllocError>
-    ensures { IfOk result (λ all. all ≡ record side { lines = side.lines ++ course ∷ [] }) }
+    ensures { IfOk result (λ all. all ≡ side_then side (record empty_side { lines = course ∷ [] })) }
 {
     Ok(CourtSide {
         curved: side.curved,
@@ -60,11 +61,11 @@ fn with_course(side: CourtSide, course: Course) -> Result<CourtSide, AllocError>
 }
 
 /// With a line, which goes from one spot of the board to another.
-#[tactic(auto, unfolding(crate::specs::Courtyards::with_line))]
+#[tactic(auto, unfolding(crate::specs::Courtyards::line_side))]
 fn with_line(stance: Stance, side: CourtSide, node: Node<'_, '_>) -> Result<CourtSide, BoardError>
     requires quarter { stance.quarter < 4 }
     requires at { IsWithin 3000000000000 stance.at }
-    ensures { Gives result (with_line stance side (tree_of node.entry)) }
+    ensures { Gives result (onto_side side (line_side stance (tree_of node.entry))) }
 {
     let start = spot_needed(node, b"start")?;
     let end = spot_needed(node, b"end")?;
@@ -76,9 +77,9 @@ fn with_line(stance: Stance, side: CourtSide, node: Node<'_, '_>) -> Result<Cour
 }
 
 /// With a rectangle.
-#[tactic(auto, unfolding(crate::specs::Courtyards::with_rect))]
+#[tactic(auto, unfolding(crate::specs::Courtyards::rect_side))]
 fn with_rect(side: CourtSide, node: Node<'_, '_>) -> Result<CourtSide, BoardError>
-    ensures { Gives result (with_rect side (tree_of node.entry)) }
+    ensures { Gives result (onto_side side (rect_side (tree_of node.entry))) }
 {
     let start = spot_needed(node, b"start")?;
     let end = spot_needed(node, b"end")?;
@@ -86,9 +87,9 @@ fn with_rect(side: CourtSide, node: Node<'_, '_>) -> Result<CourtSide, BoardErro
 }
 
 /// With a circle.
-#[tactic(auto, unfolding(crate::specs::Courtyards::with_circle))]
+#[tactic(auto, unfolding(crate::specs::Courtyards::circle_side))]
 fn with_circle(side: CourtSide, node: Node<'_, '_>) -> Result<CourtSide, BoardError>
-    ensures { Gives result (with_circle side (tree_of node.entry)) }
+    ensures { Gives result (onto_side side (circle_side (tree_of node.entry))) }
 {
     let center = spot_needed(node, b"center")?;
     let end = spot_needed(node, b"end")?;
@@ -109,9 +110,9 @@ fn has_arc(list: Node<'_, '_>) -> bool
 }
 
 /// With an outline; one with an arc leaves the side unchecked.
-#[tactic(auto, unfolding(crate::specs::Courtyards::with_outline))]
+#[tactic(auto, unfolding(crate::specs::Courtyards::outline_side))]
 fn with_outline(alloc: Global, side: CourtSide, node: Node<'_, '_>) -> Result<CourtSide, BoardError>
-    ensures { Gives result (with_outline side (tree_of node.entry)) }
+    ensures { Gives result (onto_side side (outline_side (tree_of node.entry))) }
 {
     let Some(list) = element(node, b"pts") else {
         return Err(missing(node));
@@ -136,7 +137,7 @@ pub fn with_graphic(
 ) -> Result<CourtSide, BoardError>
     requires quarter { stance.quarter < 4 }
     requires at { IsWithin 3000000000000 stance.at }
-    ensures { Gives result (with_graphic stance kind side (tree_of node.entry)) }
+    ensures { Gives result (onto_side side (graphic_side stance kind (tree_of node.entry))) }
 {
     match kind {
         GraphicKind::Line => with_line(stance, side, node),

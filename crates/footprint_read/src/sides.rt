@@ -71,7 +71,7 @@ pub struct CourtSide {
 
 impl CourtSide {
     ghost use Rattle.std.specs.Prelude.{◌≡◌};
-    ghost use Rattle.footprint_read.specs.Courtyards.{empty_side, with_curve};
+    ghost use Rattle.footprint_read.specs.Courtyards.{empty_side, side_then, curve_side};
 
     pub fn new(alloc: Global) -> CourtSide
         ensures { result ≡ empty_side }
@@ -84,8 +84,9 @@ impl CourtSide {
     }
 
     /// With a curve.
+    #[tactic(auto, using(crate::proofs::Appending::side_curved))]
     pub fn with_curve(self) -> CourtSide
-        ensures { result ≡ with_curve self }
+        ensures { result ≡ side_then self curve_side }
     {
         CourtSide {
             curved: true,
