@@ -26,13 +26,12 @@ use Rattle.part_read.specs.Room.{has_room_after}
 use Rattle.pad_read.specs.declared.head.Head.{Head}
 use Rattle.pad_read.specs.Postures.{posture_of, quarters_of, clearance_of}
 use Rattle.pad_read.specs.PadOf.{pad_of}
-use Rattle.footprint_read.specs.declared.sides.CourtSide.{CourtSide}
 use Rattle.footprint_read.specs.declared.contents.Contents.{Contents}
 use Rattle.footprint_read.specs.declared.contents.Given.{Given}
 use Rattle.footprint_read.specs.declared.courts.Court.{Court}
 use Rattle.footprint_read.specs.FootHead.{side_by, side_of, says, second_text, reference_by, reference_of, head_of}
-use Rattle.footprint_read.specs.Courtyards.{with_line, with_rect, with_circle, with_spots, has_arc, with_outline, with_graphic}
-use Rattle.footprint_read.specs.FootprintOf.{given_at, with_items, adding, with_drawn, with_arc, drawn_kind, is_curve, is_writing, with_other, with_child_by, with_child, with_children, empty, body_of, court_notes, all_given, with_room, is_placed, finished, contents_of, SaysInside, SaysWithHead, FootprintSays}
+use Rattle.footprint_read.specs.Courtyards.{line_side, rect_side, circle_side, spots_side, has_arc, outline_side, graphic_side}
+use Rattle.footprint_read.specs.FootprintOf.{given_at, giving, drawn_gives, arc_gives, drawn_kind, is_curve, is_writing, other_gives, kind_gives, child_gives, contents_then, children_give, body_of, court_notes, all_given, with_room, is_placed, finished, contents_of, SaysInside, SaysWithHead, FootprintSays}
 use Rattle.pcb_read.specs.Near.{IsNear}
 use Rattle.pcb_read.specs.Short.{IsShort, AllShort}
 use Rattle.pcb_read.proofs.Nearness.{Near, ShortIf, near_same, step, with_tree, by_test, near_needed, needed_short, near_check, near_place, parts_short, find_short, near_element, of_atom, near_spot_of, near_copper, near_spots}
@@ -75,35 +74,35 @@ near_head copper t h =
 
 -- ---- courtyards
 
-near_with_line : (stance : Stance) (side : CourtSide) (t : Tree) → IsShort t → Near (with_line stance side t)
-unfolding with_line
-near_with_line stance side t h =
+near_line_side : (stance : Stance) (t : Tree) → IsShort t → Near (line_side stance t)
+unfolding line_side
+near_line_side stance t h =
     step (spot_of (codes "start") t) _ (near_spot_of (codes "start") t h) (λ a. step (spot_of (codes "end") t) _ (near_spot_of (codes "end") t h) (λ b. tt))
 
-near_with_rect : (side : CourtSide) (t : Tree) → IsShort t → Near (with_rect side t)
-unfolding with_rect
-near_with_rect side t h =
+near_rect_side : (t : Tree) → IsShort t → Near (rect_side t)
+unfolding rect_side
+near_rect_side t h =
     step (spot_of (codes "start") t) _ (near_spot_of (codes "start") t h) (λ a. step (spot_of (codes "end") t) _ (near_spot_of (codes "end") t h) (λ b. tt))
 
-near_with_circle : (side : CourtSide) (t : Tree) → IsShort t → Near (with_circle side t)
-unfolding with_circle
-near_with_circle side t h =
+near_circle_side : (t : Tree) → IsShort t → Near (circle_side t)
+unfolding circle_side
+near_circle_side t h =
     step (spot_of (codes "center") t) _ (near_spot_of (codes "center") t h) (λ a. step (spot_of (codes "end") t) _ (near_spot_of (codes "end") t h) (λ b. tt))
 
-near_with_spots : (side : CourtSide) (list : Tree) (curved : Bool) (spots : List Spot) → IsShort list → Near (with_spots side list curved spots)
-near_with_spots side list curved spots h = by_test curved _ _ tt (by_test (nat_le 3 (length spots)) _ _ tt (near_place list h))
+near_spots_side : (list : Tree) (curved : Bool) (spots : List Spot) → IsShort list → Near (spots_side list curved spots)
+near_spots_side list curved spots h = by_test curved _ _ tt (by_test (nat_le 3 (length spots)) _ _ tt (near_place list h))
 
-near_with_outline : (side : CourtSide) (t : Tree) → IsShort t → Near (with_outline side t)
-unfolding with_outline
-near_with_outline side t h =
+near_outline_side : (t : Tree) → IsShort t → Near (outline_side t)
+unfolding outline_side
+near_outline_side t h =
     with_tree (needed (Missing (place t)) (element (codes "pts") t)) _ (needed_short (Missing (place t)) (element (codes "pts") t) (near_place t h) (near_element (codes "pts") t h)) (λ list s.
-    step (spots_among true (parts list)) _ (near_spots true (parts list) (parts_short list s)) (λ spots. near_with_spots side list (has_arc list) spots s))
+    step (spots_among true (parts list)) _ (near_spots true (parts list) (parts_short list s)) (λ spots. near_spots_side list (has_arc list) spots s))
 
-near_court : (stance : Stance) (kind : GraphicKind) (side : CourtSide) (t : Tree) → IsShort t → Near (with_graphic stance kind side t)
-near_court stance Line side t h = near_with_line stance side t h
-near_court stance Rect side t h = near_with_rect side t h
-near_court stance Circle side t h = near_with_circle side t h
-near_court stance Outline side t h = near_with_outline side t h
+near_court : (stance : Stance) (kind : GraphicKind) (t : Tree) → IsShort t → Near (graphic_side stance kind t)
+near_court stance Line t h = near_line_side stance t h
+near_court stance Rect t h = near_rect_side t h
+near_court stance Circle t h = near_circle_side t h
+near_court stance Outline t h = near_outline_side t h
 
 -- ---- what the children give, with the places of their lists
 
@@ -123,58 +122,55 @@ at_near : (at : ℕ) (items : List Item) → at ≤ 33554432 → AllNear (given_
 at_near at [] h = tt
 at_near at (item ∷ items) h = (h, at_near at items h)
 
-giving : {A : Type 0} → (r : Result A BoardError) (f : A → Result Contents BoardError) → Near r → ((x : A) → NearGiven (f x)) → NearGiven (r >>= f)
-giving (Ok x) f h k = k x
-giving (Err e) f h k = h
+given_by : {A : Type 0} → (r : Result A BoardError) (f : A → Result Contents BoardError) → Near r → ((x : A) → NearGiven (f x)) → NearGiven (r >>= f)
+given_by (Ok x) f h k = k x
+given_by (Err e) f h k = h
 
 given_if : (b : Bool) (x y : Result Contents BoardError) → NearGiven x → NearGiven y → NearGiven (if b then x else y)
 given_if true x y h k = h
 given_if false x y h k = k
 
-near_items : (c : Contents) (t : Tree) (items : List Item) → AllNear c.given → IsShort t → AllNear (with_items c t items).given
-near_items c t items h k = both_near c.given (given_at (place t) items) h (at_near (place t) items (near_place t k))
+near_giving : (t : Tree) (answer : Result (List Item) BoardError) → IsShort t → Near answer → NearGiven (giving t answer)
+near_giving t answer h k = given_by answer _ k (λ items. at_near (place t) items (near_place t h))
 
-near_adding : (c : Contents) (t : Tree) (answer : Result (List Item) BoardError) → AllNear c.given → IsShort t → Near answer → NearGiven (adding c t answer)
-near_adding c t answer h k m = giving answer _ m (λ items. near_items c t items h k)
+near_drawn : (board : PlainBoard) (unit : ℕ) (head : Head) (kind : GraphicKind) (t : Tree) (lies : Ground) → IsShort t → NearGiven (drawn_gives board unit head kind t lies)
+near_drawn board unit head kind t Front h = given_by (graphic_side head.stance kind t) _ (near_court head.stance kind t h) (λ side. tt)
+near_drawn board unit head kind t Back h = given_by (graphic_side head.stance kind t) _ (near_court head.stance kind t h) (λ side. tt)
+near_drawn board unit head kind t (Copper layer) h = near_giving t (graphic_by board unit head.stance kind t (Copper layer)) h (near_graphic board unit head.stance kind t (Copper layer) h)
+near_drawn board unit head kind t Outlines h = near_giving t (graphic_by board unit head.stance kind t Outlines) h (near_graphic board unit head.stance kind t Outlines h)
+near_drawn board unit head kind t Elsewhere h = near_giving t (graphic_by board unit head.stance kind t Elsewhere) h (near_graphic board unit head.stance kind t Elsewhere h)
 
-near_drawn : (board : PlainBoard) (unit : ℕ) (head : Head) (c : Contents) (kind : GraphicKind) (t : Tree) (lies : Ground) → AllNear c.given → IsShort t → NearGiven (with_drawn board unit head c kind t lies)
-near_drawn board unit head c kind t Front h k = giving (with_graphic head.stance kind c.front t) _ (near_court head.stance kind c.front t k) (λ side. h)
-near_drawn board unit head c kind t Back h k = giving (with_graphic head.stance kind c.back t) _ (near_court head.stance kind c.back t k) (λ side. h)
-near_drawn board unit head c kind t (Copper layer) h k = near_adding c t (graphic_by board unit head.stance kind t (Copper layer)) h k (near_graphic board unit head.stance kind t (Copper layer) k)
-near_drawn board unit head c kind t Outlines h k = near_adding c t (graphic_by board unit head.stance kind t Outlines) h k (near_graphic board unit head.stance kind t Outlines k)
-near_drawn board unit head c kind t Elsewhere h k = near_adding c t (graphic_by board unit head.stance kind t Elsewhere) h k (near_graphic board unit head.stance kind t Elsewhere k)
+near_arc : (t : Tree) (lies : Ground) → IsShort t → NearGiven (arc_gives t lies)
+near_arc t Front h = tt
+near_arc t Back h = tt
+near_arc t (Copper layer) h = near_giving t (curve_by t (Copper layer)) h (near_curve t (Copper layer) h)
+near_arc t Outlines h = near_giving t (curve_by t Outlines) h (near_curve t Outlines h)
+near_arc t Elsewhere h = near_giving t (curve_by t Elsewhere) h (near_curve t Elsewhere h)
 
-near_arc : (c : Contents) (t : Tree) (lies : Ground) → AllNear c.given → IsShort t → NearGiven (with_arc c t lies)
-near_arc c t Front h k = h
-near_arc c t Back h k = h
-near_arc c t (Copper layer) h k = near_adding c t (curve_by t (Copper layer)) h k (near_curve t (Copper layer) k)
-near_arc c t Outlines h k = near_adding c t (curve_by t Outlines) h k (near_curve t Outlines k)
-near_arc c t Elsewhere h k = near_adding c t (curve_by t Elsewhere) h k (near_curve t Elsewhere k)
+near_other : (board : PlainBoard) (unit : ℕ) (t : Tree) → IsShort t → NearGiven (other_gives board unit t)
+near_other board unit t h =
+    given_if (is_curve t) _ _ (given_by (ground_of board.copper t) _ (near_ground board.copper t h) (λ lies. near_arc t lies h))
+    (given_if (is_writing t) _ _ (given_by (ground_of board.copper t) _ (near_ground board.copper t h) (λ lies. near_giving t (text_by unit Text t lies) h (near_writing unit Text t lies)))
+    (given_if (has_head (codes "zone") t) _ _ (near_giving t (Ok (note_of (name_in t) unit FootZone [] ∷ [])) h tt) tt))
 
-near_other : (board : PlainBoard) (unit : ℕ) (c : Contents) (t : Tree) → AllNear c.given → IsShort t → NearGiven (with_other board unit c t)
-near_other board unit c t h k =
-    given_if (is_curve t) _ _ (giving (ground_of board.copper t) _ (near_ground board.copper t k) (λ lies. near_arc c t lies h k))
-    (given_if (is_writing t) _ _ (giving (ground_of board.copper t) _ (near_ground board.copper t k) (λ lies. near_adding c t (text_by unit Text t lies) h k (near_writing unit Text t lies)))
-    (given_if (has_head (codes "zone") t) _ _ (near_items c t (note_of (name_in t) unit FootZone [] ∷ []) h k) h))
+near_kind : (board : PlainBoard) (unit : ℕ) (head : Head) (t : Tree) (o : Option GraphicKind) → IsShort t → NearGiven (kind_gives board unit head t o)
+near_kind board unit head t (Some kind) h = given_by (ground_of board.copper t) _ (near_ground board.copper t h) (λ lies. near_drawn board unit head kind t lies h)
+near_kind board unit head t None h = near_other board unit t h
 
-near_child_by : (board : PlainBoard) (unit : ℕ) (head : Head) (c : Contents) (t : Tree) (o : Option GraphicKind) → AllNear c.given → IsShort t → NearGiven (with_child_by board unit head c t o)
-near_child_by board unit head c t (Some kind) h k = giving (ground_of board.copper t) _ (near_ground board.copper t k) (λ lies. near_drawn board unit head c kind t lies h k)
-near_child_by board unit head c t None h k = near_other board unit c t h k
+near_child : (board : PlainBoard) (unit : ℕ) (head : Head) (t : Tree) → IsShort t → NearGiven (child_gives board unit head t)
+unfolding child_gives
+near_child board unit head t h =
+    given_if (has_head (codes "pad") t) _ _ (near_giving t (pad_of board unit head t >>= λ pad. Ok (pad ∷ [])) h (step (pad_of board unit head t) _ (near_pad board unit head t h) (λ pad. tt)))
+    (near_kind board unit head t (drawn_kind t) h)
 
-near_child : (board : PlainBoard) (unit : ℕ) (head : Head) (c : Contents) (t : Tree) → AllNear c.given → IsShort t → NearGiven (with_child board unit head c t)
-unfolding with_child
-near_child board unit head c t h k =
-    given_if (has_head (codes "pad") t) _ _ (near_adding c t (pad_of board unit head t >>= λ pad. Ok (pad ∷ [])) h k (step (pad_of board unit head t) _ (near_pad board unit head t k) (λ pad. tt)))
-    (near_child_by board unit head c t (drawn_kind t) h k)
+near_then : (a b : Result Contents BoardError) → NearGiven a → NearGiven b → NearGiven (a >>= λ first. b >>= λ more. Ok (contents_then first more))
+near_then (Err e) b h k = h
+near_then (Ok x) (Err e) h k = k
+near_then (Ok x) (Ok y) h k = both_near x.given y.given h k
 
-next_child : (r : Result Contents BoardError) (f : Contents → Result Contents BoardError) → NearGiven r → ((c : Contents) → AllNear c.given → NearGiven (f c)) → NearGiven (r >>= f)
-next_child (Ok c) f h k = k c h
-next_child (Err e) f h k = h
-
-near_children : (board : PlainBoard) (unit : ℕ) (head : Head) (c : Contents) (ts : List Tree) → AllNear c.given → AllShort ts → NearGiven (with_children board unit head c ts)
-near_children board unit head c [] h k = h
-near_children board unit head c (t ∷ ts) h k =
-    next_child (with_child board unit head c t) _ (near_child board unit head c t h k.0) (λ more m. near_children board unit head more ts m k.1)
+near_children : (board : PlainBoard) (unit : ℕ) (head : Head) (ts : List Tree) → AllShort ts → NearGiven (children_give board unit head ts)
+near_children board unit head [] h = tt
+near_children board unit head (t ∷ ts) h = near_then (child_gives board unit head t) (children_give board unit head ts) (near_child board unit head t h.0) (near_children board unit head ts h.1)
 
 -- ---- the whole
 
@@ -204,7 +200,7 @@ near_inside board unit head t (Ok c) answer h k says = near_same says.same (near
 near_with_head : (board : PlainBoard) (unit : ℕ) (t : Tree) (r : Result Head BoardError) (answer : Result (List Item) BoardError) → Near r → IsShort t → SaysWithHead board unit t r answer → Near answer
 near_with_head board unit t (Err e) answer h k says = near_same says h
 near_with_head board unit t (Ok head) answer h k says =
-    near_inside board unit head t (contents_of board unit head t) answer (near_children board unit head empty (parts t) tt (parts_short t k)) k says
+    near_inside board unit head t (contents_of board unit head t) answer (near_children board unit head (parts t) (parts_short t k)) k says
 
 pub near_footprint : (board : PlainBoard) (unit : ℕ) (t : Tree) (answer : Result (List Item) BoardError) → IsShort t → FootprintSays board unit t answer → Near answer
 near_footprint board unit t answer h says = near_with_head board unit t (head_of board.copper t) answer (near_head board.copper t h) h says
