@@ -24,7 +24,6 @@ use run_reports::Tiles;
 use run_texts::{Texts, commands_of, script_text, texts_of};
 use run_words::{BoardSource, Request};
 use std::alloc::AllocGlobal;
-use std::mem::forget;
 use std::thread::Threads;
 use tile_pool::Gate;
 
@@ -83,8 +82,7 @@ fn report<R: Threads + Sync + AllocGlobal, W: Sink, G: Gate>(
         Ok((mut session, applied)) => {
             let tiles = tiles_of(&applied);
             let status = go_through(rt, gate, way, &mut session, tiles, commands, out);
-            // The process ends here, and the system takes its memory back at once. To free the items one by one would only take time.
-            forget(session);
+            session.end(rt, way.workers);
             status
         }
         Err(_) => Status::OutOfMemory,

@@ -13,6 +13,7 @@ use kept_nets::NetPart;
 use row_check::{CheckView, Row};
 use rule_text::Rules;
 use std::marker::Model;
+use std::thread::{Threads, join};
 
 /// A board that is edited and stays checked, under the classes of a project and rules. Contracts see the state, its rows and its nets,
 /// and whether an earlier call stopped the session by a want of memory.
@@ -39,6 +40,27 @@ impl Model for Session {
 }
 
 impl Session {
+    /// Lets go of the session: where there are several workers by two threads, since a large board has much to let go of.
+    pub fn end(self, rt: &(impl Threads + Sync), workers: u32) {
+        if workers == 1 {
+            return;
+        }
+        let parts = self.parts;
+        let Parts {
+            board,
+            facts,
+            index,
+            rows,
+            nets,
+            ..
+        } = parts;
+        join(
+            rt,
+            move || drop(board),
+            move || drop((facts, index, rows, nets)),
+        );
+    }
+
     /// The board as it now is. Nothing is known of it where the session is stopped.
     pub fn board(&self) -> &Board
         ensures { result.now ≡ self.now.state.board }
