@@ -1,7 +1,5 @@
 -- The index of a board that is opened, where the rules were lent.
-use Rattle.std.proofs.Common.{◌≡◌, ◌∙◌, sym, subst, ℤ, List, map}
-use Rattle.int_algebra.proofs.Scalars.{passed}
-use Rattle.plain_types.specs.Lengths.{IsLength}
+use Rattle.std.proofs.Common.{◌≡◌, sym, subst, ℤ, List, map}
 use Rattle.board_items.specs.Boards.{PlainBoard}
 use Rattle.net_class.specs.Classes.{PlainClasses}
 use Rattle.cond_lang.specs.declared.constraints.Rule.{Rule}
@@ -12,15 +10,14 @@ use Rattle.board_index.specs.Holding.{IsIndexOfItems}
 use Rattle.pair_check.specs.PlainRow.{PlainRow}
 use Rattle.pair_check.specs.Rows.{Checked, AreRows}
 use Rattle.row_check.specs.Tiles.{IsIndexOf}
-use Rattle.drc_session.proofs.Clearances.{as_passed}
 
 module _ (board : PlainBoard) (classes : PlainClasses) where
   abbrev checked : List Rule → Checked
   checked rules = record { board = board; classes = classes; rules = map plain_rule rules }
 
-  pub opened_index : (lent rules : List Rule) → lent ≡ rules → (reach : ℤ) → IsLength reach → IsReach board classes (map plain_rule lent) reach → (index : PlainIndex) → index.reach ≡ passed reach → IsIndexOfItems board index → IsIndexOf (checked rules) index
-  opened_index lent rules same reach length far index e items =
-      record { reach = subst (λ (z : ℤ). IsReach board classes (map plain_rule rules) z) (as_passed reach length ∙ sym e) (subst (λ (q : List Rule). IsReach board classes (map plain_rule q) reach) same far); items = items }
+  pub opened_index : (lent rules : List Rule) → lent ≡ rules → (reach : ℤ) → IsReach board classes (map plain_rule lent) reach → (index : PlainIndex) → index.reach ≡ reach → IsIndexOfItems board index → IsIndexOf (checked rules) index
+  opened_index lent rules same reach far index e items =
+      record { reach = subst (λ (z : ℤ). IsReach board classes (map plain_rule rules) z) (sym e) (subst (λ (q : List Rule). IsReach board classes (map plain_rule q) reach) same far); items = items }
 
   pub opened_rows : (lent rules : List Rule) → lent ≡ rules → (rows : List PlainRow) → AreRows (checked lent) rows → AreRows (checked rules) rows
   opened_rows lent rules same rows are = subst (λ (q : List Rule). AreRows (checked q) rows) same are

@@ -1,10 +1,12 @@
 //! Sessions that begin.
 
-ghost use Rattle.std.specs.Prelude.{◌≡◌, ◌<◌, ◌≤◌, ◌≤ℤ◌, pos, false, length, IfOk};
+ghost use Rattle.std.specs.Prelude.{◌≡◌, ◌<◌, ◌≤◌, false, length, map, IfOk};
+ghost use Rattle.plain_types.specs.Lengths.{IsLength};
 ghost use Rattle.board_index.specs.Holding.{IsIndexOfItems};
+ghost use Rattle.cond_lang.specs.Rules.{plain_rule};
 ghost use Rattle.rule_pick.specs.AllFacts.{HasFacts};
+ghost use Rattle.rule_pick.specs.Reach.{IsReach};
 ghost use Rattle.rule_text.specs.Views.{plain_rules};
-ghost use Rattle.net_groups.specs.NetParts.{AreParts};
 ghost use Rattle.drc_session.specs.Sessions.{IsOpened, IsDealt};
 ghost use Rattle.drc_session.specs.Holding.{state_of, IsKept};
 
@@ -15,9 +17,10 @@ use crate::session::Session;
 use board_index::index_of;
 use board_items::{Board, Nm};
 use box_index::TileIndex;
+use cond_lang::Rule;
 use item_facts::reach;
 use kept_facts::all_facts_by;
-use kept_nets::{NetPart, all_parts};
+use kept_nets::all_parts;
 use net_class::Classes;
 use row_check::CheckView;
 use rule_pick::FactsById;
@@ -26,44 +29,41 @@ use std::alloc::{AllocError, AllocGlobal, Global};
 use std::thread::{Threads, join};
 use tile_pool::Gate;
 
-/// The index of all items, and by it what is found of each net.
-fn index_and_nets(
-    rt: &(impl Threads + Sync),
+/// How far checks of the board reach, and the index of all items that reaches as far.
+fn reach_and_index(
     alloc: Global,
-    workers: u32,
     board: &Board,
-    reach: Nm,
-) -> Result<(TileIndex, Vec<NetPart>), AllocError>
-    requires from { pos 0 ≤ℤ reach }
-    requires to { reach ≤ℤ pos 500000000 }
-    ensures items { IfOk result (λ r. IsIndexOfItems board.now r.0) }
-    ensures reach { IfOk result (λ r. r.0.reach ≡ reach) }
-    ensures nets { IfOk result (λ r. AreParts board.now r.1.items) }
+    classes: &Classes,
+    rules: &[Rule],
+) -> Result<(Nm, TileIndex), AllocError>
+    ensures value { IfOk result (λ r. IsReach board.now classes.now (map plain_rule rules.now) r.0) }
+    ensures in_range { IfOk result (λ r. IsLength r.0) }
+    ensures items { IfOk result (λ r. IsIndexOfItems board.now r.1) }
+    ensures reach { IfOk result (λ r. r.1.reach ≡ r.0) }
 {
+    let reach = reach(board, classes, rules);
     let index = index_of(alloc, board, reach)?;
-    let nets = all_parts(rt, alloc, workers, board, &index)?;
-    Ok((index, nets))
+    Ok((reach, index))
 }
 
-/// The facts of all items, and beside them, where there are several workers, the index and the nets.
-fn facts_and_nets(
+/// The facts of all items, and beside them, where there are several workers, the reach and the index.
+fn facts_and_index(
     rt: &(impl Threads + Sync),
     alloc: Global,
     workers: u32,
     board: &Board,
     classes: &Classes,
-    reach: Nm,
-) -> Result<(FactsById, (TileIndex, Vec<NetPart>)), AllocError>
-    requires from { pos 0 ≤ℤ reach }
-    requires to { reach ≤ℤ pos 500000000 }
+    rules: &[Rule],
+) -> Result<(FactsById, (Nm, TileIndex)), AllocError>
     ensures facts { IfOk result (λ r. HasFacts board.now classes.now r.0) }
-    ensures items { IfOk result (λ r. IsIndexOfItems board.now r.1.0) }
-    ensures reach { IfOk result (λ r. r.1.0.reach ≡ reach) }
-    ensures nets { IfOk result (λ r. AreParts board.now r.1.1.items) }
+    ensures value { IfOk result (λ r. IsReach board.now classes.now (map plain_rule rules.now) r.1.0) }
+    ensures in_range { IfOk result (λ r. IsLength r.1.0) }
+    ensures items { IfOk result (λ r. IsIndexOfItems board.now r.1.1) }
+    ensures reach { IfOk result (λ r. r.1.1.reach ≡ r.1.0) }
 {
     if workers == 1 {
         let facts = all_facts_by(rt, alloc, workers, board, classes)?;
-        let found = index_and_nets(rt, alloc, workers, board, reach)?;
+        let found = reach_and_index(alloc, board, classes, rules)?;
         return Ok((facts, found));
     }
     let (facts, found) = join(
@@ -71,13 +71,12 @@ fn facts_and_nets(
         || -> Result<FactsById, AllocError>
             ensures { IfOk result (HasFacts board.entry.now classes.entry.now) }
         { all_facts_by(rt, alloc, workers, board, classes) },
-        || -> Result<(TileIndex, Vec<NetPart>), AllocError>
-            requires from { pos 0 ≤ℤ reach }
-            requires to { reach ≤ℤ pos 500000000 }
-            ensures items { IfOk result (λ r. IsIndexOfItems board.entry.now r.0) }
-            ensures reach { IfOk result (λ r. r.0.reach ≡ reach) }
-            ensures nets { IfOk result (λ r. AreParts board.entry.now r.1.items) }
-        { index_and_nets(rt, alloc, workers, board, reach) },
+        || -> Result<(Nm, TileIndex), AllocError>
+            ensures value { IfOk result (λ r. IsReach board.entry.now classes.entry.now (map plain_rule rules.entry.now) r.0) }
+            ensures in_range { IfOk result (λ r. IsLength r.0) }
+            ensures items { IfOk result (λ r. IsIndexOfItems board.entry.now r.1) }
+            ensures reach { IfOk result (λ r. r.1.reach ≡ r.0) }
+        { reach_and_index(alloc, board, classes, rules) },
     );
     Ok((facts?, found?))
 }
@@ -98,8 +97,15 @@ fn open<R: Threads + Sync, G: Gate>(
     ensures state { IfOk result (λ r. state_of r.0 ≡ record { board = board; classes = classes; rules = plain_rules rules }) }
     ensures applied { IfOk result (λ r. IsOpened (state_of r.0) r.1 × IsDealt workers r.1) }
 {
-    let reach = reach(&board, &classes, rules.rules.as_slice());
-    let (facts, (index, nets)) = facts_and_nets(rt, alloc, workers, &board, &classes, reach)?;
+    let (facts, (reach, index)) = facts_and_index(
+        rt,
+        alloc,
+        workers,
+        &board,
+        &classes,
+        rules.rules.as_slice(),
+    )?;
+    let nets = all_parts(rt, alloc, workers, &board, &index)?;
     let view = CheckView {
         board: &board,
         facts: &facts,
