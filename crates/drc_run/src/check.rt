@@ -114,7 +114,7 @@ pub(crate) fn check<R: Threads + Sync + AllocGlobal, F: Shelf, W: Sink, G: Gate>
     ensures same { F.files shelf.new ≡ F.files shelf.old }
 {
     let alloc = rt.alloc();
-    let texts = match texts_of(alloc, request, shelf) {
+    let texts = match texts_of(rt, alloc, request, shelf) {
         Ok(texts) => texts,
         Err(stop) => return write_stop(stop, out),
     };

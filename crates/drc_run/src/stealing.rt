@@ -72,7 +72,7 @@ pub(crate) fn steal<R: Threads + Sync + AllocGlobal, F: Shelf, W: Sink, G: Gate>
     ensures fault { result ≡ Status.WriteFault → Rose (W.faults out.old) (W.faults out.new) }
     ensures same { F.files shelf.new ≡ F.files shelf.old }
 {
-    match texts_of(rt.alloc(), board_alone(found.board), shelf) {
+    match texts_of(rt, rt.alloc(), board_alone(found.board), shelf) {
         Ok(texts) => report(rt, gate, found.number, texts, out),
         Err(stop) => write_stop(stop, out),
     }

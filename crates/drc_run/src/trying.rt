@@ -301,7 +301,7 @@ pub(crate) fn try_each<R: Threads + Sync + AllocGlobal, F: Shelf, W: Sink, G: Ga
     ensures same { F.files shelf.new ≡ F.files shelf.old }
 {
     let alloc = rt.alloc();
-    let (texts, script) = match scripted_texts(alloc, Which::Trials, files, shelf) {
+    let (texts, script) = match scripted_texts(rt, alloc, Which::Trials, files, shelf) {
         Ok(texts) => texts,
         Err(stop) => return write_stop(stop, out),
     };

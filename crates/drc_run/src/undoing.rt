@@ -94,7 +94,7 @@ pub(crate) fn undo<R: Threads + Sync + AllocGlobal, F: Shelf, W: Sink, G: Gate>(
     ensures same { F.files shelf.new ≡ F.files shelf.old }
 {
     let alloc = rt.alloc();
-    let (texts, script) = match scripted_texts(alloc, Which::Steps, files, shelf) {
+    let (texts, script) = match scripted_texts(rt, alloc, Which::Steps, files, shelf) {
         Ok(texts) => texts,
         Err(stop) => return write_stop(stop, out),
     };

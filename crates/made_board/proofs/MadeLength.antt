@@ -88,7 +88,7 @@ net_lines_short : (n : ℕ) → n < 90000 → length (net_lines n) ≤ n * 21
 unfolding net_lines
 net_lines_short n h = all net_line 21 1 n (λ j small. net_short j (omega arith))
 
-item_lines_short : (n : ℕ) → n ≤ 90000 → length (item_lines n) ≤ n * 212
+item_lines_short : (n : ℕ) → n ≤ 90000 → length (item_lines 0 n) ≤ n * 212
 unfolding item_lines
 item_lines_short n h =
     all two_lines 212 0 n

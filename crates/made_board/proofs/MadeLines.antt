@@ -18,13 +18,27 @@ pub net_lines_grow : (bs : List ℕ) (n : ℕ) → bs ++ net_lines (n + 1) ≡ (
 unfolding net_lines
 net_lines_grow bs n = rw (add-one, grown net_line 1 n (1 + n) refl) (simp append_assoc)
 
-pub no_item_lines : (bs : List ℕ) → bs ++ item_lines 0 ≡ bs
+pub no_item_lines : (bs : List ℕ) (a : ℕ) → bs ++ item_lines a 0 ≡ bs
 unfolding item_lines
-no_item_lines bs = append-nil bs
+no_item_lines bs a = append-nil bs
 
-pub item_lines_grow : (bs : List ℕ) (n : ℕ) → bs ++ item_lines (n + 1) ≡ ((bs ++ item_lines n) ++ via_line n) ++ segment_line n
+pub item_lines_grow : (bs : List ℕ) (a n : ℕ) → bs ++ item_lines a (n + 1) ≡ ((bs ++ item_lines a n) ++ via_line (a + n)) ++ segment_line (a + n)
 unfolding item_lines
-item_lines_grow bs n = rw (add-one, grown two_lines 0 n n (omega arith)) (simp append_assoc)
+item_lines_grow bs a n = rw (add-one, grown two_lines a n (a + n) refl) (simp append_assoc)
+
+in_parts : (f : ℕ → List ℕ) (a low high n : ℕ) → low + high ≡ n → flat_map f (range_with_len a n) ≡ flat_map f (range_with_len a low) ++ flat_map f (range_with_len (a + low) high)
+in_parts f a zero high n e =
+    let all : n ≡ high = omega arith in
+    let same : a + zero ≡ a = omega arith in rw (all, same) refl
+in_parts f a (suc low) high n e =
+    let more : n ≡ suc (low + high) = omega arith in
+    let same : a + suc low ≡ a + 1 + low = omega arith in
+    rw (more, in_parts f (a + 1) low high (low + high) refl, same) (simp append_assoc)
+
+-- the lines of two runs of numbers, the second behind the first
+pub item_lines_in_parts : (bs : List ℕ) (a low high n : ℕ) → low + high ≡ n → (bs ++ item_lines a low) ++ item_lines (a + low) high ≡ bs ++ item_lines a n
+unfolding item_lines
+item_lines_in_parts bs a low high n e = rw (in_parts two_lines a low high n e) (simp append_assoc)
 
 -- the pieces in which a via's line is appended
 pub via_line_pieces : (bs : List ℕ) (k : ℕ)

@@ -51,9 +51,9 @@ net_line m = codes "(net " ++ decimal m ++ codes " \"N" ++ decimal m ++ codes "\
 unfoldable pub net_lines : ℕ → List ℕ
 net_lines n = flat_map net_line (range_with_len 1 n)
 
--- the vias and segments of the numbers from 0 on, so many
-unfoldable pub item_lines : ℕ → List ℕ
-item_lines n = flat_map two_lines (range_with_len 0 n)
+-- the vias and segments of so many numbers from one on
+unfoldable pub item_lines : ℕ → ℕ → List ℕ
+item_lines first n = flat_map two_lines (range_with_len first n)
 
 unfoldable pub made_text : ℕ → List ℕ
-made_text n = codes "(kicad_pcb (version 20221018) (generator pcbnew)\n(layers (0 \"F.Cu\" signal) (31 \"B.Cu\" signal))\n(net 0 \"\")\n" ++ net_lines 1000 ++ item_lines n ++ codes ")\n"
+made_text n = codes "(kicad_pcb (version 20221018) (generator pcbnew)\n(layers (0 \"F.Cu\" signal) (31 \"B.Cu\" signal))\n(net 0 \"\")\n" ++ net_lines 1000 ++ item_lines 0 n ++ codes ")\n"

@@ -1,12 +1,13 @@
 //! The text of the generated board.
 
-ghost use Rattle.std.specs.Prelude.{◌≡◌, ◌<◌, ◌≤◌, ◌++◌, length, unsigned_abs, IfOk, OnOk};
+ghost use Rattle.std.specs.Prelude.{◌≡◌, ◌<◌, ◌≤◌, ◌++◌, ◌+◌, [], length, unsigned_abs, IfOk, OnOk};
 ghost use Rattle.exact_dec.specs.Written.{mm_text};
 ghost use Rattle.made_board.specs.MadeBoard.{x_of, y_of, end_of, spot_text, end_text, net_and_stamp, via_line, segment_line, net_line, net_lines, item_lines, made_text};
 
 use exact_dec::{Nm, write_mm};
 use itoa::{Buffer, Integer};
 use std::alloc::{AllocError, Global};
+use std::thread::{Threads, join};
 
 /// How many nets there are beside net 0.
 const NETS: u32 = 1000;
@@ -20,6 +21,9 @@ const NET_BYTES: usize = 19;
 
 /// The most bytes of the two lines of a number.
 const ITEM_BYTES: usize = 200;
+
+/// From how many numbers on threads are worth their start.
+const MANY: u32 = 2_000;
 
 /// Where a number stands from left to right, in millimetres: from -450 to 447.
 fn x_of(number: u32) -> i32
@@ -157,31 +161,131 @@ fn push_segment(text: &mut Vec<u8>, number: u32) -> Result<(), AllocError>
     push_net_and_stamp(text, b"s", number)
 }
 
-/// Appends the lines of so many numbers, from 0 on.
+/// Appends the lines of so many numbers from one on.
 #[tactic(auto, using(crate::proofs::MadeLines::no_item_lines, crate::proofs::MadeLines::item_lines_grow))]
-fn push_items(text: &mut Vec<u8>, count: u32) -> Result<(), AllocError>
-    requires { count ≤ 90_000 }
-    ensures { OnOk result (text.new.items ≡ text.old.items ++ item_lines count) }
+fn push_items(text: &mut Vec<u8>, first: u32, count: u32) -> Result<(), AllocError>
+    requires { first + count ≤ 90_000 }
+    ensures { OnOk result (text.new.items ≡ text.old.items ++ item_lines first count) }
 {
-    for number in 0..count {
-        push_via(text, number)?;
-        push_segment(text, number)?;
+    for others in 0..count {
+        push_via(text, first + others)?;
+        push_segment(text, first + others)?;
     }
     Ok(())
 }
 
-/// The text of the generated board of so many vias and segments, from 1 to 90,000. Only want of memory refuses it.
+/// The text with the lines of so many numbers from one on behind it.
+fn with_items(mut text: Vec<u8>, first: u32, count: u32) -> Result<Vec<u8>, AllocError>
+    requires { first + count ≤ 90_000 }
+    ensures { IfOk result (λ whole. whole.items ≡ text.items ++ item_lines first count) }
+{
+    push_items(&mut text, first, count)?;
+    Ok(text)
+}
+
+/// Room for the lines of so many numbers.
+fn room_for(alloc: Global, count: u32) -> Result<Vec<u8>, AllocError>
+    ensures { IfOk result (λ text. text.items ≡ []) }
+{
+    Vec::with_capacity(alloc, count as usize * ITEM_BYTES)
+}
+
+/// As `with_items`, by two threads.
+fn with_items_by_two(
+    rt: &(impl Threads + Sync),
+    alloc: Global,
+    text: Vec<u8>,
+    first: u32,
+    count: u32,
+) -> Result<Vec<u8>, AllocError>
+    requires { first + count ≤ 90_000 }
+    ensures { IfOk result (λ whole. whole.items ≡ text.items ++ item_lines first count) }
+{
+    let low = count / 2;
+    let high = count - low;
+    let rest = room_for(alloc, high)?;
+    let (front, back) = join(
+        rt,
+        move || -> Result<Vec<u8>, AllocError>
+            requires { first + low ≤ 90_000 }
+            ensures { IfOk result (λ whole. whole.items ≡ text.items ++ item_lines first low) }
+        { with_items(text, first, low) },
+        move || -> Result<Vec<u8>, AllocError>
+            requires { first + low + high ≤ 90_000 }
+            ensures { IfOk result (λ whole. whole.items ≡ rest.items ++ item_lines (first + low) high) }
+        { with_items(rest, first + low, high) },
+    );
+    let mut whole = front?;
+    push_piece(&mut whole, &back?)?;
+    Ok(whole)
+}
+
+/// As `with_items`, by four threads.
+fn with_items_by_four(
+    rt: &(impl Threads + Sync),
+    alloc: Global,
+    text: Vec<u8>,
+    first: u32,
+    count: u32,
+) -> Result<Vec<u8>, AllocError>
+    requires { first + count ≤ 90_000 }
+    ensures { IfOk result (λ whole. whole.items ≡ text.items ++ item_lines first count) }
+{
+    let low = count / 2;
+    let high = count - low;
+    let rest = room_for(alloc, high)?;
+    let (front, back) = join(
+        rt,
+        move || -> Result<Vec<u8>, AllocError>
+            requires { first + low ≤ 90_000 }
+            ensures { IfOk result (λ whole. whole.items ≡ text.items ++ item_lines first low) }
+        { with_items_by_two(rt, alloc, text, first, low) },
+        move || -> Result<Vec<u8>, AllocError>
+            requires { first + low + high ≤ 90_000 }
+            ensures { IfOk result (λ whole. whole.items ≡ rest.items ++ item_lines (first + low) high) }
+        { with_items_by_two(rt, alloc, rest, first + low, high) },
+    );
+    let mut whole = front?;
+    push_piece(&mut whole, &back?)?;
+    Ok(whole)
+}
+
+/// As `with_items`: with one worker, or for few numbers, on the thread of the caller, and else by four threads.
+fn with_items_by(
+    rt: &(impl Threads + Sync),
+    alloc: Global,
+    workers: u32,
+    text: Vec<u8>,
+    count: u32,
+) -> Result<Vec<u8>, AllocError>
+    requires { count ≤ 90_000 }
+    ensures { IfOk result (λ whole. whole.items ≡ text.items ++ item_lines 0 count) }
+{
+    if workers == 1 || count < MANY {
+        with_items(text, 0, count)
+    } else {
+        with_items_by_four(rt, alloc, text, 0, count)
+    }
+}
+
+/// The text of the generated board of so many vias and segments, from 1 to 90,000, put together by four threads where there are several
+/// workers. Only want of memory refuses it.
 #[tactic(auto, unfolding(crate::specs::MadeBoard::made_text))]
-pub fn made_text(alloc: Global, count: u32) -> Result<Vec<u8>, AllocError>
+pub fn made_text(
+    rt: &(impl Threads + Sync),
+    alloc: Global,
+    workers: u32,
+    count: u32,
+) -> Result<Vec<u8>, AllocError>
     requires { (1 ≤ count) × (count ≤ 90_000) }
     ensures text { IfOk result (λ text. text.items ≡ made_text count) }
     ensures short { IfOk result (λ text. length text.items ≤ 33_554_432) }
 {
     let room = HEAD.len() + NETS as usize * NET_BYTES + count as usize * ITEM_BYTES + 2;
-    let mut text = Vec::with_capacity(alloc, room)?;
-    push_piece(&mut text, HEAD)?;
-    push_nets(&mut text, NETS)?;
-    push_items(&mut text, count)?;
+    let mut head = Vec::with_capacity(alloc, room)?;
+    push_piece(&mut head, HEAD)?;
+    push_nets(&mut head, NETS)?;
+    let mut text = with_items_by(rt, alloc, workers, head, count)?;
     push_piece(&mut text, b")\n")?;
     Ok(text)
 }

@@ -25,6 +25,7 @@ use rule_text::{RuleList, RuleNotes, Rules, read_rules};
 use run_words::{BoardSource, Request, Scripted};
 use sexpr_read::laws::spans_in_order;
 use std::alloc::Global;
+use std::thread::Threads;
 
 /// The most bytes of a text.
 const LIMIT: u32 = 33_554_432;
@@ -139,21 +140,28 @@ pub fn fetch_text<F: Shelf>(
 }
 
 /// The text of the generated board of so many, from 1 to 90,000.
-fn generated_text(alloc: Global, count: u32) -> Result<Vec<u8>, Stop>
+fn generated_text(
+    rt: &(impl Threads + Sync),
+    alloc: Global,
+    workers: u32,
+    count: u32,
+) -> Result<Vec<u8>, Stop>
     requires { (1 ≤ count) × (count ≤ 90_000) }
     ensures text { IfOk result (λ text. text.items ≡ made_text count) }
     ensures short { IfOk result (λ text. length text.items ≤ 33_554_432) }
     ensures stop { IfErr result (λ stop. stop ≡ Stop.OutOfMemory) }
 {
-    match made_text(alloc, count) {
+    match made_text(rt, alloc, workers, count) {
         Ok(text) => Ok(text),
         Err(_) => Err(Stop::OutOfMemory),
     }
 }
 
 /// The text of the board, which is fetched or generated.
-fn board_text<F: Shelf>(
+fn board_text<R: Threads + Sync, F: Shelf>(
+    rt: &R,
     alloc: Global,
+    workers: u32,
     source: BoardSource<'_>,
     shelf: &mut F,
 ) -> Result<Vec<u8>, Stop>
@@ -166,7 +174,7 @@ fn board_text<F: Shelf>(
 {
     match source {
         BoardSource::File(name) => fetch_text(alloc, Which::Board, name, shelf),
-        BoardSource::Made(count) => generated_text(alloc, count),
+        BoardSource::Made(count) => generated_text(rt, alloc, workers, count),
     }
 }
 
@@ -262,14 +270,20 @@ pub fn trials_in<'t>(alloc: Global, text: &'t [u8]) -> Result<Vec<Command<'t>>, 
 }
 
 /// Fetches or makes the board's text and reads it.
-fn board_of<F: Shelf>(alloc: Global, source: BoardSource<'_>, shelf: &mut F) -> Result<Board, Stop>
+fn board_of<R: Threads + Sync, F: Shelf>(
+    rt: &R,
+    alloc: Global,
+    workers: u32,
+    source: BoardSource<'_>,
+    shelf: &mut F,
+) -> Result<Board, Stop>
     requires { SourceFits source }
     ensures ok { IfOk result (λ board. SourceSays (F.files shelf.old) (record { which = Which.Board; source = source_in source.entry }) (accepted (a_board board))) }
     ensures stop { IfErr result (StopsText (F.files shelf.old) (F.faults shelf.old) (F.faults shelf.new) (record { which = Which.Board; source = source_in source.entry })) }
     ensures same { F.files shelf.new ≡ F.files shelf.old }
     ensures counts { (other : List ℕ) → F.faults shelf.old other ≤ F.faults shelf.new other }
 {
-    match board_text(alloc, source, shelf) {
+    match board_text(rt, alloc, workers, source, shelf) {
         Ok(text) => board_in(alloc, &text),
         Err(stop) => Err(stop),
     }
@@ -344,7 +358,12 @@ fn rules_of<F: Shelf>(alloc: Global, name: Option<&str>, shelf: &mut F) -> Resul
 }
 
 /// Fetches and reads the texts but for the script, each where those before it are accepted.
-pub fn texts_of<F: Shelf>(alloc: Global, request: Request<'_>, shelf: &mut F) -> Result<Texts, Stop>
+pub fn texts_of<R: Threads + Sync, F: Shelf>(
+    rt: &R,
+    alloc: Global,
+    request: Request<'_>,
+    shelf: &mut F,
+) -> Result<Texts, Stop>
     requires { RequestFits request }
     ensures ok { IfOk result (λ texts. AreOpened (F.files shelf.old) (reading_in request.entry) (opened_in texts)) }
     ensures few { IfOk result (λ texts. length texts.rules.rules ≤ 33_554_432) }
@@ -352,7 +371,7 @@ pub fn texts_of<F: Shelf>(alloc: Global, request: Request<'_>, shelf: &mut F) ->
     ensures same { F.files shelf.new ≡ F.files shelf.old }
     ensures counts { (other : List ℕ) → F.faults shelf.old other ≤ F.faults shelf.new other }
 {
-    let board = match board_of(alloc, request.board, shelf) {
+    let board = match board_of(rt, alloc, request.workers, request.board, shelf) {
         Ok(board) => board,
         Err(stop) => return Err(stop),
     };
@@ -420,7 +439,8 @@ pub fn board_alone(name: &str) -> Request<'_>
 }
 
 /// Fetches and reads the board's text, and then fetches the script's, which is of this sort.
-pub fn scripted_texts<F: Shelf>(
+pub fn scripted_texts<R: Threads + Sync, F: Shelf>(
+    rt: &R,
     alloc: Global,
     which: Which,
     files: Scripted<'_>,
@@ -434,7 +454,7 @@ pub fn scripted_texts<F: Shelf>(
     ensures same { F.files shelf.new ≡ F.files shelf.old }
     ensures counts { (other : List ℕ) → F.faults shelf.old other ≤ F.faults shelf.new other }
 {
-    let texts = match texts_of(alloc, board_alone(files.board), shelf) {
+    let texts = match texts_of(rt, alloc, board_alone(files.board), shelf) {
         Ok(texts) => texts,
         Err(stop) => return Err(stop),
     };

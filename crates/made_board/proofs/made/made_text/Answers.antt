@@ -6,6 +6,6 @@ use Rattle.made_board.proofs.made.made_text.Goals as goal
 
 pub returns-clause-short : goal.returns-clause-short
 unfolding made_text
-returns-clause-short c =
+returns-clause-short g c =
     let whole : c.push_piece-2.new.text.items ≡ made_text c.args.count = grind (arith, common_steps) in
     rw whole (made_text_short c.args.count (omega arith))
