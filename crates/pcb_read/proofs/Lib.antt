@@ -7,3 +7,5 @@ pub mod Nearby
 pub mod NearPads
 pub mod NearFootprints
 pub mod NearLists
+pub mod Drafting
+pub mod Slotting

@@ -35,6 +35,14 @@ only_board text tree (Ok read) answer one none spelled given h = one answer (Ok 
 only_board text tree (Err e) answer one none spelled (inl gone) h = inl gone
 only_board text tree (Err e) answer one none spelled (inr given) h = inr (one answer (Err e) h (says_tree text tree (Err e) none spelled given))
 
+-- so of a board without spans
+pub only_board_alone : (text : List ℕ) (tree : Tree) (result : Result PlainBoard BoardError) (answer : Result PlainBoard BoardError) → ((a b : Result PlainBoard BoardError) → BoardSays text a → BoardSays text b → a ≡ b)
+    → refusal_of_one text ≡ None → Spells text tree → MatchResult result (λ board. SaysBoard tree (Ok board)) (λ e. (e ≡ OutOfMemory) ⊎ SaysBoard tree (Err e)) → BoardSays text answer
+    → MatchResult result (λ board. answer ≡ Ok board) (λ e. (e ≡ OutOfMemory) ⊎ (answer ≡ Err e))
+only_board_alone text tree (Ok board) answer one none spelled given h = one answer (Ok board) h (says_tree text tree (Ok board) none spelled given)
+only_board_alone text tree (Err e) answer one none spelled (inl gone) h = inl gone
+only_board_alone text tree (Err e) answer one none spelled (inr given) h = inr (one answer (Err e) h (says_tree text tree (Err e) none spelled given))
+
 -- ---- spans of the parts that give items
 
 pub span_noted : (before after : Reading) (tree : Tree) (old others : List Span) → before.board.next_unit == after.board.next_unit ≡ false → old ++ with_span before after tree others ≡ (old ++ span tree ∷ []) ++ others

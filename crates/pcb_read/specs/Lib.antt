@@ -9,3 +9,5 @@ pub mod ItemText
 pub mod Spans
 pub mod Near
 pub mod Short
+pub mod Drafts
+pub mod Slots

@@ -14,23 +14,27 @@ ghost use Rattle.pcb_read.specs.Spans.{HasSpans, AreSpans, GivesBoardWith};
 
 mod added;
 mod adding;
+mod aside;
+mod drafts;
 mod items;
 pub mod laws;
 mod lists;
 mod nets;
 mod root;
+mod slot;
 mod sorts;
 mod spans;
 mod tracks;
 
 use crate::laws::one_reading;
-use crate::root::board_of;
+use crate::root::{board_by, board_of};
 pub use added::read_item;
 pub use adding::add_items;
 use board_items::{Board, BoardError};
 use sexpr_read::{Doc, TextError, parse_one};
 pub use spans::Spans;
 use std::alloc::Global;
+use std::thread::Threads;
 
 /// The board of a text of at most 33,554,432 bytes, or the first reason in the text why there is none, with its place.
 ///
@@ -48,7 +52,30 @@ pub fn read_board(alloc: Global, text: &[u8]) -> Result<Board, BoardError>
     }
 }
 
-/// The same, and where its units stand in the text: entry k is the span of the list whose items have the unit number k, and
+/// The same. With several workers the many tracks and vias of a large text are drafted by as many threads as there are processors, before
+/// the parts are read one after the other.
+pub fn read_board_by(
+    rt: &(impl Threads + Sync),
+    alloc: Global,
+    workers: u32,
+    text: &[u8],
+) -> Result<Board, BoardError>
+    requires { length text.now ≤ 33_554_432 }
+    ensures says { MatchResult result (λ board. BoardSays text.now (Ok board)) (λ e. (e ≡ BoardError.OutOfMemory) ⊎ BoardSays text.now (Err e)) }
+    ensures only { (answer : Result PlainBoard BoardError) → BoardSays text.now answer → MatchResult result (λ board. answer ≡ Ok board) (λ e. (e ≡ BoardError.OutOfMemory) ⊎ (answer ≡ Err e)) }
+{
+    if workers == 1 {
+        return read_board(alloc, text);
+    }
+    one_reading();
+    match parse_one(alloc, text) {
+        Ok(doc) => board_by(rt, alloc, doc.root()),
+        Err(TextError::OutOfMemory) => Err(BoardError::OutOfMemory),
+        Err(error) => Err(BoardError::Text(error)),
+    }
+}
+
+/// The same as `read_board`, and where its units stand in the text: entry k is the span of the list whose items have the unit number k, and
 /// there is one entry for each unit. Lists that give no item have none.
 pub fn read_with_spans(alloc: Global, text: &[u8]) -> Result<(Board, Spans), BoardError>
     requires { length text.now ≤ 33_554_432 }

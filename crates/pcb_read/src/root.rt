@@ -1,6 +1,8 @@
 //! The root of a board's text, part by part.
 
-ghost use Rattle.std.specs.Prelude.{◌≡◌, ◌≤◌, ◌++◌, ◌∷◌, [], suc, List, length, option_map, find, false, OnOk, IfOk};
+ghost use Rattle.std.specs.Prelude.{◌≡◌, ◌≤◌, ◌++◌, ◌∷◌, ◌⊎◌, [], suc, List, length, option_map, find, false, Ok, Err, OnOk, IfOk, IfErr, MatchResult};
+ghost use Rattle.board_errors.specs.declared.errors.BoardError.{BoardError};
+ghost use Rattle.board_items.specs.Boards.{empty_board};
 ghost use Rattle.sexpr_read.specs.Tree.{parts, is_list};
 ghost use Rattle.sexpr_read.specs.Views.{tree_of};
 ghost use Rattle.part_read.specs.Nodes.{Leaves};
@@ -10,8 +12,10 @@ ghost use Rattle.pcb_read.specs.BoardOf.{with_layers, with_other, SaysWith, Says
 ghost use Rattle.pcb_read.specs.Spans.{with_span, SaysSpans, AreSpans, GivesBoardWith};
 
 use crate::adding::{add_items, add_one};
+use crate::aside::read_parts_by;
 use crate::lists::read_list;
 use crate::nets::read_net;
+use crate::slot::Read;
 use crate::sorts::{Sort, sort_of};
 use crate::spans::Spans;
 use crate::tracks::{track_of, via_of};
@@ -21,6 +25,7 @@ use list_read::{has_head, place};
 use part_read::{first_atom, layers_listed};
 use sexpr_read::{Node, Span};
 use std::alloc::{AllocError, Global};
+use std::thread::Threads;
 
 /// The first list in a list.
 fn first_list<'d, 't>(node: Node<'d, 't>) -> Option<Node<'d, 't>>
@@ -122,7 +127,7 @@ fn read_items(
 }
 
 /// Reads one part of the root.
-fn read_part(
+pub(crate) fn read_part(
     alloc: Global,
     board: &mut Board,
     layered: &mut bool,
@@ -223,21 +228,48 @@ fn read_parts(
     Ok(spans)
 }
 
-/// The board of the root and the spans of its units, or the first reason in the text why there is no board.
-pub(crate) fn board_of(alloc: Global, root: Node<'_, '_>) -> Result<(Board, Spans), BoardError>
-    ensures says { GivesBoardWith result (SaysBoard (tree_of root.entry)) }
-    ensures spans { IfOk result (λ read. AreSpans (tree_of root.entry) read.1) }
-    ensures each { IfOk result (λ read. length read.1 ≡ read.0.next_unit) }
+/// An empty board with room for about all items of the root, if that is the root of a board.
+fn new_board(alloc: Global, root: Node<'_, '_>) -> Result<Board, BoardError>
+    ensures board { IfOk result (λ board. (board ≡ empty_board (record { bits = 0 })) × (header_in (tree_of root.entry) ≡ Ok tt)) }
+    ensures refused { IfErr result (λ e. (e ≡ BoardError.OutOfMemory) ⊎ (header_in (tree_of root.entry) ≡ Err e)) }
 {
     check_header(root)?;
     let mut board = Board::new(alloc, LayerSet { bits: 0 })?;
     // Most parts are items: room for about all of them is made once.
     let room = about_parts(root).min(board.left() as usize);
     board.reserve(room)?;
+    Ok(board)
+}
+
+/// The board of the root and the spans of its units, or the first reason in the text why there is no board.
+pub(crate) fn board_of(alloc: Global, root: Node<'_, '_>) -> Result<(Board, Spans), BoardError>
+    ensures says { GivesBoardWith result (SaysBoard (tree_of root.entry)) }
+    ensures spans { IfOk result (λ read. AreSpans (tree_of root.entry) read.1) }
+    ensures each { IfOk result (λ read. length read.1 ≡ read.0.next_unit) }
+{
+    let mut board = new_board(alloc, root)?;
     let mut layered = false;
     let spans = read_parts(alloc, &mut board, &mut layered, root)?;
     if layered {
         Ok((board, Spans::of(spans)))
+    } else {
+        Err(BoardError::Missing { at: place(root) })
+    }
+}
+
+/// The board of the root, its tracks and vias drafted side by side.
+pub(crate) fn board_by(
+    rt: &(impl Threads + Sync),
+    alloc: Global,
+    root: Node<'_, '_>,
+) -> Result<Board, BoardError>
+    ensures { MatchResult result (λ board. SaysBoard (tree_of root.entry) (Ok board)) (λ e. (e ≡ BoardError.OutOfMemory) ⊎ SaysBoard (tree_of root.entry) (Err e)) }
+{
+    let board = new_board(alloc, root)?;
+    let layered = false;
+    let read = read_parts_by(rt, alloc, Read { board, layered }, root)?;
+    if read.layered {
+        Ok(read.board)
     } else {
         Err(BoardError::Missing { at: place(root) })
     }

@@ -20,7 +20,7 @@ use edit_script::laws::accepted_forms;
 use edit_script::{Command, Step, read_script, read_steps};
 use made_board::made_text;
 use net_class::{Classes, read_project};
-use pcb_read::read_board;
+use pcb_read::read_board_by;
 use rule_text::{RuleList, RuleNotes, Rules, read_rules};
 use run_words::{BoardSource, Request, Scripted};
 use sexpr_read::laws::spans_in_order;
@@ -179,11 +179,16 @@ fn board_text<R: Threads + Sync, F: Shelf>(
 }
 
 /// The board of a text.
-fn board_in(alloc: Global, text: &[u8]) -> Result<Board, Stop>
+fn board_in(
+    rt: &(impl Threads + Sync),
+    alloc: Global,
+    workers: u32,
+    text: &[u8],
+) -> Result<Board, Stop>
     requires { length text.now ≤ 33_554_432 }
     ensures { MatchResult result (λ board. ReaderSays Which.Board text.now (accepted (a_board board))) (StopsReading Which.Board text.now) }
 {
-    match read_board(alloc, text) {
+    match read_board_by(rt, alloc, workers, text) {
         Ok(board) => Ok(board),
         Err(e) => Err(refused(Which::Board, e.name(), e.code(), e.place(), None)),
     }
@@ -284,7 +289,7 @@ fn board_of<R: Threads + Sync, F: Shelf>(
     ensures counts { (other : List ℕ) → F.faults shelf.old other ≤ F.faults shelf.new other }
 {
     match board_text(rt, alloc, workers, source, shelf) {
-        Ok(text) => board_in(alloc, &text),
+        Ok(text) => board_in(rt, alloc, workers, &text),
         Err(stop) => Err(stop),
     }
 }

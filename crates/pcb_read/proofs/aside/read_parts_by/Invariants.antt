@@ -1,0 +1,18 @@
+use Rattle.std.proofs.Common.{◌≡◌, false, length, Result}
+use Rattle.board_errors.specs.declared.errors.BoardError.{BoardError}
+use Rattle.sexpr_read.specs.Tree.{parts}
+use Rattle.sexpr_read.specs.Views.{tree_of, trees_left}
+use Rattle.pcb_read.specs.BoardOf.{Reading, SaysParts}
+use Rattle.pcb_read.specs.Slots.{reading_of}
+use Rattle.pcb_read.proofs.aside.read_parts_by.Given as goal
+
+-- what is left says after what was read so far, all parts say
+abbrev pub invariant-blocks-2 : goal.invariant-blocks-2
+invariant-blocks-2 g l = record {
+  says : (answer : Result Reading BoardError) → SaysParts (reading_of l.so_far) (trees_left l.left) answer
+      → SaysParts (reading_of l.initial.so_far) (parts (tree_of l.root)) answer;
+  unlisted : l.so_far.layered ≡ false → l.so_far.board.copper.bits ≡ 0;
+}
+
+abbrev pub decreases-blocks-2 : goal.decreases-blocks-2
+decreases-blocks-2 g l = length (trees_left l.left)

@@ -1,0 +1,27 @@
+-- Parts of the root that are read in blocks.
+use Rattle.std.specs.Prelude.{◌≡◌, ◌⊎◌, ◌<◌, ℕ, List, length, slice_index_or, Result, Ok, Err}
+use Rattle.board_errors.specs.declared.errors.BoardError.{BoardError}
+use Rattle.board_errors.specs.declared.errors.BoardError.TheVariants.{OutOfMemory}
+use Rattle.sexpr_read.specs.Tree.{Tree}
+use Rattle.sexpr_read.specs.Views.{tree_of}
+use Rattle.pcb_read.specs.BoardOf.{Reading}
+use Rattle.pcb_read.specs.declared.slot.Slot.{Slot}
+use Rattle.pcb_read.specs.declared.slot.Read.{Read}
+
+-- the tree of the part
+abbrev pub tree_in : Slot → Tree
+tree_in slot = tree_of slot.node
+
+-- as many parts as before, each the same, whatever was drafted of it
+pub record AreSame (old new : List Slot) : Type 0 where
+  pub long : length new ≡ length old
+  pub each : (place : ℕ) (d : Slot) → place < length old → tree_in (slice_index_or new place d) ≡ tree_in (slice_index_or old place d)
+
+-- what was read so far
+abbrev pub reading_of : Read → Reading
+reading_of read = record { board = read.board; layered = read.layered }
+
+-- the call gives what is said so far, or such a refusal, unless memory ran out
+abbrev pub GivesReading : Result Read BoardError → (Result Reading BoardError → Type 0) → Type 0
+GivesReading (Ok read) Says = Says (Ok (reading_of read))
+GivesReading (Err e) Says = (e ≡ OutOfMemory) ⊎ Says (Err e)

@@ -1,0 +1,182 @@
+//! The root of a board's text by several threads: the tracks and vias of a block of parts are drafted side by side, and then the parts are
+//! read one after the other.
+
+ghost use Rattle.std.specs.Prelude.{◌≡◌, ◌++◌, [], map, true, false, is_some, IfOk, IfSome, OnOk};
+ghost use Rattle.sexpr_read.specs.Tree.{parts};
+ghost use Rattle.sexpr_read.specs.Views.{tree_of, trees_left};
+ghost use Rattle.board_items.specs.Boards.{name_of};
+ghost use Rattle.pcb_read.specs.Answers.{LeavesSome};
+ghost use Rattle.pcb_read.specs.BoardOf.{SaysPart, SaysParts};
+ghost use Rattle.pcb_read.specs.Drafts.{IsDraft};
+ghost use Rattle.pcb_read.specs.Slots.{tree_in, AreSame, reading_of, GivesReading};
+
+use crate::adding::add_one;
+use crate::drafts::{Draft, item_of};
+use crate::root::read_part;
+use crate::slot::{Read, Slot};
+use crate::sorts::{Sort, sort_of};
+use crate::tracks::{track_draft, via_draft};
+use board_items::{Board, BoardError};
+use copper_layers::LayerSet;
+use rayon::prelude::*;
+use sexpr_read::{Children, Node};
+use std::alloc::{AllocError, Global};
+use std::thread::Threads;
+
+/// So many parts are drafted before they are read.
+const BLOCK: usize = 8_192;
+
+/// From how many parts on threads are worth their start.
+const MANY: usize = 2_000;
+
+/// The draft of a list, if it is that of a track or a via.
+fn draft_of(alloc: Global, copper: LayerSet, node: Node<'_, '_>) -> Option<Draft>
+    ensures { IfSome result (IsDraft copper (tree_of node.entry)) }
+{
+    match sort_of(node) {
+        Some(Sort::Track) => track_draft(alloc, copper, node).ok(),
+        Some(Sort::Via) => via_draft(alloc, copper, node).ok(),
+        _ => None,
+    }
+}
+
+/// The same part, drafted.
+fn drafted<'d, 't>(alloc: Global, copper: LayerSet, node: Node<'d, 't>) -> Slot<'d, 't>
+    ensures { tree_in result ≡ tree_of node.entry }
+{
+    Slot {
+        node,
+        copper,
+        draft: draft_of(alloc, copper, node),
+    }
+}
+
+/// Drafts all parts of a block, by as many threads as there are processors.
+fn draft_all(
+    rt: &(impl Threads + Sync),
+    alloc: Global,
+    copper: LayerSet,
+    block: &mut [Slot<'_, '_>],
+)
+    ensures { AreSame block.old block.new }
+{
+    par_for_each_mut(
+        rt,
+        block,
+        |_: usize, slot: &mut Slot<'_, '_>|
+            ensures { tree_in slot.new ≡ tree_in slot.old }
+        {
+            *slot = drafted(alloc, copper, slot.node);
+        },
+    );
+}
+
+/// The next parts of the root, none of them drafted; no part where none is left.
+fn next_block<'d, 't>(
+    alloc: Global,
+    left: &mut Children<'d, 't>,
+) -> Result<Vec<Slot<'d, 't>>, AllocError>
+    ensures block { IfOk result (λ block. map tree_in block.items ++ trees_left left.new ≡ trees_left left.old) }
+    ensures last { IfOk result (λ block. block.items ≡ [] → trees_left left.old ≡ []) }
+{
+    let mut block = Vec::with_capacity(alloc, BLOCK)?;
+    while block.len() < BLOCK {
+        let Some(node) = left.next() else {
+            return Ok(block);
+        };
+        block.push(Slot {
+            node,
+            copper: LayerSet { bits: 0 },
+            draft: None,
+        })?;
+    }
+    Ok(block)
+}
+
+/// The same block, drafted where its parts are many.
+fn drafted_block<'d, 't>(
+    rt: &(impl Threads + Sync),
+    alloc: Global,
+    copper: LayerSet,
+    mut block: Vec<Slot<'d, 't>>,
+) -> Vec<Slot<'d, 't>>
+    ensures { map tree_in result.items ≡ map tree_in block.entry.items }
+{
+    if block.len() < MANY {
+        return block;
+    }
+    draft_all(rt, alloc, copper, &mut block);
+    block
+}
+
+/// Whether the board is as the draft needs it.
+fn holds(board: &Board, copper: LayerSet, draft: &Draft) -> bool
+    ensures { result ≡ true → (board.now.copper ≡ copper) × (is_some (name_of board.now draft.now.net) ≡ true) }
+{
+    board.copper() == copper && board.net_name(draft.net).is_some()
+}
+
+/// Reads one part of the root, by its draft where that holds.
+fn read_slot(
+    alloc: Global,
+    board: &mut Board,
+    layered: &mut bool,
+    slot: Slot<'_, '_>,
+) -> Result<(), BoardError>
+    requires { layered.old ≡ false → board.old.copper.bits ≡ 0 }
+    ensures read { LeavesSome result (record { board = board.new; layered = layered.new }) (SaysPart (record { board = board.old; layered = layered.old }) (tree_in slot.entry)) }
+    ensures unlisted { OnOk result (layered.new ≡ false → board.new.copper.bits ≡ 0) }
+{
+    let node = slot.node;
+    let copper = slot.copper;
+    let maybe = slot.draft;
+    let Some(draft) = maybe else {
+        return read_part(alloc, board, layered, node);
+    };
+    if !holds(board, copper, &draft) {
+        return read_part(alloc, board, layered, node);
+    }
+    let unit = board.next_unit();
+    let answer = item_of(alloc, unit, node, draft);
+    add_one(board, unit, node, answer)
+}
+
+/// Reads the parts of a block one after the other.
+fn read_block(alloc: Global, mut read: Read, block: Vec<Slot<'_, '_>>) -> Result<Read, BoardError>
+    requires { read.layered ≡ false → read.board.copper.bits ≡ 0 }
+    ensures says { GivesReading result (SaysParts (reading_of read) (map tree_in block.entry.items)) }
+    ensures unlisted { IfOk result (λ next. next.layered ≡ false → next.board.copper.bits ≡ 0) }
+{
+    for slot in block {
+        if let Err(error) = read_slot(alloc, &mut read.board, &mut read.layered, slot) {
+            return Err(error);
+        }
+    }
+    Ok(read)
+}
+
+/// Reads all parts of the root.
+pub(crate) fn read_parts_by(
+    rt: &(impl Threads + Sync),
+    alloc: Global,
+    read: Read,
+    root: Node<'_, '_>,
+) -> Result<Read, BoardError>
+    requires { read.layered ≡ false → read.board.copper.bits ≡ 0 }
+    ensures { GivesReading result (SaysParts (reading_of read) (parts (tree_of root.entry))) }
+{
+    let mut left = root.children();
+    let mut so_far = read;
+    'blocks: loop {
+        let block = next_block(alloc, &mut left)?;
+        if block.is_empty() {
+            return Ok(so_far);
+        }
+        let copper = so_far.board.copper();
+        let block = drafted_block(rt, alloc, copper, block);
+        match read_block(alloc, so_far, block) {
+            Err(error) => return Err(error),
+            Ok(read) => so_far = read,
+        }
+    }
+}

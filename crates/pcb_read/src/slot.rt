@@ -1,0 +1,27 @@
+//! A part of the root that waits for its turn.
+
+ghost use Rattle.std.specs.Prelude.{IfSome};
+ghost use Rattle.std.proofs.Props.{props};
+ghost use Rattle.sexpr_read.specs.Views.{tree_of};
+ghost use Rattle.pcb_read.specs.Drafts.{IsDraft};
+
+use crate::drafts::Draft;
+use board_items::Board;
+use copper_layers::LayerSet;
+use sexpr_read::Node;
+
+/// A part of the root, and the draft of its track or via, which holds where the board has these copper layers.
+#[derive(Drop)]
+pub(crate) struct Slot<'d, 't> {
+    pub(crate) node: Node<'d, 't>,
+    pub(crate) copper: LayerSet,
+    pub(crate) draft: Option<Draft>,
+    ghost says: { IfSome draft (IsDraft copper (tree_of node)) } by { Prim.hlevel props },
+}
+
+/// The board so far, and whether its layers were listed.
+#[derive(Drop)]
+pub(crate) struct Read {
+    pub(crate) board: Board,
+    pub(crate) layered: bool,
+}
