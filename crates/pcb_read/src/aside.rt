@@ -1,7 +1,7 @@
 //! The root of a board's text by several threads: the tracks and vias of a block of parts are drafted side by side, and then the parts are
 //! read one after the other.
 
-ghost use Rattle.std.specs.Prelude.{◌≡◌, ◌++◌, [], map, true, false, is_some, IfOk, IfSome, OnOk};
+ghost use Rattle.std.specs.Prelude.{◌≡◌, ◌<◌, ◌++◌, [], map, true, false, is_some, IfOk, IfSome, OnOk};
 ghost use Rattle.sexpr_read.specs.Tree.{parts};
 ghost use Rattle.sexpr_read.specs.Views.{tree_of, trees_left};
 ghost use Rattle.board_items.specs.Boards.{name_of};
@@ -22,6 +22,9 @@ use rayon::prelude::*;
 use sexpr_read::{Children, Node};
 use std::alloc::{AllocError, Global};
 use std::thread::Threads;
+
+/// So many parts are read before any are drafted: the list of layers stands at the front of a board.
+const FRONT: usize = 256;
 
 /// So many parts are drafted before they are read.
 const BLOCK: usize = 8_192;
@@ -71,16 +74,18 @@ fn draft_all(
     );
 }
 
-/// The next parts of the root, none of them drafted; no part where none is left.
+/// The next parts of the root, so many at most, none of them drafted; no part where none is left.
 fn next_block<'d, 't>(
     alloc: Global,
+    most: usize,
     left: &mut Children<'d, 't>,
 ) -> Result<Vec<Slot<'d, 't>>, AllocError>
+    requires { 0 < most }
     ensures block { IfOk result (λ block. map tree_in block.items ++ trees_left left.new ≡ trees_left left.old) }
     ensures last { IfOk result (λ block. block.items ≡ [] → trees_left left.old ≡ []) }
 {
-    let mut block = Vec::with_capacity(alloc, BLOCK)?;
-    while block.len() < BLOCK {
+    let mut block = Vec::with_capacity(alloc, most)?;
+    while block.len() < most {
         let Some(node) = left.next() else {
             return Ok(block);
         };
@@ -93,7 +98,7 @@ fn next_block<'d, 't>(
     Ok(block)
 }
 
-/// The same block, drafted where its parts are many.
+/// The same block, drafted where its parts are many and the board has its layers.
 fn drafted_block<'d, 't>(
     rt: &(impl Threads + Sync),
     alloc: Global,
@@ -102,7 +107,7 @@ fn drafted_block<'d, 't>(
 ) -> Vec<Slot<'d, 't>>
     ensures { map tree_in result.items ≡ map tree_in block.entry.items }
 {
-    if block.len() < MANY {
+    if block.len() < MANY || copper.bits == 0 {
         return block;
     }
     draft_all(rt, alloc, copper, &mut block);
@@ -167,8 +172,9 @@ pub(crate) fn read_parts_by(
 {
     let mut left = root.children();
     let mut so_far = read;
+    let mut most = FRONT;
     'blocks: loop {
-        let block = next_block(alloc, &mut left)?;
+        let block = next_block(alloc, most, &mut left)?;
         if block.is_empty() {
             return Ok(so_far);
         }
@@ -178,5 +184,6 @@ pub(crate) fn read_parts_by(
             Err(error) => return Err(error),
             Ok(read) => so_far = read,
         }
+        most = BLOCK;
     }
 }

@@ -8,4 +8,4 @@ abbrev pub invariant-loop-left : goal.invariant-loop-left
 invariant-loop-left l = map tree_in l.block.items ++ trees_left l.left ≡ trees_left l.initial.left
 
 abbrev pub decreases-loop-left : goal.decreases-loop-left
-decreases-loop-left l = 8192 - vec_len l.block
+decreases-loop-left l = l.most - vec_len l.block

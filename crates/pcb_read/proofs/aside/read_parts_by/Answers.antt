@@ -1,4 +1,4 @@
-use Rattle.std.proofs.Common.{◌≡◌, ◌∙◌, ap, ◌++◌, map, List}
+use Rattle.std.proofs.Common.{◌≡◌, ◌∙◌, ap, arith, ◌++◌, map, List}
 use Rattle.sexpr_read.specs.Tree.{Tree, parts}
 use Rattle.sexpr_read.specs.Views.{tree_of, trees_left}
 use Rattle.pcb_read.specs.Slots.{tree_in, reading_of}
@@ -20,5 +20,6 @@ blocks-2-preserved g c =
     record {
       says = block_read (reading_of c.args.read) (reading_of c.blocks-2.so_far) (reading_of c.in-Ok.read) (parts (tree_of c.args.root)) (trees_left c.blocks-2.left) ts us
           c.blocks-2.invariant.says is c.in-Ok.ensures.says;
+      some = omega arith;
       unlisted = c.in-Ok.ensures.unlisted;
     }

@@ -1,4 +1,4 @@
-use Rattle.std.proofs.Common.{◌≡◌, false, length, Result}
+use Rattle.std.proofs.Common.{◌≡◌, ◌<◌, false, length, Result}
 use Rattle.board_errors.specs.declared.errors.BoardError.{BoardError}
 use Rattle.sexpr_read.specs.Tree.{parts}
 use Rattle.sexpr_read.specs.Views.{tree_of, trees_left}
@@ -11,6 +11,7 @@ abbrev pub invariant-blocks-2 : goal.invariant-blocks-2
 invariant-blocks-2 g l = record {
   says : (answer : Result Reading BoardError) → SaysParts (reading_of l.so_far) (trees_left l.left) answer
       → SaysParts (reading_of l.initial.so_far) (parts (tree_of l.root)) answer;
+  some : 0 < l.most;
   unlisted : l.so_far.layered ≡ false → l.so_far.board.copper.bits ≡ 0;
 }
 
