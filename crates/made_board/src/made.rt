@@ -1,6 +1,7 @@
 //! The text of the generated board.
 
 ghost use Rattle.std.specs.Prelude.{◌≡◌, ◌<◌, ◌≤◌, ◌++◌, ◌+◌, [], length, unsigned_abs, IfOk, OnOk};
+ghost use Rattle.std.specs.Thread.{IsSync};
 ghost use Rattle.exact_dec.specs.Written.{mm_text};
 ghost use Rattle.made_board.specs.MadeBoard.{x_of, y_of, end_of, spot_text, end_text, net_and_stamp, via_line, segment_line, net_line, net_lines, item_lines, made_text};
 
@@ -24,6 +25,9 @@ const ITEM_BYTES: usize = 200;
 
 /// From how many numbers on threads are worth their start.
 const MANY: u32 = 2_000;
+
+/// So many times the numbers are halved where threads write them: four threads do.
+const HALVINGS: u32 = 2;
 
 /// Where a number stands from left to right, in millimetres: from -450 to 447.
 fn x_of(number: u32) -> i32
@@ -190,10 +194,11 @@ fn room_for(alloc: Global, count: u32) -> Result<Vec<u8>, AllocError>
     Vec::with_capacity(alloc, count as usize * ITEM_BYTES)
 }
 
-/// As `with_items`, by two threads.
-fn with_items_by_two(
-    rt: &(impl Threads + Sync),
+/// As `with_items`, the numbers halved so many times, and each half by a thread of its own.
+fn with_halves<R: Threads + Sync>(
+    rt: &R,
     alloc: Global,
+    halvings: u32,
     text: Vec<u8>,
     first: u32,
     count: u32,
@@ -201,49 +206,22 @@ fn with_items_by_two(
     requires { first + count ≤ 90_000 }
     ensures { IfOk result (λ whole. whole.items ≡ text.items ++ item_lines first count) }
 {
+    if halvings == 0 {
+        return with_items(text, first, count);
+    }
     let low = count / 2;
     let high = count - low;
     let rest = room_for(alloc, high)?;
     let (front, back) = join(
         rt,
         move || -> Result<Vec<u8>, AllocError>
-            requires { first + low ≤ 90_000 }
+            requires { IsSync R.row × (0 < halvings) × (first + low ≤ 90_000) }
             ensures { IfOk result (λ whole. whole.items ≡ text.items ++ item_lines first low) }
-        { with_items(text, first, low) },
+        { with_halves(rt, alloc, halvings - 1, text, first, low) },
         move || -> Result<Vec<u8>, AllocError>
-            requires { first + low + high ≤ 90_000 }
+            requires { IsSync R.row × (0 < halvings) × (first + low + high ≤ 90_000) }
             ensures { IfOk result (λ whole. whole.items ≡ rest.items ++ item_lines (first + low) high) }
-        { with_items(rest, first + low, high) },
-    );
-    let mut whole = front?;
-    push_piece(&mut whole, &back?)?;
-    Ok(whole)
-}
-
-/// As `with_items`, by four threads.
-fn with_items_by_four(
-    rt: &(impl Threads + Sync),
-    alloc: Global,
-    text: Vec<u8>,
-    first: u32,
-    count: u32,
-) -> Result<Vec<u8>, AllocError>
-    requires { first + count ≤ 90_000 }
-    ensures { IfOk result (λ whole. whole.items ≡ text.items ++ item_lines first count) }
-{
-    let low = count / 2;
-    let high = count - low;
-    let rest = room_for(alloc, high)?;
-    let (front, back) = join(
-        rt,
-        move || -> Result<Vec<u8>, AllocError>
-            requires { first + low ≤ 90_000 }
-            ensures { IfOk result (λ whole. whole.items ≡ text.items ++ item_lines first low) }
-        { with_items_by_two(rt, alloc, text, first, low) },
-        move || -> Result<Vec<u8>, AllocError>
-            requires { first + low + high ≤ 90_000 }
-            ensures { IfOk result (λ whole. whole.items ≡ rest.items ++ item_lines (first + low) high) }
-        { with_items_by_two(rt, alloc, rest, first + low, high) },
+        { with_halves(rt, alloc, halvings - 1, rest, first + low, high) },
     );
     let mut whole = front?;
     push_piece(&mut whole, &back?)?;
@@ -251,8 +229,8 @@ fn with_items_by_four(
 }
 
 /// As `with_items`: with one worker, or for few numbers, on the thread of the caller, and else by four threads.
-fn with_items_by(
-    rt: &(impl Threads + Sync),
+fn with_items_by<R: Threads + Sync>(
+    rt: &R,
     alloc: Global,
     workers: u32,
     text: Vec<u8>,
@@ -264,7 +242,7 @@ fn with_items_by(
     if workers == 1 || count < MANY {
         with_items(text, 0, count)
     } else {
-        with_items_by_four(rt, alloc, text, 0, count)
+        with_halves(rt, alloc, HALVINGS, text, 0, count)
     }
 }
 

@@ -25,9 +25,7 @@ use Rattle.pcb_read.specs.Sorts.{sort_of}
 use Rattle.pcb_read.specs.ItemsOf.{in_room, SaysItems}
 use Rattle.pcb_read.specs.Drafts.{number_given, net_given, track_draft, via_draft, item_of, item_on, draft_by, IsDraft}
 use Rattle.pcb_read.specs.Tracks.{track_of, via_of}
-
-same_ok : {A B : Type 0} {x y : A} → (let p : Result A B = Ok x in p) ≡ Ok y → x ≡ y
-same_ok h = cc
+use Rattle.pcb_read.proofs.OneReading.{same_ok}
 
 -- ---- nets
 

@@ -40,7 +40,8 @@ pub one_part : (reading : Reading) (tree : Tree) (sort : Option Sort) (a b : Res
 one_part reading tree None a b h k = h ∙ sym k
 one_part reading tree (Some sort) a b h k = h.2 ∙ ap (λ (board : Result PlainBoard BoardError). with_board reading board) (one_with reading.board tree sort h.0 k.0 h.1 k.1) ∙ sym k.2
 
-same_ok : {A B : Type 0} {x y : A} → (let p : Result A B = Ok x in p) ≡ Ok y → x ≡ y
+-- what is given is one
+pub same_ok : {A B : Type 0} {x y : A} → (let p : Result A B = Ok x in p) ≡ Ok y → x ≡ y
 same_ok h = cc
 
 same_err : {A B : Type 0} {x y : B} → (let p : Result A B = Err x in p) ≡ Err y → x ≡ y

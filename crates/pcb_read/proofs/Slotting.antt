@@ -17,6 +17,7 @@ use Rattle.pcb_read.specs.ItemsOf.{in_room}
 use Rattle.pcb_read.specs.BoardOf.{Reading, with_found, SaysWith, SaysPart, SaysParts}
 use Rattle.pcb_read.specs.Drafts.{item_of, draft_by, IsDraft}
 use Rattle.pcb_read.specs.Slots.{tree_in, AreSame}
+use Rattle.pcb_read.proofs.OneReading.{same_ok}
 use Rattle.pcb_read.proofs.Drafting.{said_by}
 use Rattle.pcb_read.proofs.Parting.{part_says}
 
@@ -63,9 +64,6 @@ slot_says reading unit tree copper draft answer r new own drafted same known giv
 
 -- ---- one after the other
 
-same_ok : {A B : Type 0} {x y : A} → (let p : Result A B = Ok x in p) ≡ Ok y → x ≡ y
-same_ok h = cc
-
 -- what parts say, and others behind them
 parts_behind : (ts us : List Tree) (start now : Reading) (answer : Result Reading BoardError) → SaysParts start ts (Ok now) → SaysParts now us answer → SaysParts start (ts ++ us) answer
 parts_behind [] us start now answer h k = subst (λ (r : Reading). SaysParts r us answer) (same_ok h) k
@@ -100,3 +98,8 @@ pub block_read : (start now next : Reading) (all left ts us : List Tree)
     → SaysParts now ts (Ok next) → (answer : Result Reading BoardError) → SaysParts next us answer → SaysParts start all answer
 block_read start now next all left ts us says is read answer h =
     says answer (subst (λ (parts : List Tree). SaysParts now parts answer) is (parts_behind ts us now next answer read h))
+
+-- behind an empty block nothing is left
+pub none_left : (block : List Slot) (left before : List Tree) → map tree_in block ++ left ≡ before → (block ≡ [] → before ≡ []) → map tree_in block ≡ [] → left ≡ []
+none_left [] left before is last none = is ∙ last refl
+none_left (slot ∷ rest) left before is last none = absurd cc

@@ -1,7 +1,5 @@
 -- Parts of the root that are read in blocks.
-use Rattle.std.specs.Prelude.{◌≡◌, ◌⊎◌, ◌<◌, ℕ, List, length, slice_index_or, Result, Ok, Err}
-use Rattle.board_errors.specs.declared.errors.BoardError.{BoardError}
-use Rattle.board_errors.specs.declared.errors.BoardError.TheVariants.{OutOfMemory}
+use Rattle.std.specs.Prelude.{◌≡◌, ◌<◌, ℕ, List, length, slice_index_or}
 use Rattle.sexpr_read.specs.Tree.{Tree}
 use Rattle.sexpr_read.specs.Views.{tree_of}
 use Rattle.pcb_read.specs.BoardOf.{Reading}
@@ -20,8 +18,3 @@ pub record AreSame (old new : List Slot) : Type 0 where
 -- what was read so far
 abbrev pub reading_of : Read → Reading
 reading_of read = record { board = read.board; layered = read.layered }
-
--- the call gives what is said so far, or such a refusal, unless memory ran out
-abbrev pub GivesReading : Result Read BoardError → (Result Reading BoardError → Type 0) → Type 0
-GivesReading (Ok read) Says = Says (Ok (reading_of read))
-GivesReading (Err e) Says = (e ≡ OutOfMemory) ⊎ Says (Err e)

@@ -1,5 +1,5 @@
-//! The root of a board's text by several threads: the tracks and vias of a block of parts are drafted side by side, and then the parts are
-//! read one after the other.
+//! The root of a board's text by several threads: the tracks and vias of a block of parts are drafted side by side while the parts of the
+//! block before it are read one after the other.
 
 ghost use Rattle.std.specs.Prelude.{◌≡◌, ◌<◌, ◌++◌, [], map, true, false, is_some, IfOk, IfSome, OnOk};
 ghost use Rattle.sexpr_read.specs.Tree.{parts};
@@ -8,7 +8,7 @@ ghost use Rattle.board_items.specs.Boards.{name_of};
 ghost use Rattle.pcb_read.specs.Answers.{LeavesSome};
 ghost use Rattle.pcb_read.specs.BoardOf.{SaysPart, SaysParts};
 ghost use Rattle.pcb_read.specs.Drafts.{IsDraft};
-ghost use Rattle.pcb_read.specs.Slots.{tree_in, AreSame, reading_of, GivesReading};
+ghost use Rattle.pcb_read.specs.Slots.{tree_in, AreSame, reading_of};
 
 use crate::adding::add_one;
 use crate::drafts::{Draft, item_of};
@@ -21,7 +21,8 @@ use copper_layers::LayerSet;
 use rayon::prelude::*;
 use sexpr_read::{Children, Node};
 use std::alloc::{AllocError, Global};
-use std::thread::Threads;
+use std::mem::replace;
+use std::thread::{Threads, join_mut};
 
 /// So many parts are read before any are drafted: the list of layers stands at the front of a board.
 const FRONT: usize = 256;
@@ -44,7 +45,7 @@ fn draft_of(alloc: Global, copper: LayerSet, node: Node<'_, '_>) -> Option<Draft
 }
 
 /// The same part, drafted.
-fn drafted<'d, 't>(alloc: Global, copper: LayerSet, node: Node<'d, 't>) -> Slot<'d, 't>
+fn drafted<'d>(alloc: Global, copper: LayerSet, node: Node<'d, 'd>) -> Slot<'d>
     ensures { tree_in result ≡ tree_of node.entry }
 {
     Slot {
@@ -55,18 +56,13 @@ fn drafted<'d, 't>(alloc: Global, copper: LayerSet, node: Node<'d, 't>) -> Slot<
 }
 
 /// Drafts all parts of a block, by as many threads as there are processors.
-fn draft_all(
-    rt: &(impl Threads + Sync),
-    alloc: Global,
-    copper: LayerSet,
-    block: &mut [Slot<'_, '_>],
-)
+fn draft_all(rt: &(impl Threads + Sync), alloc: Global, copper: LayerSet, block: &mut [Slot<'_>])
     ensures { AreSame block.old block.new }
 {
     par_for_each_mut(
         rt,
         block,
-        |_: usize, slot: &mut Slot<'_, '_>|
+        |_: usize, slot: &mut Slot<'_>|
             ensures { tree_in slot.new ≡ tree_in slot.old }
         {
             *slot = drafted(alloc, copper, slot.node);
@@ -75,11 +71,11 @@ fn draft_all(
 }
 
 /// The next parts of the root, so many at most, none of them drafted; no part where none is left.
-fn next_block<'d, 't>(
+fn next_block<'d>(
     alloc: Global,
     most: usize,
-    left: &mut Children<'d, 't>,
-) -> Result<Vec<Slot<'d, 't>>, AllocError>
+    left: &mut Children<'d, 'd>,
+) -> Result<Vec<Slot<'d>>, AllocError>
     requires { 0 < most }
     ensures block { IfOk result (λ block. map tree_in block.items ++ trees_left left.new ≡ trees_left left.old) }
     ensures last { IfOk result (λ block. block.items ≡ [] → trees_left left.old ≡ []) }
@@ -99,12 +95,12 @@ fn next_block<'d, 't>(
 }
 
 /// The same block, drafted where its parts are many and the board has its layers.
-fn drafted_block<'d, 't>(
+fn drafted_block<'d>(
     rt: &(impl Threads + Sync),
     alloc: Global,
     copper: LayerSet,
-    mut block: Vec<Slot<'d, 't>>,
-) -> Vec<Slot<'d, 't>>
+    mut block: Vec<Slot<'d>>,
+) -> Vec<Slot<'d>>
     ensures { map tree_in result.items ≡ map tree_in block.entry.items }
 {
     if block.len() < MANY || copper.bits == 0 {
@@ -126,7 +122,7 @@ fn read_slot(
     alloc: Global,
     board: &mut Board,
     layered: &mut bool,
-    slot: Slot<'_, '_>,
+    slot: Slot<'_>,
 ) -> Result<(), BoardError>
     requires { layered.old ≡ false → board.old.copper.bits ≡ 0 }
     ensures read { LeavesSome result (record { board = board.new; layered = layered.new }) (SaysPart (record { board = board.old; layered = layered.old }) (tree_in slot.entry)) }
@@ -146,44 +142,81 @@ fn read_slot(
     add_one(board, unit, node, answer)
 }
 
-/// Reads the parts of a block one after the other.
-fn read_block(alloc: Global, mut read: Read, block: Vec<Slot<'_, '_>>) -> Result<Read, BoardError>
-    requires { read.layered ≡ false → read.board.copper.bits ≡ 0 }
-    ensures says { GivesReading result (SaysParts (reading_of read) (map tree_in block.entry.items)) }
-    ensures unlisted { IfOk result (λ next. next.layered ≡ false → next.board.copper.bits ≡ 0) }
+/// Reads the parts of a block one after the other, and leaves none.
+fn read_block(alloc: Global, read: &mut Read, block: &mut Vec<Slot<'_>>) -> Result<(), BoardError>
+    requires { read.old.layered ≡ false → read.old.board.copper.bits ≡ 0 }
+    ensures says { LeavesSome result (reading_of read.new) (SaysParts (reading_of read.old) (map tree_in block.old.items)) }
+    ensures unlisted { OnOk result (read.new.layered ≡ false → read.new.board.copper.bits ≡ 0) }
 {
-    for slot in block {
+    for slot in replace(block, Vec::new(alloc)) {
         if let Err(error) = read_slot(alloc, &mut read.board, &mut read.layered, slot) {
             return Err(error);
         }
     }
-    Ok(read)
+    Ok(())
+}
+
+/// Reads a block, and drafts the parts of the next by other threads meanwhile.
+fn read_and_draft(
+    rt: &(impl Threads + Sync),
+    alloc: Global,
+    read: &mut Read,
+    mut block: Vec<Slot<'_>>,
+    next: &mut [Slot<'_>],
+) -> Result<(), BoardError>
+    requires { read.old.layered ≡ false → read.old.board.copper.bits ≡ 0 }
+    ensures says { LeavesSome result (reading_of read.new) (SaysParts (reading_of read.old) (map tree_in block.entry.items)) }
+    ensures unlisted { OnOk result (read.new.layered ≡ false → read.new.board.copper.bits ≡ 0) }
+    ensures next { AreSame next.old next.new }
+{
+    let copper = read.board.copper();
+    let (answer, ()) = join_mut(
+        rt,
+        &mut || read_block(alloc, read, &mut block),
+        &mut || draft_all(rt, alloc, copper, next),
+    );
+    answer
+}
+
+/// Reads a block, and gives the next, drafted where its parts are many: meanwhile, or behind a block that may list the layers.
+fn read_before<'d>(
+    rt: &(impl Threads + Sync),
+    alloc: Global,
+    read: &mut Read,
+    mut block: Vec<Slot<'_>>,
+    mut next: Vec<Slot<'d>>,
+) -> Result<Vec<Slot<'d>>, BoardError>
+    requires { read.old.layered ≡ false → read.old.board.copper.bits ≡ 0 }
+    ensures says { LeavesSome result (reading_of read.new) (SaysParts (reading_of read.old) (map tree_in block.entry.items)) }
+    ensures unlisted { OnOk result (read.new.layered ≡ false → read.new.board.copper.bits ≡ 0) }
+    ensures next { IfOk result (λ drafted. map tree_in drafted.items ≡ map tree_in next.entry.items) }
+{
+    if next.len() < MANY || read.board.copper().bits == 0 {
+        read_block(alloc, read, &mut block)?;
+        return Ok(drafted_block(rt, alloc, read.board.copper(), next));
+    }
+    read_and_draft(rt, alloc, read, block, next.as_mut_slice())?;
+    Ok(next)
 }
 
 /// Reads all parts of the root.
-pub(crate) fn read_parts_by(
+pub(crate) fn read_parts_by<'d>(
     rt: &(impl Threads + Sync),
     alloc: Global,
-    read: Read,
-    root: Node<'_, '_>,
-) -> Result<Read, BoardError>
-    requires { read.layered ≡ false → read.board.copper.bits ≡ 0 }
-    ensures { GivesReading result (SaysParts (reading_of read) (parts (tree_of root.entry))) }
+    read: &mut Read,
+    root: Node<'d, 'd>,
+) -> Result<(), BoardError>
+    requires { read.old.layered ≡ false → read.old.board.copper.bits ≡ 0 }
+    ensures { LeavesSome result (reading_of read.new) (SaysParts (reading_of read.old) (parts (tree_of root.entry))) }
 {
     let mut left = root.children();
-    let mut so_far = read;
-    let mut most = FRONT;
-    'blocks: loop {
-        let block = next_block(alloc, most, &mut left)?;
-        if block.is_empty() {
-            return Ok(so_far);
-        }
-        let copper = so_far.board.copper();
-        let block = drafted_block(rt, alloc, copper, block);
-        match read_block(alloc, so_far, block) {
+    let mut block = next_block(alloc, FRONT, &mut left)?;
+    'blocks: while !block.is_empty() {
+        let next = next_block(alloc, BLOCK, &mut left)?;
+        match read_before(rt, alloc, read, block, next) {
             Err(error) => return Err(error),
-            Ok(read) => so_far = read,
+            Ok(drafted) => block = drafted,
         }
-        most = BLOCK;
     }
+    Ok(())
 }

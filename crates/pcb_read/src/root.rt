@@ -265,9 +265,11 @@ pub(crate) fn board_by(
 ) -> Result<Board, BoardError>
     ensures { MatchResult result (λ board. SaysBoard (tree_of root.entry) (Ok board)) (λ e. (e ≡ BoardError.OutOfMemory) ⊎ SaysBoard (tree_of root.entry) (Err e)) }
 {
-    let board = new_board(alloc, root)?;
-    let layered = false;
-    let read = read_parts_by(rt, alloc, Read { board, layered }, root)?;
+    let mut read = Read {
+        board: new_board(alloc, root)?,
+        layered: false,
+    };
+    read_parts_by(rt, alloc, &mut read, root)?;
     if read.layered {
         Ok(read.board)
     } else {

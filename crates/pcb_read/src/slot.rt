@@ -10,10 +10,11 @@ use board_items::Board;
 use copper_layers::LayerSet;
 use sexpr_read::Node;
 
-/// A part of the root, and the draft of its track or via, which holds where the board has these copper layers.
+/// A part of the root, and the draft of its track or via, which holds where the board has these copper layers. It has one lifetime for
+/// those of the tree and of its text: with two, no closure could be lent a block of them.
 #[derive(Drop)]
-pub(crate) struct Slot<'d, 't> {
-    pub(crate) node: Node<'d, 't>,
+pub(crate) struct Slot<'d> {
+    pub(crate) node: Node<'d, 'd>,
     pub(crate) copper: LayerSet,
     pub(crate) draft: Option<Draft>,
     ghost says: { IfSome draft (IsDraft copper (tree_of node)) } by { Prim.hlevel props },
