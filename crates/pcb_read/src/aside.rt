@@ -142,7 +142,7 @@ fn read_slot(
     add_one(board, unit, node, answer)
 }
 
-/// Reads the parts of a block one after the other, and leaves none.
+/// Takes the parts out of a block, and reads them one after the other.
 fn read_block(alloc: Global, read: &mut Read, block: &mut Vec<Slot<'_>>) -> Result<(), BoardError>
     requires { read.old.layered ≡ false → read.old.board.copper.bits ≡ 0 }
     ensures says { LeavesSome result (reading_of read.new) (SaysParts (reading_of read.old) (map tree_in block.old.items)) }

@@ -11,7 +11,7 @@ use copper_layers::LayerSet;
 use sexpr_read::Node;
 
 /// A part of the root, and the draft of its track or via, which holds where the board has these copper layers. It has one lifetime for
-/// those of the tree and of its text: with two, no closure could be lent a block of them.
+/// those of the tree and of its text: with two, no function was proved that joins a closure which is lent such parts.
 #[derive(Drop)]
 pub(crate) struct Slot<'d> {
     pub(crate) node: Node<'d, 'd>,
