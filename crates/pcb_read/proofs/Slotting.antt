@@ -41,6 +41,16 @@ whole n old new same count =
     let none : drop (length new) old ≡ [] = drop_all (length new) old (omega (arith, long)) in
     ap (map tree_in) (ap (λ (others : List Slot). take n (new ++ others)) none ∙ (ap (take n) (append-nil new) ∙ take_all n new (omega (arith, long, count)))) ∙ same_trees old new same
 
+no_part : (block : List Slot) → map tree_in block ≡ [] → block ≡ []
+no_part [] none = refl
+no_part (slot ∷ rest) none = absurd cc
+
+-- a block that was drafted is the next still
+pub still_next : (old new : List Slot) (left trees : List Tree) → map tree_in new ≡ map tree_in old → map tree_in old ++ left ≡ trees → (old ≡ [] → trees ≡ [])
+    → (map tree_in new ++ left ≡ trees) × (new ≡ [] → trees ≡ [])
+still_next old new left trees same is last =
+    (ap (λ (block : List Tree). block ++ left) same ∙ is, λ none. last (no_part old (sym same ∙ ap (map tree_in) none)))
+
 -- ---- a part that is read by its draft
 
 leaves : {A : Type 0} {P Q : Result A BoardError → Type 0} (r : Result (Unit {0}) BoardError) (new : A) → ((answer : Result A BoardError) → P answer → Q answer) → LeavesSome r new P → LeavesSome r new Q
@@ -85,21 +95,15 @@ part_refused start now all parts t ts e says is (inr h) =
     inr (says (Err e) (subst (λ (left : List Tree). SaysParts now left (Err e)) (sym is) (inr (e, h, refl))))
 
 -- a block that is refused, of what was left
-pub block_refused : (start now : Reading) (all left ts us : List Tree) (e : BoardError)
-    → ((answer : Result Reading BoardError) → SaysParts now left answer → SaysParts start all answer) → ts ++ us ≡ left
+pub block_refused : (start now : Reading) (all ts left : List Tree) (e : BoardError)
+    → ((answer : Result Reading BoardError) → SaysParts now (ts ++ left) answer → SaysParts start all answer)
     → (e ≡ OutOfMemory) ⊎ SaysParts now ts (Err e) → (e ≡ OutOfMemory) ⊎ SaysParts start all (Err e)
-block_refused start now all left ts us e says is (inl gone) = inl gone
-block_refused start now all left ts us e says is (inr h) =
-    inr (says (Err e) (subst (λ (parts : List Tree). SaysParts now parts (Err e)) is (parts_refused ts us now e h)))
+block_refused start now all ts left e says (inl gone) = inl gone
+block_refused start now all ts left e says (inr h) = inr (says (Err e) (parts_refused ts left now e h))
 
--- a block that was read, of what was left
-pub block_read : (start now next : Reading) (all left ts us : List Tree)
-    → ((answer : Result Reading BoardError) → SaysParts now left answer → SaysParts start all answer) → ts ++ us ≡ left
-    → SaysParts now ts (Ok next) → (answer : Result Reading BoardError) → SaysParts next us answer → SaysParts start all answer
-block_read start now next all left ts us says is read answer h =
-    says answer (subst (λ (parts : List Tree). SaysParts now parts answer) is (parts_behind ts us now next answer read h))
-
--- behind an empty block nothing is left
-pub none_left : (block : List Slot) (left before : List Tree) → map tree_in block ++ left ≡ before → (block ≡ [] → before ≡ []) → map tree_in block ≡ [] → left ≡ []
-none_left [] left before is last none = is ∙ last refl
-none_left (slot ∷ rest) left before is last none = absurd cc
+-- a block that was read, and what is ahead then
+pub block_read : (start now next : Reading) (all ts left ahead : List Tree)
+    → ((answer : Result Reading BoardError) → SaysParts now (ts ++ left) answer → SaysParts start all answer) → ahead ≡ left
+    → SaysParts now ts (Ok next) → (answer : Result Reading BoardError) → SaysParts next ahead answer → SaysParts start all answer
+block_read start now next all ts left ahead says is read answer h =
+    says answer (parts_behind ts left now next answer read (subst (λ (trees : List Tree). SaysParts next trees answer) is h))

@@ -1,5 +1,5 @@
-//! The root of a board's text by several threads: the tracks and vias of a block of parts are drafted side by side while the parts of the
-//! block before it are read one after the other.
+//! The root of a board's text by several threads: the parts of a block are taken off the root, and their tracks and vias drafted side by
+//! side, while the parts of the block before it are read one after the other.
 
 ghost use Rattle.std.specs.Prelude.{◌≡◌, ◌<◌, ◌++◌, [], map, true, false, is_some, IfOk, IfSome, OnOk};
 ghost use Rattle.sexpr_read.specs.Tree.{parts};
@@ -8,12 +8,12 @@ ghost use Rattle.board_items.specs.Boards.{name_of};
 ghost use Rattle.pcb_read.specs.Answers.{LeavesSome};
 ghost use Rattle.pcb_read.specs.BoardOf.{SaysPart, SaysParts};
 ghost use Rattle.pcb_read.specs.Drafts.{IsDraft};
-ghost use Rattle.pcb_read.specs.Slots.{tree_in, AreSame, reading_of};
+ghost use Rattle.pcb_read.specs.Slots.{tree_in, AreSame, IsNext, reading_of};
 
 use crate::adding::add_one;
 use crate::drafts::{Draft, item_of};
 use crate::root::read_part;
-use crate::slot::{Read, Slot};
+use crate::slot::{Ahead, Read, Slot};
 use crate::sorts::{Sort, sort_of};
 use crate::tracks::{track_draft, via_draft};
 use board_items::{Board, BoardError};
@@ -94,20 +94,21 @@ fn next_block<'d>(
     Ok(block)
 }
 
-/// The same block, drafted where its parts are many and the board has its layers.
-fn drafted_block<'d>(
+/// Puts the next parts ahead, drafted where they are many and the board has its layers.
+fn draft_next(
     rt: &(impl Threads + Sync),
     alloc: Global,
     copper: LayerSet,
-    mut block: Vec<Slot<'d>>,
-) -> Vec<Slot<'d>>
-    ensures { map tree_in result.items ≡ map tree_in block.entry.items }
+    ahead: &mut Ahead<'_>,
+) -> Result<(), AllocError>
+    ensures { OnOk result (IsNext (trees_left ahead.old.left) ahead.new) }
 {
-    if block.len() < MANY || copper.bits == 0 {
-        return block;
+    ahead.block = next_block(alloc, BLOCK, &mut ahead.left)?;
+    if ahead.block.len() < MANY || copper.bits == 0 {
+        return Ok(());
     }
-    draft_all(rt, alloc, copper, &mut block);
-    block
+    draft_all(rt, alloc, copper, &mut ahead.block);
+    Ok(())
 }
 
 /// Whether the board is as the draft needs it.
@@ -156,47 +157,51 @@ fn read_block(alloc: Global, read: &mut Read, block: &mut Vec<Slot<'_>>) -> Resu
     Ok(())
 }
 
-/// Reads a block, and drafts the parts of the next by other threads meanwhile.
+/// Reads a block, and puts the next ahead by other threads meanwhile.
 fn read_and_draft(
     rt: &(impl Threads + Sync),
     alloc: Global,
     read: &mut Read,
     mut block: Vec<Slot<'_>>,
-    next: &mut [Slot<'_>],
+    ahead: &mut Ahead<'_>,
 ) -> Result<(), BoardError>
     requires { read.old.layered ≡ false → read.old.board.copper.bits ≡ 0 }
     ensures says { LeavesSome result (reading_of read.new) (SaysParts (reading_of read.old) (map tree_in block.entry.items)) }
     ensures unlisted { OnOk result (read.new.layered ≡ false → read.new.board.copper.bits ≡ 0) }
-    ensures next { AreSame next.old next.new }
+    ensures next { OnOk result (IsNext (trees_left ahead.old.left) ahead.new) }
 {
     let copper = read.board.copper();
-    let (answer, ()) = join_mut(
+    let (answer, drafted) = join_mut(
         rt,
         &mut || read_block(alloc, read, &mut block),
-        &mut || draft_all(rt, alloc, copper, next),
+        &mut || draft_next(rt, alloc, copper, ahead),
     );
+    // What the text is refused for comes first, as with one worker.
+    if answer.is_ok() {
+        drafted?;
+    }
     answer
 }
 
-/// Reads a block, and gives the next, drafted where its parts are many: meanwhile, or behind a block that may list the layers.
-fn read_before<'d>(
+/// Reads the block that is ahead, and puts the next ahead: meanwhile, or behind the front, which may list the layers.
+fn read_next(
     rt: &(impl Threads + Sync),
     alloc: Global,
     read: &mut Read,
-    mut block: Vec<Slot<'_>>,
-    mut next: Vec<Slot<'d>>,
-) -> Result<Vec<Slot<'d>>, BoardError>
+    ahead: &mut Ahead<'_>,
+) -> Result<(), BoardError>
     requires { read.old.layered ≡ false → read.old.board.copper.bits ≡ 0 }
-    ensures says { LeavesSome result (reading_of read.new) (SaysParts (reading_of read.old) (map tree_in block.entry.items)) }
+    ensures says { LeavesSome result (reading_of read.new) (SaysParts (reading_of read.old) (map tree_in ahead.old.block.items)) }
     ensures unlisted { OnOk result (read.new.layered ≡ false → read.new.board.copper.bits ≡ 0) }
-    ensures next { IfOk result (λ drafted. map tree_in drafted.items ≡ map tree_in next.entry.items) }
+    ensures next { OnOk result (IsNext (trees_left ahead.old.left) ahead.new) }
 {
-    if next.len() < MANY || read.board.copper().bits == 0 {
-        read_block(alloc, read, &mut block)?;
-        return Ok(drafted_block(rt, alloc, read.board.copper(), next));
+    let mut block = replace(&mut ahead.block, Vec::new(alloc));
+    if block.len() == BLOCK {
+        return read_and_draft(rt, alloc, read, block, ahead);
     }
-    read_and_draft(rt, alloc, read, block, next.as_mut_slice())?;
-    Ok(next)
+    read_block(alloc, read, &mut block)?;
+    draft_next(rt, alloc, read.board.copper(), ahead)?;
+    Ok(())
 }
 
 /// Reads all parts of the root.
@@ -210,12 +215,11 @@ pub(crate) fn read_parts_by<'d>(
     ensures { LeavesSome result (reading_of read.new) (SaysParts (reading_of read.old) (parts (tree_of root.entry))) }
 {
     let mut left = root.children();
-    let mut block = next_block(alloc, FRONT, &mut left)?;
-    'blocks: while !block.is_empty() {
-        let next = next_block(alloc, BLOCK, &mut left)?;
-        match read_before(rt, alloc, read, block, next) {
-            Err(error) => return Err(error),
-            Ok(drafted) => block = drafted,
+    let block = next_block(alloc, FRONT, &mut left)?;
+    let mut ahead = Ahead { block, left };
+    'blocks: while !ahead.block.is_empty() {
+        if let Err(error) = read_next(rt, alloc, read, &mut ahead) {
+            return Err(error);
         }
     }
     Ok(())

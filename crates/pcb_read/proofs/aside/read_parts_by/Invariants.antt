@@ -1,19 +1,19 @@
-use Rattle.std.proofs.Common.{◌≡◌, [], ◌++◌, false, length, map, Result}
+use Rattle.std.proofs.Common.{◌≡◌, [], false, length, Result}
 use Rattle.board_errors.specs.declared.errors.BoardError.{BoardError}
 use Rattle.sexpr_read.specs.Tree.{parts}
-use Rattle.sexpr_read.specs.Views.{tree_of, trees_left}
+use Rattle.sexpr_read.specs.Views.{tree_of}
 use Rattle.pcb_read.specs.BoardOf.{Reading, SaysParts}
-use Rattle.pcb_read.specs.Slots.{tree_in, reading_of}
+use Rattle.pcb_read.specs.Slots.{trees_ahead, reading_of}
 use Rattle.pcb_read.proofs.aside.read_parts_by.Given as goal
 
--- what is left says after what was read so far, all parts say; an empty block is the last
+-- what is ahead says after what was read so far, all parts say; an empty block is the last
 abbrev pub invariant-blocks-2 : goal.invariant-blocks-2
 invariant-blocks-2 g l = record {
-  says : (answer : Result Reading BoardError) → SaysParts (reading_of l.read) (map tree_in l.block.items ++ trees_left l.left) answer
+  says : (answer : Result Reading BoardError) → SaysParts (reading_of l.read) (trees_ahead l.ahead) answer
       → SaysParts (reading_of l.initial.read) (parts (tree_of l.root)) answer;
-  last : map tree_in l.block.items ≡ [] → trees_left l.left ≡ [];
+  last : l.ahead.block.items ≡ [] → trees_ahead l.ahead ≡ [];
   unlisted : l.read.layered ≡ false → l.read.board.copper.bits ≡ 0;
 }
 
 abbrev pub decreases-blocks-2 : goal.decreases-blocks-2
-decreases-blocks-2 g l = length (map tree_in l.block.items ++ trees_left l.left)
+decreases-blocks-2 g l = length (trees_ahead l.ahead)
