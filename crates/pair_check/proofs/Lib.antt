@@ -7,4 +7,4 @@ pub mod NearPicks
 pub mod AskedKinds
 pub mod EnoughAlone
 pub mod SameRow
-pub mod IdlePairs
+pub mod PassedKinds

@@ -40,6 +40,9 @@ module _ (d : Deciders) (pair : Pair) where
   pub breaks_near : (kind : Kind) (row : PlainRow) → family kind ≡ Keeps → SaysNear d kind pair row → Breaks d kind pair row
   breaks_near kind row e says = subst (λ (f : Family). BreaksBy f d kind pair row) (sym e) says
 
+  pub says_meeting : (kind : Kind) (row : PlainRow) → family kind ≡ Meets → Breaks d kind pair row → SaysMeeting d kind pair row
+  says_meeting kind row e broken = subst (λ (f : Family). BreaksBy f d kind pair row) e broken
+
   pub says_near : (kind : Kind) (row : PlainRow) → family kind ≡ Keeps → Breaks d kind pair row → SaysNear d kind pair row
   says_near kind row e broken = subst (λ (f : Family). BreaksBy f d kind pair row) e broken
 
@@ -76,7 +79,16 @@ module _ (d : Deciders) (pair : Pair) (first second : ℕ) where
       let says = says_near d pair kind row m (subst (λ (l : Kind). Breaks d l pair row) h.kind_is h.is.broken) in
       nothing.none pair row.layer says.where_first.holds) r
 
-  -- the pair is not compared for the kind
+  -- the pair is not compared for the kind, which asks that two do not meet
+  pub pair_unmet : (kind : Kind) (rows : List PlainRow) → family kind ≡ Meets → is_compared kind pair.a pair.b ≡ false → AreRowsBelow (IsOfPair d pair first second) (kind_number kind) rows
+      → AreRowsBelow (IsOfPair d pair first second) (kind_number kind + 1) rows
+  pair_unmet kind rows m other r =
+      pair_without kind rows
+      (λ row h.
+      let says = says_meeting d pair kind row m (subst (λ (l : Kind). Breaks d l pair row) h.kind_is h.is.broken) in
+      unlike (is_compared kind pair.a pair.b) other says.compared) r
+
+  -- or for the kind, which asks for a distance
   pub pair_uncompared : (kind : Kind) (rows : List PlainRow) → family kind ≡ Keeps → is_compared kind pair.a pair.b ≡ false → AreRowsBelow (IsOfPair d pair first second) (kind_number kind) rows
       → AreRowsBelow (IsOfPair d pair first second) (kind_number kind + 1) rows
   pair_uncompared kind rows m other r =

@@ -7,4 +7,4 @@ pub mod Rows
 pub mod Views
 pub mod Stages
 pub mod SameRows
-pub mod Idle
+pub mod Coppers

@@ -6,10 +6,10 @@
 mod alone;
 mod asked;
 mod found;
-mod idle;
 pub mod laws;
 mod pair;
 mod pair_rows;
+mod passed;
 mod row;
 mod same;
 mod single;

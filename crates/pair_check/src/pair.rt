@@ -17,8 +17,8 @@ ghost use Rattle.pair_check.specs.Stages.{pair_of, IsNear, IsOfPair, IsOfKind, A
 
 use crate::asked::{ANYTHING, Asked};
 use crate::found::{Near, Pair, Single};
-use crate::idle::is_idle;
 use crate::pair_rows::PairRows;
+use crate::passed::{are_copper, have_holes};
 use crate::row::{Row, counts};
 use crate::single::single_at;
 use crate::steps::Steps;
@@ -26,7 +26,7 @@ use crate::view::CheckView;
 use cond_lang::{Kind, Severity};
 use kind_subjects::{
     RowLayer, facings_at, first_meeting, gap_if_near, is_compared, may_face, places_between,
-    tried_at,
+    share_net, tried_at,
 };
 use rule_pick::{Source, pick};
 use std::alloc::Global;
@@ -181,7 +181,7 @@ fn add_near(
     }
 }
 
-/// Appends the row of a short, or those of a clearance and of that of a hole, whose place it takes.
+/// Appends the row of a short, or those of a clearance and of that of a hole, whose place it takes. What is of one net may meet.
 fn add_of_nets(
     view: &CheckView,
     asked: Asked,
@@ -198,6 +198,9 @@ fn add_of_nets(
     ensures rows { AreRowsBelow (IsOfPair (deciders_of view.now) (pair_of pair.entry) first second) 4 rows.new }
     ensures count { length rows.new ≤ 2 }
 {
+    if share_net(pair.a, pair.b) {
+        return;
+    }
     match meeting_row(view, Kind::Short, first, second, pair) {
         Some(row) => rows.push(row),
         None => {
@@ -228,8 +231,8 @@ fn add_keepout(view: &CheckView, first: u32, second: u32, pair: Pair<'_>, rows: 
     }
 }
 
-/// The rows of the pair, in a list that had none.
-fn add_all(
+/// Appends the row of two holes.
+fn add_of_holes(
     view: &CheckView,
     asked: Asked,
     first: u32,
@@ -240,22 +243,44 @@ fn add_all(
     requires few { length view.now.rules.now < 4294967295 }
     requires asked { IsNoteOf (deciders_of view.now) asked }
     requires ordered { first < second }
-    requires none { rows.old ≡ [] }
-    ensures { AreRowsWhere (IsOfPair (deciders_of view.now) (pair_of pair.entry) first second) rows.new }
+    requires room { length rows.old < 8 }
+    requires below { AreRowsBelow (IsOfPair (deciders_of view.now) (pair_of pair) first second) 4 rows.old }
+    ensures rows { AreRowsBelow (IsOfPair (deciders_of view.now) (pair_of pair.entry) first second) 5 rows.new }
+    ensures count { length rows.new ≤ length rows.old + 1 }
 {
-    if is_idle(asked, pair.a, pair.b) {
+    if have_holes(pair.a, pair.b) {
+        add_near(
+            view,
+            asked.hole_to_hole,
+            Kind::HoleToHole,
+            first,
+            second,
+            pair,
+            rows,
+        );
+    }
+}
+
+/// Appends the rows of an edge, of two courtyards and of an area that keeps the other item out. Two pieces of copper have none.
+fn add_of_outlines(
+    view: &CheckView,
+    asked: Asked,
+    first: u32,
+    second: u32,
+    pair: Pair<'_>,
+    rows: &mut PairRows,
+)
+    requires few { length view.now.rules.now < 4294967295 }
+    requires asked { IsNoteOf (deciders_of view.now) asked }
+    requires ordered { first < second }
+    requires room { length rows.old < 6 }
+    requires below { AreRowsBelow (IsOfPair (deciders_of view.now) (pair_of pair) first second) 5 rows.old }
+    ensures rows { AreRowsBelow (IsOfPair (deciders_of view.now) (pair_of pair.entry) first second) 8 rows.new }
+    ensures count { length rows.new ≤ length rows.old + 3 }
+{
+    if are_copper(pair.a, pair.b) {
         return;
     }
-    add_of_nets(view, asked, first, second, pair, rows);
-    add_near(
-        view,
-        asked.hole_to_hole,
-        Kind::HoleToHole,
-        first,
-        second,
-        pair,
-        rows,
-    );
     add_near(
         view,
         asked.edge_clearance,
@@ -275,6 +300,27 @@ fn add_all(
         rows,
     );
     add_keepout(view, first, second, pair, rows);
+}
+
+/// Appends the rows of physical distances, which rules alone ask for.
+fn add_physical(
+    view: &CheckView,
+    asked: Asked,
+    first: u32,
+    second: u32,
+    pair: Pair<'_>,
+    rows: &mut PairRows,
+)
+    requires few { length view.now.rules.now < 4294967295 }
+    requires asked { IsNoteOf (deciders_of view.now) asked }
+    requires ordered { first < second }
+    requires room { length rows.old < 7 }
+    requires below { AreRowsBelow (IsOfPair (deciders_of view.now) (pair_of pair) first second) 8 rows.old }
+    ensures { AreRowsWhere (IsOfPair (deciders_of view.now) (pair_of pair.entry) first second) rows.new }
+{
+    if !asked.physical_clearance && !asked.physical_hole_clearance {
+        return;
+    }
     add_near(
         view,
         asked.physical_clearance,
@@ -293,6 +339,27 @@ fn add_all(
         pair,
         rows,
     );
+}
+
+/// The rows of the pair, in a list that had none.
+fn add_all(
+    view: &CheckView,
+    asked: Asked,
+    first: u32,
+    second: u32,
+    pair: Pair<'_>,
+    rows: &mut PairRows,
+)
+    requires few { length view.now.rules.now < 4294967295 }
+    requires asked { IsNoteOf (deciders_of view.now) asked }
+    requires ordered { first < second }
+    requires none { rows.old ≡ [] }
+    ensures { AreRowsWhere (IsOfPair (deciders_of view.now) (pair_of pair.entry) first second) rows.new }
+{
+    add_of_nets(view, asked, first, second, pair, rows);
+    add_of_holes(view, asked, first, second, pair, rows);
+    add_of_outlines(view, asked, first, second, pair, rows);
+    add_physical(view, asked, first, second, pair, rows);
 }
 
 /// As `test_pair`, where both items are at hand, with what the board and the rules ask for. What the list had before goes. It takes

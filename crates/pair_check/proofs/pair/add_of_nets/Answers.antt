@@ -1,8 +1,14 @@
+use Rattle.std.proofs.Common.{sym, ◌∙◌}
 use Rattle.pair_check.specs.Rows.{deciders}
 use Rattle.pair_check.specs.Views.{checked_by}
 use Rattle.pair_check.specs.Stages.{pair_of}
 use Rattle.pair_check.proofs.RowsOfPair.{not_meeting, pair_short}
+use Rattle.pair_check.proofs.PassedKinds.{of_one_net}
 use Rattle.pair_check.proofs.pair.add_of_nets.Goals as goal
+
+pub returns-then-share_net-clause-rows : goal.returns-then-share_net-clause-rows
+returns-then-share_net-clause-rows c =
+    let a = c.args in of_one_net (deciders (checked_by a.view.now)) (pair_of a.pair) a.first a.second (sym c.share_net.ensures ∙ c.if-share_net.true) a.rows.now c.requires.below
 
 pub add_near-requires-clause-place : goal.add_near-requires-clause-place
 add_near-requires-clause-place c = let a = c.args in not_meeting (deciders (checked_by a.view.now)) (pair_of a.pair) a.first a.second c.in-None.ensures
