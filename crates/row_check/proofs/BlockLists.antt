@@ -5,6 +5,7 @@ use Rattle.std.proofs.lemmas.Int.{ints}
 use Rattle.std.proofs.lemmas.List.{append_assoc, length-append, take_more, take-append-drop, take_all, length-drop}
 use Rattle.std.proofs.lemmas.List.Elements.{All-weaker, All-push, filter-append}
 use Rattle.std.proofs.lemmas.Option.{slice_get_within}
+use Rattle.std.proofs.Math.Nat.{add-mul, one-mul, mul-le-mul_right}
 use Rattle.geo_seg.specs.declared.boxes.Bounds.{Bounds}
 use Rattle.geo_seg.specs.Boxes.{IsPartOf, widened, are_near}
 use Rattle.box_index.specs.declared.entry.Entry.{Entry}
@@ -12,7 +13,8 @@ use Rattle.box_index.specs.Tiles.{PlainIndex, margin}
 use Rattle.box_index.proofs.EntryLists.{filter_none}
 use Rattle.box_index.proofs.TileLemmas.{near_sides}
 use Rattle.box_index.proofs.Reaching.{meet_true}
-use Rattle.row_check.specs.Blocks.{AreBlocks, IsFar}
+use Rattle.row_check.specs.declared.blocks.Boxes.{Boxes}
+use Rattle.row_check.specs.Blocks.{AreBlocks, AreBoxes, IsFar}
 use Rattle.row_check.specs.Walks.{is_owned, IsEndOf}
 
 -- ---- boxes
@@ -58,34 +60,54 @@ not_owned b c e = cc
 
 -- ---- blocks
 
+no_box : (k : ℕ) (b : Bounds) → slice_get [] k ≡ Some b → ⊥
+no_box k b e = let lt = slice_get_within [] k b e in absurd (omega arith)
+
 -- each end has the same blocks
-pub blocks_end : (boxes : List Bounds) (entries front end : List Entry) → entries ≡ front ++ end → AreBlocks boxes entries → AreBlocks boxes end
-blocks_end boxes entries front end split h = record {
+pub blocks_end : (size : ℕ) (boxes : List Bounds) (entries front end : List Entry) → entries ≡ front ++ end → AreBlocks size boxes entries → AreBlocks size boxes end
+blocks_end size boxes entries front end split h = record {
   each = λ f e is k b at long. h.each (front ++ f) e (split ∙ ap (λ ys. front ++ ys) is ∙ sym (append_assoc front f e)) k b at long;
 }
 
-far_block : (index : PlainIndex) (tile : ℕ) (first : Entry) (boxes : List Bounds) (left : List Entry) → AreBlocks boxes left → IsFar index first boxes (length left) → filter (is_owned index tile first) (take 32 left) ≡ []
-far_block index tile first boxes left h far =
-    filter_none (is_owned index tile first) (take 32 left)
+far_block : (size : ℕ) (index : PlainIndex) (tile : ℕ) (first : Entry) (boxes : List Bounds) (left : List Entry) → AreBlocks size boxes left → IsFar index first size boxes (length left) → filter (is_owned index tile first) (take size left) ≡ []
+far_block size index tile first boxes left h far =
+    filter_none (is_owned index tile first) (take size left)
     (All-weaker (λ (e : Entry). IsPartOf e.bounds far.box) (λ (e : Entry). is_owned index tile first e ≡ false)
-    (λ e part. not_owned (are_near (margin index) first.bounds e.bounds) _ (far_part (margin index) first.bounds e.bounds far.box part far.far)) (take 32 left) (h.each [] left refl far.k far.box far.stands far.count_is))
+    (λ e part. not_owned (are_near (margin index) first.bounds e.bounds) _ (far_part (margin index) first.bounds e.bounds far.box part far.far)) (take size left) (h.each [] left refl far.k far.box far.stands far.count_is))
 
 -- a block more that is far
-pub block_less : (index : PlainIndex) (tile : ℕ) (a : Entry) (boxes : List Bounds) (others left rest : List Entry) → rest ≡ drop 32 left → AreBlocks boxes left → IsFar index a boxes (length left) → IsEndOf index tile a others left → IsEndOf index tile a others rest
-block_less index tile a boxes others left rest e blocks far h = record {
-  front = h.front ++ take 32 left;
-  split = h.split ∙ ap (λ ys. h.front ++ ys) (sym (take-append-drop 32 left) ∙ ap (λ ys. take 32 left ++ ys) (sym e)) ∙ sym (append_assoc h.front (take 32 left) rest);
+pub block_less : (size : ℕ) (index : PlainIndex) (tile : ℕ) (a : Entry) (boxes : List Bounds) (others left rest : List Entry) → rest ≡ drop size left → AreBlocks size boxes left → IsFar index a size boxes (length left) → IsEndOf index tile a others left → IsEndOf index tile a others rest
+block_less size index tile a boxes others left rest e blocks far h = record {
+  front = h.front ++ take size left;
+  split = h.split ∙ ap (λ ys. h.front ++ ys) (sym (take-append-drop size left) ∙ ap (λ ys. take size left ++ ys) (sym e)) ∙ sym (append_assoc h.front (take size left) rest);
   none =
-      filter-append (is_owned index tile a) h.front (take 32 left)
-      ∙ ap (λ ys. ys ++ filter (is_owned index tile a) (take 32 left)) h.none
-      ∙ far_block index tile a boxes left blocks far;
+      filter-append (is_owned index tile a) h.front (take size left)
+      ∙ ap (λ ys. ys ++ filter (is_owned index tile a) (take size left)) h.none
+      ∙ far_block size index tile a boxes left blocks far;
+}
+
+-- both kinds of blocks
+pub boxes_end : (boxes : Boxes) (entries front end : List Entry) → entries ≡ front ++ end → AreBoxes boxes entries → AreBoxes boxes end
+boxes_end boxes entries front end split h = record {
+  short = blocks_end 8 boxes.short.now entries front end split h.short;
+  long = blocks_end 64 boxes.long.now entries front end split h.long;
 }
 
 -- what a slice behind the block has
-pub behind_block : (n : ℕ) (xs : List Entry) → n ≡ length xs → take (n - 32) (drop 32 xs) ≡ drop 32 xs
-behind_block n xs e = take_all (n - 32) (drop 32 xs) (let long = length-drop 32 xs in omega (arith, long, e))
+pub behind_block : (size : ℕ) (n : ℕ) (xs : List Entry) → n ≡ length xs → take (n - size) (drop size xs) ≡ drop size xs
+behind_block size n xs e = take_all (n - size) (drop size xs) (let long = length-drop size xs in omega (arith, long, e))
 
 -- ---- how the boxes are made
+
+one_block_more : (size n : ℕ) → (n + 1) * size ≡ n * size + size
+one_block_more size n = add-mul n 1 size ∙ ap (λ (k : ℕ). n * size + k) (one-mul size)
+
+-- one of fewer than n blocks, with those behind it
+block_within : (size k n : ℕ) → k < n → k * size + size ≤ n * size
+block_within size k n lt =
+    let e = one_block_more size k in
+    let one : k + 1 ≤ n = omega (arith, lt) in
+    let le = mul-le-mul_right size one in omega (arith, e, le)
 
 pub more_in_box : (first : Entry) (others : List Entry) (i : ℕ) (d : Entry) (old new : Bounds) → i < length others → IsPartOf old new → IsPartOf (get_or others i d).bounds new
     → All (λ (e : Entry). IsPartOf e.bounds old) (first ∷ take i others) → All (λ (e : Entry). IsPartOf e.bounds new) (first ∷ take (i + 1) others)
@@ -107,14 +129,11 @@ whole_end [] end all e l = sym e
 whole_end (x ∷ front) end all e l = let long = ap length e ∙ length-append (x ∷ front) end in absurd (omega (arith, long, l))
 
 -- the boxes of the blocks behind some that are left
-pub record AreBehind (boxes : List Bounds) (entries left : List Entry) : Type 0 where
+pub record AreBehind (size : ℕ) (boxes : List Bounds) (entries left : List Entry) : Type 0 where
   pub back : List Entry
   pub split : entries ≡ left ++ back
-  pub long : length back ≡ length boxes * 32
-  pub blocks : AreBlocks boxes back
-
-no_box : (k : ℕ) (b : Bounds) → slice_get [] k ≡ Some b → ⊥
-no_box k b e = let lt = slice_get_within [] k b e in absurd (omega arith)
+  pub long : length back ≡ length boxes * size
+  pub blocks : AreBlocks size boxes back
 
 get_push : (boxes : List Bounds) (new b : Bounds) (k : ℕ) → slice_get (boxes ++ new ∷ []) k ≡ Some b → (slice_get boxes k ≡ Some b) ⊎ ((k ≡ length boxes) × (new ≡ b))
 get_push [] new b zero e = inr (refl, some_same new b e)
@@ -133,51 +152,51 @@ take_front : (xs ys : List Entry) → take (length xs) (xs ++ ys) ≡ xs
 take_front [] ys = refl
 take_front (x ∷ xs) ys = ap (λ zs. x ∷ zs) (take_front xs ys)
 
-pub more_behind : (boxes : List Bounds) (entries left front block : List Entry) (new : Bounds) → left ≡ front ++ block → length block ≡ 32 → All (λ (e : Entry). IsPartOf e.bounds new) block
-    → AreBehind boxes entries left → AreBehind (boxes ++ new ∷ []) entries front
-more_behind boxes entries left front block new e long all h = record {
+pub more_behind : (size : ℕ) (boxes : List Bounds) (entries left front block : List Entry) (new : Bounds) → left ≡ front ++ block → length block ≡ size → All (λ (e : Entry). IsPartOf e.bounds new) block
+    → AreBehind size boxes entries left → AreBehind size (boxes ++ new ∷ []) entries front
+more_behind size boxes entries left front block new e long all h = record {
   back = block ++ h.back;
   split = h.split ∙ ap (λ ys. ys ++ h.back) e ∙ append_assoc front block h.back;
   long = count;
   blocks = record { each = each };
 }
   where
-    count : length (block ++ h.back) ≡ length (boxes ++ new ∷ []) * 32
+    count : length (block ++ h.back) ≡ length (boxes ++ new ∷ []) * size
     count =
         let l = length-append block h.back in
-        let m = length-append boxes (new ∷ []) in
+        let m = ap (λ (n : ℕ). n * size) (length-append boxes (new ∷ [])) ∙ one_block_more size (length boxes) in
         let n = h.long in omega (arith, l, m, n, long)
 
-    front_of : (ys : List Entry) → take 32 (block ++ ys) ≡ block
+    front_of : (ys : List Entry) → take size (block ++ ys) ≡ block
     front_of ys = ap (λ (n : ℕ). take n (block ++ ys)) (sym long) ∙ take_front block ys
 
-    each : (f end : List Entry) → block ++ h.back ≡ f ++ end → (k : ℕ) (b : Bounds) → slice_get (boxes ++ new ∷ []) k ≡ Some b → length end ≡ k * 32 + 32 → All (λ (e : Entry). IsPartOf e.bounds b) (take 32 end)
+    each : (f end : List Entry) → block ++ h.back ≡ f ++ end → (k : ℕ) (b : Bounds) → slice_get (boxes ++ new ∷ []) k ≡ Some b → length end ≡ k * size + size → All (λ (e : Entry). IsPartOf e.bounds b) (take size end)
     each f end is k b at l = by (get_push boxes new b k at)
       where
-        by : (slice_get boxes k ≡ Some b) ⊎ ((k ≡ length boxes) × (new ≡ b)) → All (λ (e : Entry). IsPartOf e.bounds b) (take 32 end)
+        by : (slice_get boxes k ≡ Some b) ⊎ ((k ≡ length boxes) × (new ≡ b)) → All (λ (e : Entry). IsPartOf e.bounds b) (take size end)
         by (inl old) =
-            let lt = slice_get_within boxes k b old in
-            let c = cut f end block h.back (sym is) (let n = h.long in omega (arith, l, lt, n)) in
+            let le = block_within size k (length boxes) (slice_get_within boxes k b old) in
+            let c = cut f end block h.back (sym is) (let n = h.long in omega (arith, l, le, n)) in
             h.blocks.each c.0 end c.1 k b old l
         by (inr last) =
-            let whole = whole_end f end (block ++ h.back) is (let n = h.long in let m = length-append block h.back in omega (arith, l, m, n, long, last.0)) in
-            subst (λ ys. All (λ (e : Entry). IsPartOf e.bounds b) (take 32 ys)) (sym whole)
+            let whole = whole_end f end (block ++ h.back) is (let n = h.long in let m = length-append block h.back in let k_is = ap (λ (n : ℕ). n * size) last.0 in omega (arith, l, m, n, long, k_is)) in
+            subst (λ ys. All (λ (e : Entry). IsPartOf e.bounds b) (take size ys)) (sym whole)
             (subst (λ ys. All (λ (e : Entry). IsPartOf e.bounds b) ys) (sym (front_of h.back)) (subst (λ x. All (λ (e : Entry). IsPartOf e.bounds x) block) last.1 all))
 
 -- the block at the end of what is left
-pub more_cut : (boxes : List Bounds) (entries left front block : List Entry) (new : Bounds) (n : ℕ) → n ≡ length left - 32 → 32 ≤ length left → front ≡ take n left → block ≡ drop n left → All (λ (e : Entry). IsPartOf e.bounds new) block
-    → AreBehind boxes entries left → AreBehind (boxes ++ new ∷ []) entries front
-more_cut boxes entries left front block new n e le f b all h =
-    more_behind boxes entries left front block new (sym (take-append-drop n left) ∙ ap (λ ys. ys ++ drop n left) (sym f) ∙ ap (λ ys. front ++ ys) (sym b)) (ap length b ∙ length-drop n left ∙ count (length left) n e le) all h
+pub more_cut : (size : ℕ) (boxes : List Bounds) (entries left front block : List Entry) (new : Bounds) (n : ℕ) → n ≡ length left - size → size ≤ length left → front ≡ take n left → block ≡ drop n left → All (λ (e : Entry). IsPartOf e.bounds new) block
+    → AreBehind size boxes entries left → AreBehind size (boxes ++ new ∷ []) entries front
+more_cut size boxes entries left front block new n e le f b all h =
+    more_behind size boxes entries left front block new (sym (take-append-drop n left) ∙ ap (λ ys. ys ++ drop n left) (sym f) ∙ ap (λ ys. front ++ ys) (sym b)) (ap length b ∙ length-drop n left ∙ count (length left) n e le) all h
   where
-    count : (m n : ℕ) → n ≡ m - 32 → 32 ≤ m → m - n ≡ 32
+    count : (m n : ℕ) → n ≡ m - size → size ≤ m → m - n ≡ size
     count m n e le = omega (arith, e, le)
 
-pub all_behind : (boxes : List Bounds) (entries left : List Entry) → AreBehind boxes entries left → AreBlocks boxes entries
-all_behind boxes entries left h = record { each = each }
+pub all_behind : (size : ℕ) (boxes : List Bounds) (entries left : List Entry) → AreBehind size boxes entries left → AreBlocks size boxes entries
+all_behind size boxes entries left h = record { each = each }
   where
-    each : (f end : List Entry) → entries ≡ f ++ end → (k : ℕ) (b : Bounds) → slice_get boxes k ≡ Some b → length end ≡ k * 32 + 32 → All (λ (e : Entry). IsPartOf e.bounds b) (take 32 end)
+    each : (f end : List Entry) → entries ≡ f ++ end → (k : ℕ) (b : Bounds) → slice_get boxes k ≡ Some b → length end ≡ k * size + size → All (λ (e : Entry). IsPartOf e.bounds b) (take size end)
     each f end is k b at l =
-        let lt = slice_get_within boxes k b at in
-        let c = cut f end left h.back (sym is ∙ h.split) (let n = h.long in omega (arith, l, lt, n)) in
+        let le = block_within size k (length boxes) (slice_get_within boxes k b at) in
+        let c = cut f end left h.back (sym is ∙ h.split) (let n = h.long in omega (arith, l, le, n)) in
         h.blocks.each c.0 end c.1 k b at l

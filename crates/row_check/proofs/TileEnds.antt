@@ -4,7 +4,6 @@ use Rattle.std.specs.List.{filter, All, AllPairs}
 use Rattle.std.proofs.lemmas.List.{append-nil, append_assoc, length-append, nil_from_length}
 use Rattle.std.proofs.lemmas.List.Elements.{All-cons, All-head, All-tail, filter-append}
 use Rattle.std.proofs.lemmas.List.Kept.{AllPairs-cons}
-use Rattle.geo_seg.specs.declared.boxes.Bounds.{Bounds}
 use Rattle.geo_seg.specs.Boxes.{FitsWithin}
 use Rattle.board_items.specs.declared.item.Item.{Item}
 use Rattle.box_index.specs.declared.entry.Entry.{Entry}
@@ -12,9 +11,10 @@ use Rattle.box_index.specs.Tiles.{PlainIndex, IsRising}
 use Rattle.box_index.proofs.EntryLists.{pairs_first, pairs_rest}
 use Rattle.pair_check.specs.PlainRow.{PlainRow}
 use Rattle.pair_check.specs.Rows.{Checked, AreRowsOfPair}
-use Rattle.row_check.specs.Blocks.{AreBlocks, StartsOwned}
+use Rattle.row_check.specs.declared.blocks.Boxes.{Boxes}
+use Rattle.row_check.specs.Blocks.{AreBoxes, StartsOwned}
 use Rattle.row_check.specs.Walks.{is_owned, pairs_with, IsEndOf, IsOn, AreRowsOfPairs, HasMore}
-use Rattle.row_check.proofs.BlockLists.{blocks_end}
+use Rattle.row_check.proofs.BlockLists.{boxes_end}
 use Rattle.row_check.proofs.PairLists.{Pair, Comes, with_rise, no_pairs, join_pairs, one_pair}
 use Rattle.row_check.proofs.RowLists.{pairs_front}
 
@@ -57,8 +57,8 @@ module _ (index : PlainIndex) (tile : ℕ) (a : Entry) where
         let q = is_owned index tile a in
         ap (λ ys. map f (filter q ys)) h.split ∙ ap (map f) (filter-append q h.front end ∙ ap (λ ys. ys ++ filter q end) h.none)
 
-    pub end_blocks : (boxes : List Bounds) → AreBlocks boxes others → AreBlocks boxes end
-    end_blocks boxes b = blocks_end boxes others h.front end h.split b
+    pub end_blocks : (boxes : Boxes) → AreBoxes boxes others → AreBoxes boxes end
+    end_blocks boxes b = boxes_end boxes others h.front end h.split b
 
     pub no_pairs_left : length end ≡ 0 → pairs_with index tile a others ≡ []
     no_pairs_left e = end_pairs ∙ ap (pairs_with index tile a) (nil_from_length end e)
@@ -77,7 +77,7 @@ pub of_ids : (c : Checked) (i j k l : ℕ) (old new : List PlainRow) → i ≡ k
 of_ids c i j k l old new e f h = subst (λ m. HasMore (AreRowsOfPair c m l) old new) e (subst (λ m. HasMore (AreRowsOfPair c i m) old new) f h)
 
 -- how far the walk has come
-pub record IsPushedTo (c : Checked) (index : PlainIndex) (tile : ℕ) (a : Entry) (boxes : List Bounds) (others left : List Entry) (old now : List PlainRow) (start steps : ℕ) : Type 0 where
+pub record IsPushedTo (c : Checked) (index : PlainIndex) (tile : ℕ) (a : Entry) (boxes : Boxes) (others left : List Entry) (old now : List PlainRow) (start steps : ℕ) : Type 0 where
   pub done : List Pair
   pub whole : done ++ pairs_with index tile a left ≡ pairs_with index tile a others
   pub rows : HasMore (AreRowsOfPairs c done) old now
@@ -86,11 +86,11 @@ pub record IsPushedTo (c : Checked) (index : PlainIndex) (tile : ℕ) (a : Entry
   pub rising : IsRising (a ∷ left)
   pub fit : All Fits (a ∷ left)
   pub there : All (IsOn c.board) (a ∷ left)
-  pub blocks : AreBlocks boxes left
+  pub blocks : AreBoxes boxes left
   pub owned : StartsOwned index tile a left
 
-module _ (c : Checked) (index : PlainIndex) (tile : ℕ) (a : Entry) (boxes : List Bounds) (others : List Entry) where
-  pub at_start : (old : List PlainRow) (start : ℕ) → IsRising (a ∷ others) → All Fits (a ∷ others) → All (IsOn c.board) (a ∷ others) → AreBlocks boxes others → StartsOwned index tile a others → IsPushedTo c index tile a boxes others others old old start start
+module _ (c : Checked) (index : PlainIndex) (tile : ℕ) (a : Entry) (boxes : Boxes) (others : List Entry) where
+  pub at_start : (old : List PlainRow) (start : ℕ) → IsRising (a ∷ others) → All Fits (a ∷ others) → All (IsOn c.board) (a ∷ others) → AreBoxes boxes others → StartsOwned index tile a others → IsPushedTo c index tile a boxes others others old old start start
   at_start old start r f t b s = record {
     done = [];
     whole = refl;
@@ -119,8 +119,8 @@ module _ (c : Checked) (index : PlainIndex) (tile : ℕ) (a : Entry) (boxes : Li
     pub rest_fit : All Fits (a ∷ rest)
     rest_fit = skip Fits h.fit
 
-    pub rest_blocks : AreBlocks boxes rest
-    rest_blocks = blocks_end boxes left (x ∷ []) rest e h.blocks
+    pub rest_blocks : AreBoxes boxes rest
+    rest_blocks = boxes_end boxes left (x ∷ []) rest e h.blocks
 
     rest_rising : IsRising (a ∷ rest)
     rest_rising =

@@ -1,21 +1,27 @@
--- Blocks of 32 entries, each under one box. They are counted from the end of a list, so that each end of it has the same.
+-- Blocks of so many entries, each under one box. They are counted from the end of a list, so that each end of it has the same.
 use Rattle.std.specs.Prelude.{◌≡◌, ℕ, ◌+◌, ◌*◌, false, IsTrue, List, ◌∷◌, ◌++◌, length, take, All, Some, slice_get}
 use Rattle.geo_seg.specs.declared.boxes.Bounds.{Bounds}
 use Rattle.geo_seg.specs.Boxes.{IsPartOf, are_near}
 use Rattle.box_index.specs.declared.entry.Entry.{Entry}
 use Rattle.box_index.specs.Tiles.{PlainIndex, margin}
+use Rattle.row_check.specs.declared.blocks.Boxes.{Boxes}
 use Rattle.row_check.specs.Walks.{is_owned}
 
--- where the last k blocks of the entries and 32 more are left, the 32 lie in the box with the number k
-pub record AreBlocks (boxes : List Bounds) (entries : List Entry) : Type 0 where
-  pub each : (front end : List Entry) → entries ≡ front ++ end → (k : ℕ) (b : Bounds) → slice_get boxes k ≡ Some b → length end ≡ k * 32 + 32 → All (λ e. IsPartOf e.bounds b) (take 32 end)
+-- where the last k blocks of the entries and one more are left, that one lies in the box with the number k
+pub record AreBlocks (size : ℕ) (boxes : List Bounds) (entries : List Entry) : Type 0 where
+  pub each : (front end : List Entry) → entries ≡ front ++ end → (k : ℕ) (b : Bounds) → slice_get boxes k ≡ Some b → length end ≡ k * size + size → All (λ e. IsPartOf e.bounds b) (take size end)
+
+-- the boxes of blocks of 8 and of 64 entries
+pub record AreBoxes (boxes : Boxes) (entries : List Entry) : Type 0 where
+  pub short : AreBlocks 8 boxes.short.now entries
+  pub long : AreBlocks 64 boxes.long.now entries
 
 -- where so many entries are left, they begin with a block whose box is not near that of the first
-pub record IsFar (index : PlainIndex) (first : Entry) (boxes : List Bounds) (count : ℕ) : Type 0 where
+pub record IsFar (index : PlainIndex) (first : Entry) (size : ℕ) (boxes : List Bounds) (count : ℕ) : Type 0 where
   pub k : ℕ
   pub box : Bounds
   pub stands : slice_get boxes k ≡ Some box
-  pub count_is : count ≡ k * 32 + 32
+  pub count_is : count ≡ k * size + size
   pub far : are_near (margin index) first.bounds box ≡ false
 
 -- the tile answers for the first of them, if there is one

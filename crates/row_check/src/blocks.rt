@@ -1,15 +1,35 @@
 //! Blocks of the entries of a tile, each under one box, so that what is far is passed over together.
 
-ghost use Rattle.std.specs.Prelude.{◌≡◌, pos, true, All, IfOk, ◌∷◌};
+ghost use Rattle.std.specs.Prelude.{◌≡◌, ◌<◌, pos, true, All, IfOk, ◌∷◌};
 ghost use Rattle.geo_seg.specs.Boxes.{FitsWithin, IsPartOf};
-ghost use Rattle.row_check.specs.Blocks.{AreBlocks, IsFar};
+ghost use Rattle.row_check.specs.Blocks.{AreBlocks, AreBoxes, IsFar};
 
 use box_index::{Entry, TileIndex};
 use geo_seg::Bounds;
 use std::alloc::{AllocError, Global};
 
-/// How many entries have one box.
-pub(crate) const BLOCK: usize = 32;
+/// How many entries have one box in a short block, and in a long one.
+pub(crate) const SHORT: usize = 8;
+
+pub(crate) const LONG: usize = 64;
+
+/// The boxes of blocks of both sizes, the last block first. Blocks are counted from the end, so that they are the same for each end
+/// of the entries.
+#[derive(Clone, Copy)]
+pub(crate) struct Boxes<'a> {
+    pub(crate) short: &'a [Bounds],
+    pub(crate) long: &'a [Bounds],
+}
+
+/// The boxes of no blocks.
+pub(crate) fn no_boxes<'a>(_entries: &[Entry]) -> Boxes<'a>
+    ensures { AreBoxes result _entries.now }
+{
+    Boxes {
+        short: &[],
+        long: &[],
+    }
+}
 
 /// A box that holds the first and the others.
 fn box_with(first: &Entry, others: &[Entry]) -> Bounds
@@ -37,15 +57,19 @@ fn box_of(block: &[Entry]) -> Bounds
     }
 }
 
-/// The boxes of all blocks, the last block first: blocks are counted from the end, so that they are the same for each end of
-/// the entries. Only want of memory refuses it.
-pub(crate) fn boxes_of(alloc: Global, entries: &[Entry]) -> Result<Vec<Bounds>, AllocError>
-    ensures { IfOk result (λ boxes. AreBlocks boxes.items entries.now) }
+/// The boxes of all blocks of so many entries, the last block first. Only want of memory refuses it.
+pub(crate) fn boxes_of(
+    alloc: Global,
+    entries: &[Entry],
+    size: usize,
+) -> Result<Vec<Bounds>, AllocError>
+    requires { 0 < size }
+    ensures { IfOk result (λ boxes. AreBlocks size boxes.items entries.now) }
 {
     let mut boxes = Vec::new(alloc);
     let mut left = entries;
-    'walk: while BLOCK <= left.len() {
-        let (front, block) = left.split_at(left.len() - BLOCK);
+    'walk: while size <= left.len() {
+        let (front, block) = left.split_at(left.len() - size);
         boxes.push(box_of(block))?;
         left = front;
     }
@@ -53,19 +77,27 @@ pub(crate) fn boxes_of(alloc: Global, entries: &[Entry]) -> Result<Vec<Bounds>, 
 }
 
 /// Whether so many entries begin with a block whose box is not near that of the first. Only a yes is sure.
-pub(crate) fn is_far(index: &TileIndex, first: &Entry, boxes: &[Bounds], count: usize) -> bool
-    requires { FitsWithin (pos 2000000000) first.now.bounds }
-    ensures { result ≡ true → IsFar index.now first.now boxes.now count }
+#[inline(always)]
+pub(crate) fn is_far(
+    index: &TileIndex,
+    first: &Entry,
+    size: usize,
+    boxes: &[Bounds],
+    count: usize,
+) -> bool
+    requires fits { FitsWithin (pos 2000000000) first.now.bounds }
+    requires some { 0 < size }
+    ensures { result ≡ true → IsFar index.now first.now size boxes.now count }
 {
-    if count < BLOCK {
+    if count < size {
         return false;
     }
-    let behind = count - BLOCK;
+    let behind = count - size;
     // only whole blocks have boxes
-    if behind % BLOCK != 0 {
+    if behind % size != 0 {
         return false;
     }
-    match boxes.get(behind / BLOCK) {
+    match boxes.get(behind / size) {
         Some(bounds) => !index.are_near(first.bounds, *bounds),
         None => false,
     }

@@ -8,15 +8,14 @@ ghost use Rattle.box_index.specs.Tiles.{IsRising};
 ghost use Rattle.pair_check.specs.Asked.{IsNoteOf};
 ghost use Rattle.pair_check.specs.Rows.{AreRowsOfPair};
 ghost use Rattle.pair_check.specs.Views.{checked_by, deciders_of, IsWholeView};
-ghost use Rattle.row_check.specs.Blocks.{AreBlocks, StartsOwned};
+ghost use Rattle.row_check.specs.Blocks.{AreBoxes, StartsOwned};
 ghost use Rattle.row_check.specs.Hands.{StandsAt};
 ghost use Rattle.row_check.specs.Tiles.{IsIndexOf, AreRowsOfTile, is_changed, most_steps};
 ghost use Rattle.row_check.specs.Walks.{is_owned, partners_of, pairs_with, IsEndOf, IsOn, AreRowsOfPairs, HasMore};
 
-use crate::blocks::{BLOCK, boxes_of, is_far};
+use crate::blocks::{Boxes, LONG, SHORT, boxes_of, is_far, no_boxes};
 use crate::hands::{Hand, hand_at, hand_of, hands_of};
 use box_index::{Entry, TileIndex};
-use geo_seg::Bounds;
 use pair_check::{Asked, CheckView, PairRows, Row, Steps, test_two};
 use std::alloc::{AllocError, Global};
 use std::sync::ledger::Ledger;
@@ -37,7 +36,7 @@ struct Tested<'a, 'b> {
 struct At<'a> {
     index: &'a TileIndex,
     tile: u32,
-    boxes: &'a [Bounds],
+    boxes: Boxes<'a>,
 }
 
 /// The rows so far, and a list for those of one pair.
@@ -87,22 +86,22 @@ fn is_owned(index: &TileIndex, tile: u32, first: &Entry, second: &Entry) -> bool
 fn partners<'a>(
     first: &Entry,
     later: &'a [Entry],
-    boxes: &'a [Bounds],
+    boxes: Boxes<'a>,
     touched: &'a [Entry],
-) -> (&'a [Entry], &'a [Bounds], &'a [Entry])
+) -> (&'a [Entry], Boxes<'a>, &'a [Entry])
     requires rising { IsRising (first.now ∷ later.now) }
-    requires blocks { AreBlocks boxes.now later.now }
-    ensures blocks { AreBlocks result.1.now result.0.now }
+    requires blocks { AreBoxes boxes later.now }
+    ensures blocks { AreBoxes result.1 result.0.now }
     ensures partners { (changed : Entry → Bool) → touched.now ≡ filter changed (first.now ∷ later.now) → result.0.now ≡ partners_of changed first.now later.now }
     ensures touched { (changed : Entry → Bool) → touched.now ≡ filter changed (first.now ∷ later.now) → result.2.now ≡ filter changed later.now }
 {
     let Some((head, rest)) = touched.split_first() else {
-        return (touched, &[], touched);
+        return (touched, no_boxes(touched), touched);
     };
     if head.id == first.id {
         (later, boxes, rest)
     } else {
-        (touched, &[], touched)
+        (touched, no_boxes(touched), touched)
     }
 }
 
@@ -139,14 +138,16 @@ fn push_pair<L: Ledger>(
 /// The others from the first for which the tile answers. Blocks that are far are passed over whole.
 fn owned_from<'a>(at: &At<'_>, first: &Entry, others: &'a [Entry]) -> &'a [Entry]
     requires fits { All (λ e. FitsWithin (pos 2000000000) e.bounds) (first.now ∷ others.now) }
-    requires blocks { AreBlocks at.now.boxes.now others.now }
+    requires blocks { AreBoxes at.now.boxes others.now }
     ensures end { IsEndOf at.now.index.now at.now.tile first.now others.now result.now }
     ensures owned { StartsOwned at.now.index.now at.now.tile first.now result.now }
 {
     let mut left = others;
     'walk: while let Some((second, rest)) = left.split_first() {
-        if is_far(at.index, first, at.boxes, left.len()) {
-            left = &left[BLOCK..];
+        if is_far(at.index, first, LONG, at.boxes.long, left.len()) {
+            left = &left[LONG..];
+        } else if is_far(at.index, first, SHORT, at.boxes.short, left.len()) {
+            left = &left[SHORT..];
         } else if is_owned(at.index, at.tile, first, second) {
             return left;
         } else {
@@ -174,7 +175,7 @@ fn push_beside<L: Ledger>(
     requires rising { IsRising (first.now ∷ others.now) }
     requires fits { All (λ e. FitsWithin (pos 2000000000) e.bounds) (first.now ∷ others.now) }
     requires there { All (IsOn (checked_by tested.now.view.now).board) (first.now ∷ others.now) }
-    requires blocks { AreBlocks at.now.boxes.now others.now }
+    requires blocks { AreBoxes at.now.boxes others.now }
     requires owned { StartsOwned at.now.index.now at.now.tile first.now others.now }
     ensures rows { OnOk result (HasMore (AreRowsOfPairs (checked_by tested.now.view.now) (pairs_with at.now.index.now at.now.tile first.now others.now)) sheet.old.rows.items sheet.new.rows.items) }
     ensures steps { OnOk result (steps.new ≡ steps.old + length (pairs_with at.now.index.now at.now.tile first.now others.now)) }
@@ -206,7 +207,7 @@ fn push_rows<L: Ledger>(
     requires rising { IsRising (first.now ∷ others.now) }
     requires fits { All (λ e. FitsWithin (pos 2000000000) e.bounds) (first.now ∷ others.now) }
     requires there { All (IsOn (checked_by tested.now.view.now).board) (first.now ∷ others.now) }
-    requires blocks { AreBlocks at.now.boxes.now others.now }
+    requires blocks { AreBoxes at.now.boxes others.now }
     ensures rows { OnOk result (HasMore (AreRowsOfPairs (checked_by tested.now.view.now) (pairs_with at.now.index.now at.now.tile first.now others.now)) sheet.old.rows.items sheet.new.rows.items) }
     ensures steps { OnOk result (steps.new ≡ steps.old + length (pairs_with at.now.index.now at.now.tile first.now others.now)) }
     ensures most { steps.new ≤ steps.old + length (pairs_with at.now.index.now at.now.tile first.now others.now) }
@@ -263,8 +264,12 @@ pub fn test_tile<L: Ledger>(
         return Ok(Vec::new(alloc));
     }
     let all_touched = touched_of(alloc, near, changed)?;
-    let all_boxes = boxes_of(alloc, near)?;
-    let boxes: &[Bounds] = &all_boxes;
+    let short_boxes = boxes_of(alloc, near, SHORT)?;
+    let long_boxes = boxes_of(alloc, near, LONG)?;
+    let boxes = Boxes {
+        short: &short_boxes,
+        long: &long_boxes,
+    };
     let all_hands = hands_if(alloc, view, near, all_touched.len())?;
     let hands: &[Hand<'_>] = &all_hands;
     let tested = Tested { view, asked, hands };

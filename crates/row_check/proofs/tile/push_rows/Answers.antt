@@ -16,7 +16,7 @@ push_beside-requires-clause-there g c =
     end_all c.args.at.now.index.now c.args.at.now.tile c.args.first.now c.args.others.now c.owned_from-owned.result.now c.owned_from-owned.ensures.end (IsOn (checked_by c.args.tested.now.view.now).board) c.requires.there
 
 pub push_beside-requires-clause-blocks : goal.push_beside-requires-clause-blocks
-push_beside-requires-clause-blocks g c = end_blocks c.args.at.now.index.now c.args.at.now.tile c.args.first.now c.args.others.now c.owned_from-owned.result.now c.owned_from-owned.ensures.end c.args.at.now.boxes.now c.requires.blocks
+push_beside-requires-clause-blocks g c = end_blocks c.args.at.now.index.now c.args.at.now.tile c.args.first.now c.args.others.now c.owned_from-owned.result.now c.owned_from-owned.ensures.end c.args.at.now.boxes c.requires.blocks
 
 pub returns-then-is_empty-clause-rows : goal.returns-then-is_empty-clause-rows
 returns-then-is_empty-clause-rows g c =

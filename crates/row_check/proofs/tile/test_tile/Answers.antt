@@ -2,7 +2,7 @@ use Rattle.std.proofs.Common.{◌∙◌, sym, subst, [], ◌∷◌}
 use Rattle.pair_check.specs.Views.{checked_by}
 use Rattle.row_check.specs.Blocks.{AreBlocks}
 use Rattle.row_check.specs.Tiles.{AreRowsOfTile, most_steps}
-use Rattle.row_check.proofs.BlockLists.{blocks_end}
+use Rattle.row_check.proofs.BlockLists.{boxes_end}
 use Rattle.row_check.proofs.TestedPairs.{touches}
 use Rattle.row_check.proofs.TileRows.{none_answered}
 use Rattle.row_check.proofs.TileWalk.{none_tested, front_entries, first_touched, its_entries, tested_more, steps_within, most_tested, all_counted, all_tested}
@@ -13,7 +13,10 @@ entries-init g c = record {
   tested =
       none_tested (checked_by c.args.view.now) c.args.index.now c.args.tile c.args.changed.now c.near-near.result.now c.near-near.ensures.sound c.requires.index c.near-near.ensures.entries _ _ c.args.steps.now
       (c.deref-touched.ensures.value ∙ c.in_ok-all_touched.ensures) c.new-rows.ensures.items;
-  blocks = subst (λ bs. AreBlocks bs c.near-near.result.now) (sym c.deref-boxes.ensures.value) c.in_ok-all_boxes.ensures;
+  boxes = record {
+    short = subst (λ bs. AreBlocks 8 bs c.near-near.result.now) (sym c.deref.ensures.value) c.in_ok-short_boxes.ensures;
+    long = subst (λ bs. AreBlocks 64 bs c.near-near.result.now) (sym c.deref-2.ensures.value) c.in_ok-long_boxes.ensures;
+  };
 }
 
 pub returns-then-not-may_answer-clause-rows : goal.returns-then-not-may_answer-clause-rows
@@ -25,7 +28,7 @@ pub partners-requires-clause-rising : goal.partners-requires-clause-rising
 partners-requires-clause-rising g c = (front_entries (checked_by c.args.view.now) c.args.index.now c.args.tile c.args.changed.now _ _ _ _ _ _ c.entries.invariant.tested c.in-Some.first.now c.in-Some.others.now c.in-Some.ensures.cases.0).rising
 
 pub partners-requires-clause-blocks : goal.partners-requires-clause-blocks
-partners-requires-clause-blocks g c = blocks_end _ _ (c.in-Some.first.now ∷ []) c.in-Some.others.now c.in-Some.ensures.cases.0 c.entries.invariant.blocks
+partners-requires-clause-blocks g c = boxes_end _ _ (c.in-Some.first.now ∷ []) c.in-Some.others.now c.in-Some.ensures.cases.0 c.entries.invariant.boxes
 
 pub push_rows-requires-clause-rising : goal.push_rows-requires-clause-rising
 push_rows-requires-clause-rising g c =
@@ -54,7 +57,7 @@ entries-preserved g c =
       tested =
           tested_more (checked_by c.args.view.now) c.args.index.now c.args.tile c.args.changed.now _ _ _ _ _ _ c.entries.invariant.tested c.in-Some.first.now c.in-Some.others.now c.in-Some.ensures.cases.0 _ _ _ _ (c.partners.ensures.partners (touches c.args.changed.now) same) (c.partners.ensures.touched (touches c.args.changed.now) same)
           c.in_ok-push_rows.ensures.rows c.in_ok-push_rows.ensures.steps;
-      blocks = blocks_end _ _ (c.in-Some.first.now ∷ []) c.in-Some.others.now c.in-Some.ensures.cases.0 c.entries.invariant.blocks;
+      boxes = boxes_end _ _ (c.in-Some.first.now ∷ []) c.in-Some.others.now c.in-Some.ensures.cases.0 c.entries.invariant.boxes;
     }
 
 pub returns-clause-rows : goal.returns-clause-rows
