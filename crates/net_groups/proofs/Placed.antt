@@ -12,7 +12,7 @@ no_label : (o : Option ℕ) → is_some o ≡ false → o ≡ None
 no_label None e = refl
 no_label (Some x) e = absurd (cc)
 
-some_label : (o : Option ℕ) → is_some o ≡ true → (x : ℕ) × (o ≡ Some x)
+pub some_label : (o : Option ℕ) → is_some o ≡ true → (x : ℕ) × (o ≡ Some x)
 some_label None e = absurd (cc)
 some_label (Some x) e = (x, refl)
 

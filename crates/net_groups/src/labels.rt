@@ -68,7 +68,7 @@ fn visit_rooms(
     Ok(())
 }
 
-/// `newly_touched` where the pair is asked for in this tile.
+/// As `newly_touched`, where the pair is asked for in this tile.
 fn newly_asked(
     net: &Conductors<'_>,
     index: &TileIndex,
@@ -87,6 +87,10 @@ fn newly_asked(
     ensures free { IsTrue result → label_at labels.now other.id ≡ None }
     ensures over { result ≡ false → IsTrue (is_asked (margin index.now) tile own other) → TouchOn net.now.board.now (slice_index net.now.ids.now own.id) (slice_index net.now.ids.now other.id) → IsLabelled labels.now other.id }
 {
+    // most have a label when they are met again
+    if labels[other.id as usize].is_some() {
+        return false;
+    }
     is_asked(index, tile, own, other)
         && newly_touched(net, labels, own.id as usize, other.id as usize)
 }
