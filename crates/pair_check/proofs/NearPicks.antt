@@ -39,7 +39,7 @@ of_map P f [] a = All-nil (λ x. P (f x))
 of_map P f (x ∷ xs) a = All-cons (λ x. P (f x)) x xs (All-head P (f x) (map f xs) a) (of_map P f xs (All-tail P (f x) (map f xs) a))
 
 -- one that is found passes, and has what each has
-found_has : {X : Type 0} (P : X → Type 0) (test : X → Bool) (xs : List X) (y : X) → All P xs → find test xs ≡ Some y → P y × IsTrue (test y)
+pub found_has : {X : Type 0} (P : X → Type 0) (test : X → Bool) (xs : List X) (y : X) → All P xs → find test xs ≡ Some y → P y × IsTrue (test y)
 found_has P test [] y a e = absurd (cc)
 found_has {X} P test (x ∷ xs) y a e = by_test (test x) refl e (found_has P test xs y (All-tail P x xs a))
   where
@@ -88,6 +88,30 @@ greater_at_most n (Some x) (Some y) h k nm e = let is : int_max x y ≡ nm = som
 -- ---- kinds
 between_same : (k l : Kind) → IsTrue (kind_number k == kind_number l) → is_between_two l ≡ true → is_between_two k ≡ true
 between_same k l e between = subst (λ (kind : Kind). is_between_two kind ≡ true) (sym (same_number k l (exact_unsigned_eq (kind_number k) (kind_number l) e))) between
+
+-- ---- what is picked is at most what rules, the board and the items ask for at most
+module _ (rules : List PlainRule) (mins : PlainMins) (n : ℤ) (kind : Kind) (by_rules : (place : ℕ) (rule : PlainRule) (c : PlainConstraint) → slice_get rules place ≡ Some rule → asked_by kind rule ≡ Some c → asked_least c ≤ℤ n)
+    (by_board : (micro : Bool) → minimum mins micro kind ≤ℤ n) (a b : Facts) (local_a : AtMostIf n a.local) (local_b : AtMostIf n b.local) (class_a : a.class_clearance ≤ℤ n) (class_b : b.class_clearance ≤ℤ n) where
+  local_least : AtMostIf n (local_of kind a (Some b))
+  local_least = by_test (has_own kind)
+    where
+      by_test : (c : Bool) → AtMostIf n (if c then greater_if a.local b.local else None)
+      by_test true = greater_at_most n a.local b.local local_a local_b
+      by_test false = λ nm e. absurd (cc)
+
+  default_at : (least : ℤ) → least ≤ℤ n → default_least least kind a (Some b) ≤ℤ n
+  default_at least h = by_test (has_own kind)
+    where
+      by_test : (c : Bool) → (if c then class_clearance_if (Some b) (int_max a.class_clearance least) else least) ≤ℤ n
+      by_test true = max_at_most b.class_clearance (int_max a.class_clearance least) n class_b (max_at_most a.class_clearance least n class_a h)
+      by_test false = h
+
+  pub picked_at_most : (layer : Option ℕ) (pick : Pick) → IsPick rules mins kind a (Some b) layer pick → pick.least ≤ℤ n
+  picked_at_most layer pick (inl is) = subst (λ (v : ℤ). v ≤ℤ n) (sym (ap (λ (p : Pick). p.least) is.value)) (max_at_most is.nm (minimum mins a.micro kind) n (local_least is.nm is.local) (by_board a.micro))
+  picked_at_most layer pick (inr (inl is)) =
+      subst (λ (v : ℤ). v ≤ℤ n) (sym (ap (λ (p : Pick). p.least) is.value))
+      (max_at_most (asked_least is.constraint) (minimum mins a.micro kind) n (by_rules is.place is.rule is.constraint is.deciding.stands is.asked) (by_board a.micro))
+  picked_at_most layer pick (inr (inr is)) = subst (λ (v : ℤ). v ≤ℤ n) (sym (ap (λ (p : Pick). p.least) is.value)) (default_at (minimum mins a.micro kind) (by_board a.micro))
 
 -- ---- what the reach bounds
 module _ (board : PlainBoard) (classes : PlainClasses) (rules : List PlainRule) (n : ℤ) (reach : IsReach board classes rules n) where
@@ -177,29 +201,10 @@ module _ (board : PlainBoard) (classes : PlainClasses) (rules : List PlainRule) 
   minimum_at_most some micro _ e = absurd (cc)
 
   -- ---- what is picked
-  module _ (a b : Facts) (local_a : AtMostIf n a.local) (local_b : AtMostIf n b.local) (class_a : a.class_clearance ≤ℤ n) (class_b : b.class_clearance ≤ℤ n) (some : pos 0 ≤ℤ n) where
-    local_least : (kind : Kind) → AtMostIf n (local_of kind a (Some b))
-    local_least kind = by_test (has_own kind)
-      where
-        by_test : (c : Bool) → AtMostIf n (if c then greater_if a.local b.local else None)
-        by_test true = greater_at_most n a.local b.local local_a local_b
-        by_test false = λ nm e. absurd (cc)
-
-    default_at : (kind : Kind) (least : ℤ) → least ≤ℤ n → default_least least kind a (Some b) ≤ℤ n
-    default_at kind least h = by_test (has_own kind)
-      where
-        by_test : (c : Bool) → (if c then class_clearance_if (Some b) (int_max a.class_clearance least) else least) ≤ℤ n
-        by_test true = max_at_most b.class_clearance (int_max a.class_clearance least) n class_b (max_at_most a.class_clearance least n class_a h)
-        by_test false = h
-
-    pub least_at_most : (kind : Kind) (layer : Option ℕ) (pick : Pick) → is_between_two kind ≡ true → IsPick rules classes.mins kind a (Some b) layer pick → pick.least ≤ℤ n
-    least_at_most kind layer pick between (inl is) =
-        subst AtMost (sym (ap (λ (p : Pick). p.least) is.value)) (max_at_most is.nm (minimum classes.mins a.micro kind) n (local_least kind is.nm is.local) (minimum_at_most some a.micro kind between))
-    least_at_most kind layer pick between (inr (inl is)) =
-        subst AtMost (sym (ap (λ (p : Pick). p.least) is.value))
-        (max_at_most (asked_least is.constraint) (minimum classes.mins a.micro kind) n (asked_at_most kind is.place is.rule is.constraint between is.deciding.stands is.asked) (minimum_at_most some a.micro kind between))
-    least_at_most kind layer pick between (inr (inr is)) =
-        subst AtMost (sym (ap (λ (p : Pick). p.least) is.value)) (default_at kind (minimum classes.mins a.micro kind) (minimum_at_most some a.micro kind between))
+  pub least_at_most : (a b : Facts) → AtMostIf n a.local → AtMostIf n b.local → a.class_clearance ≤ℤ n → b.class_clearance ≤ℤ n → pos 0 ≤ℤ n → (kind : Kind) (layer : Option ℕ) (pick : Pick) → is_between_two kind ≡ true
+      → IsPick rules classes.mins kind a (Some b) layer pick → pick.least ≤ℤ n
+  least_at_most a b local_a local_b class_a class_b some kind layer pick between picked =
+      picked_at_most rules classes.mins n kind (λ place rule c stands asked. asked_at_most kind place rule c between stands asked) (λ micro. minimum_at_most some micro kind between) a b local_a local_b class_a class_b layer pick picked
 
 -- ---- one thing is picked
 module _ (rules : List PlainRule) (mins : PlainMins) (kind : Kind) (a : Facts) (b : Option Facts) (layer : Option ℕ) where

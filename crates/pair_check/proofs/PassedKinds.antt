@@ -119,16 +119,16 @@ module _ (d : Deciders) (pair : Pair) (first second : ℕ) where
     other : is_copper pair.b.what ≡ true
     other = other_of (is_copper pair.a.what) (is_copper pair.b.what) copper
 
-    no_courtyards : is_compared CourtyardClearance pair.a pair.b ≡ false
+    pub no_courtyards : is_compared CourtyardClearance pair.a pair.b ≡ false
     unfolding is_compared
     no_courtyards = and_first _ _ (no_body pair.a.what one)
 
-    no_keepout : is_compared Keepout pair.a pair.b ≡ false
+    pub no_keepout : is_compared Keepout pair.a pair.b ≡ false
     unfolding is_compared
     no_keepout = and_second _ _ (or_none _ _ (no_ban pair.a.what pair.b.what one) (no_ban pair.b.what pair.a.what other))
 
     -- neither is an edge
-    no_edge : (layer : RowLayer) → IsNearAt d EdgeClearance pair layer → ⊥
+    pub no_edge : (layer : RowLayer) → IsNearAt d EdgeClearance pair layer → ⊥
     no_edge layer n =
         let within = kind_within EdgeClearance (Sides EdgesAndCopper) pair.a pair.b 0 0 layer refl (edge_within pair.a pair.b 0 0 (no_lines pair.a.what one) (no_lines pair.b.what other) layer) in
         let far = (near_within EdgeClearance pair.a pair.b n.pick.least 0 0 layer within n.near).1 in

@@ -24,6 +24,7 @@ pub use found::Single;
 use net_class::Classes;
 pub use pair::{test_pair, test_two};
 pub use pair_rows::PairRows;
+pub use passed::are_copper;
 pub use row::Row;
 use rule_pick::FactsById;
 pub use single::{single_at, test_item};

@@ -16,8 +16,8 @@ fn is_copper(what: &What) -> bool
     }
 }
 
-/// Whether both are copper, so that neither is an edge, an area or a footprint.
-pub(crate) fn are_copper(a: &Item, b: &Item) -> bool
+/// Whether both are copper, so that neither is an edge, an area, a footprint or a note.
+pub fn are_copper(a: &Item, b: &Item) -> bool
     ensures { result ≡ are_copper a.now b.now }
 {
     is_copper(&a.what) && is_copper(&b.what)

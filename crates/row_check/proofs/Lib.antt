@@ -2,6 +2,9 @@ pub mod RowLists
 pub mod PairLists
 pub mod TestedPairs
 pub mod NearPairs
+pub mod ApartPairs
+pub mod MostAsked
+pub mod ClearBoxes
 pub mod TileRows
 pub mod TileWalk
 pub mod OneList

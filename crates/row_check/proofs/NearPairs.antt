@@ -70,15 +70,15 @@ module _ (d : Deciders) (pair : Pair) (row : PlainRow) where
   -- ---- items that are far from each other break nothing
   module _ (P Q : Part → Type 0) (all_a : All P (parts_of pair.a)) (all_b : All Q (parts_of pair.b)) (Fits : ℤ → Type 0)
       (far : (v : ℤ) → pos 0 ≤ℤ v → Fits v → (p q : Part) → P p → Q q → IsFar v p q) (back : (v : ℤ) → pos 0 ≤ℤ v → Fits v → (p q : Part) → P p → Q q → IsFar v q p)
-      (none : Fits (pos 0)) (asked : (kind : Kind) (layer : RowLayer) (pick : Pick) → is_between_two kind ≡ true → IsPickOf d kind pair layer pick → Fits pick.least) where
+      (none : Fits (pos 0)) where
     zero_from : pos 0 ≤ℤ pos 0
     zero_from = omega (arith, ints)
 
-    breaks_nothing : (kind : Kind) → Breaks d kind pair row → ⊥
-    breaks_nothing kind says = elim (said kind says) [
+    pub breaks_nothing : (kind : Kind) → ((layer : RowLayer) (pick : Pick) → is_between_two kind ≡ true → IsPickOf d kind pair layer pick → Fits pick.least) → Breaks d kind pair row → ⊥
+    breaks_nothing kind asked says = elim (said kind says) [
       | inl meet ↦ none_meet P Q pair.a pair.b all_a all_b (pos 0) (far (pos 0) zero_from none) (back (pos 0) zero_from none) kind row.layer meet
       | inr m ↦
-          let fits = asked kind row.layer m.pick m.between m.picked in
+          let fits = asked row.layer m.pick m.between m.picked in
           m.not_kept (all_kept P Q pair.a pair.b all_a all_b m.pick.least (far m.pick.least m.some fits) (back m.pick.least m.some fits) kind row.layer)
     ]
 
@@ -106,7 +106,7 @@ broken_near c row n reach two box_a box_b own others = near_unless box_a box_b (
     clear_no : AreClear box_a box_b (n +ℤ n +ℤ pos 1) → ⊥
     clear_no clear =
         breaks_nothing (deciders c) two.pair row (LiesIn box_a) (LiesIn box_b) (each_lies box_a (parts_of two.pair.a) (all_lie (parts_of two.pair.a) box_a own)) (each_lies box_b (parts_of two.pair.b) (all_lie (parts_of two.pair.b) box_b others))
-        (λ v. v ≤ℤ n) (λ v from to p q h k. far_in v n from to box_a box_b clear p q h k) (λ v from to p q h k. far_back v n from to box_a box_b clear p q h k) some asked row.kind two.broken
+        (λ v. v ≤ℤ n) (λ v from to p q h k. far_in v n from to box_a box_b clear p q h k) (λ v from to p q h k. far_back v n from to box_a box_b clear p q h k) some row.kind (asked row.kind) two.broken
 
 -- ---- parts
 -- an item without parts breaks nothing together with another
@@ -115,14 +115,14 @@ no_parts_a c row two e =
     let Nothing : Part → Type 0 = λ part. ⊥ in
     let Anything : Part → Type 0 = λ part. Unit {0} in
     breaks_nothing (deciders c) two.pair row Nothing Anything (subst (All Nothing) (sym e) (All-nil Nothing)) (λ k part lt. tt) (λ v. Unit {0})
-    (λ v from to p q h k. absurd h) (λ v from to p q h k. absurd h) tt (λ kind layer pick between picked. tt) row.kind two.broken
+    (λ v from to p q h k. absurd h) (λ v from to p q h k. absurd h) tt row.kind (λ layer pick between picked. tt) two.broken
 
 no_parts_b : (c : Checked) (row : PlainRow) (two : IsRowOfTwo c row) → parts_of two.pair.b ≢ []
 no_parts_b c row two e =
     let Nothing : Part → Type 0 = λ part. ⊥ in
     let Anything : Part → Type 0 = λ part. Unit {0} in
     breaks_nothing (deciders c) two.pair row Anything Nothing (λ k part lt. tt) (subst (All Nothing) (sym e) (All-nil Nothing)) (λ v. Unit {0})
-    (λ v from to p q h k. absurd k) (λ v from to p q h k. absurd k) tt (λ kind layer pick between picked. tt) row.kind two.broken
+    (λ v from to p q h k. absurd k) (λ v from to p q h k. absurd k) tt row.kind (λ layer pick between picked. tt) two.broken
 
 pub broken_has_parts : (c : Checked) (row : PlainRow) → (two : IsRowOfTwo c row) → (parts_of two.pair.a ≢ []) × (parts_of two.pair.b ≢ [])
 broken_has_parts c row two = (no_parts_a c row two, no_parts_b c row two)

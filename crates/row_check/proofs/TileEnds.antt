@@ -1,11 +1,12 @@
 -- The walk over the others of an entry: from each for which the tile answers to the next.
-use Rattle.std.proofs.Common.{◌≡◌, ◌∙◌, ap, sym, subst, refl, ℕ, pos, ◌+◌, ◌<◌, ◌≤◌, List, [], ◌∷◌, ◌++◌, map, cond, length, false, Option, None, Some, IsSome, arith}
+use Rattle.std.proofs.Common.{◌≡◌, ◌∙◌, ap, sym, subst, refl, ℕ, pos, ◌+◌, ◌<◌, ◌≤◌, List, [], ◌∷◌, ◌++◌, map, cond, length, false, None, arith}
 use Rattle.std.specs.List.{filter, All, AllPairs}
 use Rattle.std.proofs.lemmas.List.{append-nil, append_assoc, length-append, nil_from_length}
 use Rattle.std.proofs.lemmas.List.Elements.{All-cons, All-head, All-tail, filter-append}
 use Rattle.std.proofs.lemmas.List.Kept.{AllPairs-cons}
 use Rattle.geo_seg.specs.Boxes.{FitsWithin}
-use Rattle.board_items.specs.declared.item.Item.{Item}
+use Rattle.board_items.specs.Boards.{PlainBoard, item_at}
+use Rattle.board_index.specs.Holding.{IsEntryOf}
 use Rattle.box_index.specs.declared.entry.Entry.{Entry}
 use Rattle.box_index.specs.Tiles.{PlainIndex, IsRising}
 use Rattle.box_index.proofs.EntryLists.{pairs_first, pairs_rest}
@@ -13,7 +14,7 @@ use Rattle.pair_check.specs.PlainRow.{PlainRow}
 use Rattle.pair_check.specs.Rows.{Checked, AreRowsOfPair}
 use Rattle.row_check.specs.declared.blocks.Boxes.{Boxes}
 use Rattle.row_check.specs.Blocks.{AreBoxes, StartsOwned}
-use Rattle.row_check.specs.Walks.{is_owned, pairs_with, IsEndOf, IsOn, AreRowsOfPairs, HasMore}
+use Rattle.row_check.specs.Walks.{is_owned, pairs_with, IsEndOf, AreRowsOfPairs, HasMore}
 use Rattle.row_check.proofs.BlockLists.{boxes_end}
 use Rattle.row_check.proofs.PairLists.{Pair, Comes, with_rise, no_pairs, join_pairs, one_pair}
 use Rattle.row_check.proofs.RowLists.{pairs_front}
@@ -68,9 +69,8 @@ pub none_at_all : (c : Checked) (pairs : List Pair) (rows : List PlainRow) → p
 none_at_all c pairs rows e = record { more = []; is = sym (append-nil rows); pass = subst (λ ps. AreRowsOfPairs c ps []) (sym e) (no_pairs c) }
 
 -- what stands on the board has an item
-pub not_there : (o : Option Item) → o ≡ None → IsSome o → ⊥
-not_there None e h = cc
-not_there (Some x) e h = cc
+pub not_there : (board : PlainBoard) (e : Entry) → item_at board.items e.id ≡ None → IsEntryOf board e → ⊥
+not_there board e none is = let some = is.stands in cc
 
 -- the rows of a pair, by the ids of its entries
 pub of_ids : (c : Checked) (i j k l : ℕ) (old new : List PlainRow) → i ≡ k → j ≡ l → HasMore (AreRowsOfPair c i j) old new → HasMore (AreRowsOfPair c k l) old new
@@ -85,12 +85,12 @@ pub record IsPushedTo (c : Checked) (index : PlainIndex) (tile : ℕ) (a : Entry
   pub rise : AllPairs Comes (pairs_with index tile a others)
   pub rising : IsRising (a ∷ left)
   pub fit : All Fits (a ∷ left)
-  pub there : All (IsOn c.board) (a ∷ left)
+  pub there : All (IsEntryOf c.board) (a ∷ left)
   pub blocks : AreBoxes boxes left
   pub owned : StartsOwned index tile a left
 
 module _ (c : Checked) (index : PlainIndex) (tile : ℕ) (a : Entry) (boxes : Boxes) (others : List Entry) where
-  pub at_start : (old : List PlainRow) (start : ℕ) → IsRising (a ∷ others) → All Fits (a ∷ others) → All (IsOn c.board) (a ∷ others) → AreBoxes boxes others → StartsOwned index tile a others → IsPushedTo c index tile a boxes others others old old start start
+  pub at_start : (old : List PlainRow) (start : ℕ) → IsRising (a ∷ others) → All Fits (a ∷ others) → All (IsEntryOf c.board) (a ∷ others) → AreBoxes boxes others → StartsOwned index tile a others → IsPushedTo c index tile a boxes others others old old start start
   at_start old start r f t b s = record {
     done = [];
     whole = refl;
@@ -105,8 +105,17 @@ module _ (c : Checked) (index : PlainIndex) (tile : ℕ) (a : Entry) (boxes : Bo
   }
 
   module _ (left rest : List Entry) (x : Entry) (old now : List PlainRow) (start steps : ℕ) (e : left ≡ x ∷ rest) (h : IsPushedTo c index tile a boxes others left old now start steps) where
-    pub its_place : IsOn c.board x
-    its_place = All-head (IsOn c.board) x rest (All-tail (IsOn c.board) a (x ∷ rest) (subst (λ ys. All (IsOn c.board) (a ∷ ys)) e h.there))
+    pub its_place : IsEntryOf c.board x
+    its_place = All-head (IsEntryOf c.board) x rest (All-tail (IsEntryOf c.board) a (x ∷ rest) (subst (λ ys. All (IsEntryOf c.board) (a ∷ ys)) e h.there))
+
+    pub own_place : IsEntryOf c.board a
+    own_place = All-head (IsEntryOf c.board) a left h.there
+
+    pub its_fit : Fits x
+    its_fit = All-head Fits x rest (All-tail Fits a (x ∷ rest) (subst (λ ys. All Fits (a ∷ ys)) e h.fit))
+
+    pub own_fit : Fits a
+    own_fit = All-head Fits a left h.fit
 
     pub its_order : a.id < x.id
     its_order =
@@ -150,7 +159,7 @@ module _ (c : Checked) (index : PlainIndex) (tile : ℕ) (a : Entry) (boxes : Bo
           rise = h.rise;
           rising = end_rises index tile a rest end is rest_rising;
           fit = end_all index tile a rest end is Fits rest_fit;
-          there = end_all index tile a rest end is (IsOn c.board) (skip (IsOn c.board) h.there);
+          there = end_all index tile a rest end is (IsEntryOf c.board) (skip (IsEntryOf c.board) h.there);
           blocks = end_blocks index tile a rest end is boxes rest_blocks;
           owned = owned;
         }

@@ -1,5 +1,5 @@
 -- The walk over the entries of a tile, step by step.
-use Rattle.std.proofs.Common.{◌≡◌, ◌∙◌, ap, sym, subst, refl, ℕ, pos, ◌+◌, ◌<◌, ◌≤◌, Bool, true, false, cond, ◌==◌, List, [], ◌∷◌, ◌++◌, length, get_or, slice_index_or, Option, Some, IsSome, arith}
+use Rattle.std.proofs.Common.{◌≡◌, ◌∙◌, ap, sym, subst, refl, ℕ, pos, ◌+◌, ◌<◌, ◌≤◌, Bool, true, false, cond, ◌==◌, List, [], ◌∷◌, ◌++◌, length, get_or, slice_index_or, arith}
 use Rattle.std.specs.Prelude.{Result, Ok, Err, is_ok, MatchResult}
 use Rattle.std.specs.List.{filter, All, AllPairs}
 use Rattle.std.specs.List.Sorted.{IsBinarySearchResult, IsStrictlyIncreasing}
@@ -11,8 +11,6 @@ use Rattle.std.proofs.lemmas.List.Folds.{list_any_at, list_any_none}
 use Rattle.std.proofs.lemmas.List.{append_assoc, append-nil, length-append, nil_from_length, get_or_default}
 use Rattle.std.proofs.lemmas.List.Elements.{All-cons, All-head, All-tail, All-filter, Contains-get_or}
 use Rattle.geo_seg.specs.Boxes.{FitsWithin}
-use Rattle.board_items.specs.declared.item.Item.{Item}
-use Rattle.board_items.specs.Boards.{PlainBoard, item_at}
 use Rattle.box_index.specs.declared.entry.Entry.{Entry}
 use Rattle.box_index.specs.Tiles.{PlainIndex, IsSoundIndex, IsRising, is_in, near_of}
 use Rattle.box_index.proofs.EntryLists.{pairs_first, pairs_rest}
@@ -20,7 +18,7 @@ use Rattle.pair_check.specs.PlainRow.{PlainRow}
 use Rattle.pair_check.specs.Rows.{Checked}
 use Rattle.board_index.specs.Holding.{IsEntryOf}
 use Rattle.row_check.specs.Tiles.{IsIndexOf, AreRowsOfTile, pairs_of, is_changed, most_steps}
-use Rattle.row_check.specs.Walks.{is_owned, partners_of, pairs_with, IsOn, AreRowsOfPairs, HasMore}
+use Rattle.row_check.specs.Walks.{is_owned, partners_of, pairs_with, AreRowsOfPairs, HasMore}
 use Rattle.row_check.proofs.PairLists.{Pair, Comes, no_pairs, join_pairs, pairs_rise}
 use Rattle.row_check.proofs.TestedPairs.{tested, test_of, tested_is, tested_all, steps_are, touches}
 use Rattle.row_check.proofs.RowLists.{pairs_front}
@@ -68,13 +66,13 @@ pair_partners R p later false h = AllPairs-filter R p later h
 pub record AreEntries (c : Checked) (xs : List Entry) : Type 0 where
   pub rising : IsRising xs
   pub fit : All (λ e. FitsWithin (pos 2000000000) e.bounds) xs
-  pub there : All (IsOn c.board) xs
+  pub there : All (IsEntryOf c.board) xs
 
 pub rest_entries : (c : Checked) (first : Entry) (others : List Entry) → AreEntries c (first ∷ others) → AreEntries c others
 rest_entries c first others a = record {
   rising = pairs_rest (λ (x y : Entry). x.id < y.id) first others a.rising;
   fit = All-tail (λ (e : Entry). FitsWithin (pos 2000000000) e.bounds) first others a.fit;
-  there = All-tail (IsOn c.board) first others a.there;
+  there = All-tail (IsEntryOf c.board) first others a.there;
 }
 
 pub partner_entries : (c : Checked) (ch : Entry → Bool) (first : Entry) (others : List Entry) → AreEntries c (first ∷ others) → AreEntries c (first ∷ partners_of ch first others)
@@ -84,14 +82,8 @@ partner_entries c ch first others a =
     let kept = partners_of ch first others in record {
       rising = AllPairs-cons R first kept (all_partners (R first) ch first others (ch first) (pairs_first R first others a.rising)) (pair_partners R ch others (ch first) (pairs_rest R first others a.rising));
       fit = All-cons F first kept (All-head F first others a.fit) (all_partners F ch first others (ch first) (All-tail F first others a.fit));
-      there = All-cons (IsOn c.board) first kept (All-head (IsOn c.board) first others a.there) (all_partners (IsOn c.board) ch first others (ch first) (All-tail (IsOn c.board) first others a.there));
+      there = All-cons (IsEntryOf c.board) first kept (All-head (IsEntryOf c.board) first others a.there) (all_partners (IsEntryOf c.board) ch first others (ch first) (All-tail (IsEntryOf c.board) first others a.there));
     }
-
-on_board : (board : PlainBoard) (e : Entry) → IsEntryOf board e → IsOn board e
-on_board board e is = is_there (item_at board.items e.id) is.item is.stands
-  where
-    is_there : (o : Option Item) (item : Item) → o ≡ Some item → IsSome o
-    is_there o item h = rw h refl
 
 tested_rise : (ch : Entry → Bool) (q : Entry → Entry → Bool) (xs : List Entry) → IsRising xs → AllPairs Comes (tested ch q xs)
 tested_rise ch q xs r = subst (AllPairs Comes) (sym (tested_is ch q xs)) (AllPairs-filter Comes (test_of ch q) (pairs_of xs) (pairs_rise xs r))
@@ -154,14 +146,14 @@ module _ (c : Checked) (index : PlainIndex) (tile : ℕ) (changed : List ℕ) wh
         omega arith
 
   module _ (near : List Entry) (sound : IsSoundIndex index) (is : IsIndexOf c index) (e : near ≡ near_of index tile) where
-    entries_on : All (IsOn c.board) index.entries
-    entries_on = λ k d l. on_board c.board (get_or index.entries k d) (is.items.only (get_or index.entries k d) (Contains-get_or index.entries k d l))
+    entries_on : All (IsEntryOf c.board) index.entries
+    entries_on = λ k d l. is.items.only (get_or index.entries k d) (Contains-get_or index.entries k d l)
 
     near_entries : AreEntries c near
     near_entries = record {
       rising = subst IsRising (sym e) (AllPairs-filter (λ (a b : Entry). a.id < b.id) (is_in index tile) index.entries sound.rising);
       fit = subst (All (λ (x : Entry). FitsWithin (pos 2000000000) x.bounds)) (sym e) (All-filter (is_in index tile) (λ (x : Entry). FitsWithin (pos 2000000000) x.bounds) index.entries sound.fit);
-      there = subst (All (IsOn c.board)) (sym e) (All-filter (is_in index tile) (IsOn c.board) index.entries entries_on);
+      there = subst (All (IsEntryOf c.board)) (sym e) (All-filter (is_in index tile) (IsEntryOf c.board) index.entries entries_on);
     }
 
     pub none_tested : (touched : List Entry) (rows : List PlainRow) (start : ℕ) → touched ≡ filter (touches changed) near → rows ≡ [] → IsTestedTo c index tile changed near near touched rows start start

@@ -3,3 +3,4 @@ pub mod Walks
 pub mod Blocks
 pub mod Whole
 pub mod Hands
+pub mod Copper

@@ -1,7 +1,6 @@
 -- The rows of a tile, as the walk over its entries finds them.
-use Rattle.std.specs.Prelude.{◌≡◌, ℕ, Bool, ◌&&◌, ◌==◌, cond, List, [], ◌++◌, map, filter, Contains, IsSome}
+use Rattle.std.specs.Prelude.{◌≡◌, ℕ, Bool, ◌&&◌, ◌==◌, cond, List, [], ◌++◌, map, filter, Contains}
 use Rattle.geo_seg.specs.Boxes.{are_near}
-use Rattle.board_items.specs.Boards.{PlainBoard, item_at}
 use Rattle.box_index.specs.declared.entry.Entry.{Entry}
 use Rattle.box_index.specs.Tiles.{PlainIndex, margin, owner_of}
 use Rattle.pair_check.specs.PlainRow.{PlainRow}
@@ -24,10 +23,6 @@ pub record IsEndOf (index : PlainIndex) (tile : ℕ) (a : Entry) (others end : L
   pub front : List Entry
   pub split : others ≡ front ++ end
   pub none : filter (is_owned index tile a) front ≡ []
-
--- the entry is that of an item of the board
-abbrev pub IsOn : PlainBoard → Entry → Type 0
-IsOn board e = IsSome (item_at board.items e.id)
 
 -- the row is of one of the pairs
 pub record IsOfOne (pairs : List (Entry × Entry)) (row : PlainRow) : Type 0 where

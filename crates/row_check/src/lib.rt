@@ -5,6 +5,7 @@
 #![tactic(auto)]
 
 mod blocks;
+mod copper;
 mod hands;
 pub mod laws;
 pub mod near;

@@ -3,17 +3,20 @@
 ghost use Rattle.std.specs.Prelude.{◌≡◌, ◌+◌, ◌<◌, ◌≤◌, ◌∷◌, pos, Bool, All, length, filter, IfOk, OnOk};
 ghost use Rattle.std.specs.List.Sorted.{IsStrictlyIncreasing};
 ghost use Rattle.geo_seg.specs.Boxes.{FitsWithin};
+ghost use Rattle.board_index.specs.Holding.{IsEntryOf};
 ghost use Rattle.box_index.specs.declared.entry.Entry.{Entry};
 ghost use Rattle.box_index.specs.Tiles.{IsRising};
 ghost use Rattle.pair_check.specs.Asked.{IsNoteOf};
 ghost use Rattle.pair_check.specs.Rows.{AreRowsOfPair};
 ghost use Rattle.pair_check.specs.Views.{checked_by, deciders_of, IsWholeView};
 ghost use Rattle.row_check.specs.Blocks.{AreBoxes, StartsOwned};
+ghost use Rattle.row_check.specs.Copper.{AskAtMost};
 ghost use Rattle.row_check.specs.Hands.{StandsAt};
 ghost use Rattle.row_check.specs.Tiles.{IsIndexOf, AreRowsOfTile, is_changed, most_steps};
-ghost use Rattle.row_check.specs.Walks.{is_owned, partners_of, pairs_with, IsEndOf, IsOn, AreRowsOfPairs, HasMore};
+ghost use Rattle.row_check.specs.Walks.{is_owned, partners_of, pairs_with, IsEndOf, AreRowsOfPairs, HasMore};
 
 use crate::blocks::{Boxes, LONG, SHORT, boxes_of, is_far, no_boxes};
+use crate::copper::{Length, are_apart, asked_of_copper};
 use crate::hands::{Hand, hand_at, hand_of, hands_of};
 use box_index::{Entry, TileIndex};
 use pair_check::{Asked, CheckView, PairRows, Row, Steps, test_two};
@@ -23,11 +26,12 @@ use std::sync::ledger::Ledger;
 /// How many entries change where all items are looked up first.
 const MANY: usize = 256;
 
-/// What is tested, what is asked for at all, and items that are at hand.
+/// What is tested, what is asked for at all, and of copper at most, and items that are at hand.
 #[derive(Clone, Copy)]
 struct Tested<'a, 'b> {
     view: &'a CheckView<'b>,
     asked: Asked,
+    of_copper: Length,
     hands: &'a [Hand<'b>],
 }
 
@@ -105,23 +109,35 @@ fn partners<'a>(
     }
 }
 
-/// Appends the rows of a pair.
+/// Appends the rows of a pair, the items of these two entries.
 fn push_pair<L: Ledger>(
     tested: &Tested<'_, '_>,
+    first: &Entry,
     one: Hand<'_>,
+    second: &Entry,
     other: Hand<'_>,
     sheet: &mut Sheet,
     steps: &mut Steps<L>,
 ) -> Result<(), AllocError>
     requires view { IsWholeView tested.now.view.now }
     requires asked { IsNoteOf (deciders_of tested.now.view.now) tested.now.asked }
+    requires of_copper { AskAtMost (deciders_of tested.now.view.now) tested.now.of_copper.nm }
     requires ordered { one.id < other.id }
     requires first { StandsAt (checked_by tested.now.view.now) one }
     requires second { StandsAt (checked_by tested.now.view.now) other }
+    requires first_is { one.id ≡ first.now.id }
+    requires second_is { other.id ≡ second.now.id }
+    requires first_fits { FitsWithin (pos 2000000000) first.now.bounds }
+    requires second_fits { FitsWithin (pos 2000000000) second.now.bounds }
+    requires first_there { IsEntryOf (checked_by tested.now.view.now).board first.now }
+    requires second_there { IsEntryOf (checked_by tested.now.view.now).board second.now }
     ensures rows { OnOk result (HasMore (AreRowsOfPair (checked_by tested.now.view.now) one.entry.id other.entry.id) sheet.old.rows.items sheet.new.rows.items) }
     ensures step { steps.new ≡ steps.old + 1 }
 {
     steps.tick();
+    if are_apart(tested.of_copper, first, one.single, second, other.single) {
+        return Ok(());
+    }
     test_two(
         tested.view,
         tested.asked,
@@ -169,12 +185,13 @@ fn push_beside<L: Ledger>(
 ) -> Result<(), AllocError>
     requires view { IsWholeView tested.now.view.now }
     requires asked { IsNoteOf (deciders_of tested.now.view.now) tested.now.asked }
+    requires of_copper { AskAtMost (deciders_of tested.now.view.now) tested.now.of_copper.nm }
     requires hands { All (StandsAt (checked_by tested.now.view.now)) tested.now.hands.now }
     requires same { one.id ≡ first.now.id }
     requires first { StandsAt (checked_by tested.now.view.now) one }
     requires rising { IsRising (first.now ∷ others.now) }
     requires fits { All (λ e. FitsWithin (pos 2000000000) e.bounds) (first.now ∷ others.now) }
-    requires there { All (IsOn (checked_by tested.now.view.now).board) (first.now ∷ others.now) }
+    requires there { All (IsEntryOf (checked_by tested.now.view.now).board) (first.now ∷ others.now) }
     requires blocks { AreBoxes at.now.boxes others.now }
     requires owned { StartsOwned at.now.index.now at.now.tile first.now others.now }
     ensures rows { OnOk result (HasMore (AreRowsOfPairs (checked_by tested.now.view.now) (pairs_with at.now.index.now at.now.tile first.now others.now)) sheet.old.rows.items sheet.new.rows.items) }
@@ -186,7 +203,7 @@ fn push_beside<L: Ledger>(
         let Some(other) = hand_at(tested.view, tested.hands, left.len(), second.id) else {
             return Ok(());
         };
-        push_pair(tested, one, other, sheet, steps)?;
+        push_pair(tested, first, one, second, other, sheet, steps)?;
         left = owned_from(at, first, rest);
     }
     Ok(())
@@ -203,10 +220,11 @@ fn push_rows<L: Ledger>(
 ) -> Result<(), AllocError>
     requires view { IsWholeView tested.now.view.now }
     requires asked { IsNoteOf (deciders_of tested.now.view.now) tested.now.asked }
+    requires of_copper { AskAtMost (deciders_of tested.now.view.now) tested.now.of_copper.nm }
     requires hands { All (StandsAt (checked_by tested.now.view.now)) tested.now.hands.now }
     requires rising { IsRising (first.now ∷ others.now) }
     requires fits { All (λ e. FitsWithin (pos 2000000000) e.bounds) (first.now ∷ others.now) }
-    requires there { All (IsOn (checked_by tested.now.view.now).board) (first.now ∷ others.now) }
+    requires there { All (IsEntryOf (checked_by tested.now.view.now).board) (first.now ∷ others.now) }
     requires blocks { AreBoxes at.now.boxes others.now }
     ensures rows { OnOk result (HasMore (AreRowsOfPairs (checked_by tested.now.view.now) (pairs_with at.now.index.now at.now.tile first.now others.now)) sheet.old.rows.items sheet.new.rows.items) }
     ensures steps { OnOk result (steps.new ≡ steps.old + length (pairs_with at.now.index.now at.now.tile first.now others.now)) }
@@ -272,7 +290,13 @@ pub fn test_tile<L: Ledger>(
     };
     let all_hands = hands_if(alloc, view, near, all_touched.len())?;
     let hands: &[Hand<'_>] = &all_hands;
-    let tested = Tested { view, asked, hands };
+    let of_copper = asked_of_copper(view);
+    let tested = Tested {
+        view,
+        asked,
+        of_copper,
+        hands,
+    };
     let rows = Vec::new(alloc);
     let pair = PairRows::new(alloc);
     let mut sheet = Sheet { pair, rows };

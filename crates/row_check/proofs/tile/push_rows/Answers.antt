@@ -1,7 +1,8 @@
 use Rattle.std.proofs.Common.{◌∙◌, sym}
 use Rattle.std.proofs.lemmas.Bool.{eqb-true}
 use Rattle.pair_check.specs.Views.{checked_by}
-use Rattle.row_check.specs.Walks.{pairs_with, IsOn}
+use Rattle.board_index.specs.Holding.{IsEntryOf}
+use Rattle.row_check.specs.Walks.{pairs_with}
 use Rattle.row_check.proofs.TileEnds.{Fits, none_at_all, no_pairs_left, end_all, end_rises, end_blocks}
 use Rattle.row_check.proofs.tile.push_rows.Goals as goal
 
@@ -13,7 +14,7 @@ push_beside-requires-clause-fits g c = end_all c.args.at.now.index.now c.args.at
 
 pub push_beside-requires-clause-there : goal.push_beside-requires-clause-there
 push_beside-requires-clause-there g c =
-    end_all c.args.at.now.index.now c.args.at.now.tile c.args.first.now c.args.others.now c.owned_from-owned.result.now c.owned_from-owned.ensures.end (IsOn (checked_by c.args.tested.now.view.now).board) c.requires.there
+    end_all c.args.at.now.index.now c.args.at.now.tile c.args.first.now c.args.others.now c.owned_from-owned.result.now c.owned_from-owned.ensures.end (IsEntryOf (checked_by c.args.tested.now.view.now).board) c.requires.there
 
 pub push_beside-requires-clause-blocks : goal.push_beside-requires-clause-blocks
 push_beside-requires-clause-blocks g c = end_blocks c.args.at.now.index.now c.args.at.now.tile c.args.first.now c.args.others.now c.owned_from-owned.result.now c.owned_from-owned.ensures.end c.args.at.now.boxes c.requires.blocks
