@@ -171,6 +171,8 @@ pub fn fetch<F: Shelf>(
     let mut text = Vec::new(alloc);
     'pieces: while text.len() <= limit as usize {
         if read_piece(shelf, name, &mut text)? == 0 {
+            // what the text leaves of its room is free for what comes next
+            text.shrink_to_fit();
             return Ok(text);
         }
     }
