@@ -1,4 +1,5 @@
 pub mod TextPlaces
 pub mod Texts
+pub mod Turns
 pub mod Walks
 pub mod Words

@@ -1,11 +1,11 @@
 //! The elements of a list: one by its head, or several in one walk over its parts.
 
-ghost use Rattle.std.specs.Prelude.{◌≡◌, ◌<◌, ◌↔◌, length, EachIndex, slice_index_or, None, Some, map, option_map, IsTrue};
+ghost use Rattle.std.specs.Prelude.{◌≡◌, ◌<◌, ◌↔◌, true, length, EachIndex, slice_index_or, None, Some, map, option_map, IsTrue};
 ghost use Rattle.sexpr_read.specs.Tree.{value};
 ghost use Rattle.sexpr_read.specs.Views.{tree_of};
 ghost use Rattle.list_read.specs.Elements.{element, is_naming, naming};
 ghost use Rattle.list_read.specs.Wanted.{found_in};
-ghost use Rattle.list_read.specs.Walk.{is_wanted_first, is_new, noted};
+ghost use Rattle.list_read.specs.Walk.{is_wanted_first, is_new, are_distinct, noted};
 
 use crate::heads::has_head;
 use sexpr_read::Node;
@@ -111,7 +111,8 @@ fn is_new_word(
     found.is_none() && is_wanted_word(first, word, wanted)
 }
 
-/// As `note_part`, where the first part is this word, as in nearly all lists: it is taken from the text once.
+/// As `note_part`, where the first part is this word, whatever place it is wanted at.
+#[inline(never)]
 fn note_word<'d, 't>(
     part: Node<'d, 't>,
     first: Node<'d, 't>,
@@ -131,7 +132,8 @@ fn note_word<'d, 't>(
     }
 }
 
-/// As `note_part`, where the first part may be in quotes.
+/// As `note_word`, where the first part may be in quotes.
+#[inline(never)]
 fn note_any<'d, 't>(
     part: Node<'d, 't>,
     first: Node<'d, 't>,
@@ -149,20 +151,49 @@ fn note_any<'d, 't>(
     }
 }
 
-/// The part, whose first part is `first`, is noted for each for which it is the first one.
+/// As `note_part`, where the first part is this word, as in nearly all lists: it is taken from the text once.
+#[inline(always)]
+fn note_in_turn<'d, 't>(
+    part: Node<'d, 't>,
+    first: Node<'d, 't>,
+    word: &[u8],
+    wanted: &[Wanted],
+    next: usize,
+    found: &mut [Option<Node<'d, 't>>],
+) -> usize
+    requires word { value (tree_of first) ≡ Some word.now }
+    requires places { length wanted.now ≡ length found.old }
+    requires distinct { are_distinct wanted.now ≡ true }
+    ensures { map (option_map tree_of) found.new ≡ noted (tree_of part.entry) (tree_of first.entry) wanted.now (map (option_map tree_of) found.old) }
+{
+    if next < wanted.len() && is_new_word(&found[next], first, word, wanted[next]) {
+        found[next] = Some(part);
+        return next + 1;
+    }
+    note_word(part, first, word, wanted, found);
+    next
+}
+
+/// The part, whose first part is `first`, is noted for each for which it is the first one. The one at `next` is asked first, since
+/// parts mostly come in the order in which they are wanted; the place that is next after it is given.
 #[inline(always)]
 fn note_part<'d, 't>(
     part: Node<'d, 't>,
     first: Node<'d, 't>,
     wanted: &[Wanted],
+    next: usize,
     found: &mut [Option<Node<'d, 't>>],
-)
-    requires { length wanted.now ≡ length found.old }
+) -> usize
+    requires places { length wanted.now ≡ length found.old }
+    requires distinct { are_distinct wanted.now ≡ true }
     ensures { map (option_map tree_of) found.new ≡ noted (tree_of part.entry) (tree_of first.entry) wanted.now (map (option_map tree_of) found.old) }
 {
     match first.word() {
-        Some(word) => note_word(part, first, word, wanted, found),
-        None => note_any(part, first, wanted, found),
+        Some(word) => note_in_turn(part, first, word, wanted, next, found),
+        None => {
+            note_any(part, first, wanted, found);
+            next
+        }
     }
 }
 
@@ -175,19 +206,22 @@ fn clear(found: &mut [Option<Node<'_, '_>>])
     }
 }
 
-/// Finds for each that is wanted the first part of the list that is the one. The list is walked once.
+/// Finds for each that is wanted the first part of the list that is the one. The list is walked once, fastest where its parts come in
+/// the order in which they are wanted. No head is wanted twice.
 pub fn find_elements<'d, 't>(
     node: Node<'d, 't>,
     wanted: &[Wanted],
     found: &mut [Option<Node<'d, 't>>],
 )
-    requires { length wanted.now ≡ length found.old }
+    requires places { length wanted.now ≡ length found.old }
+    requires distinct { are_distinct wanted.now ≡ true }
     ensures { map (option_map tree_of) found.new ≡ map (found_in (tree_of node.entry)) wanted.now }
 {
     clear(found);
+    let mut next = 0;
     for part in node.children() {
         if let Some(first) = part.children().next() {
-            note_part(part, first, wanted, found);
+            next = note_part(part, first, wanted, next, found);
         }
     }
 }

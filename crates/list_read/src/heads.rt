@@ -51,6 +51,7 @@ pub fn behind_head<'d, 't>(list: Node<'d, 't>) -> Children<'d, 't>
 }
 
 /// Of each of two words whether it stands in the list, found in one walk.
+#[inline(always)]
 #[tactic(auto, unfolding(crate::specs::Heads::has_word))]
 pub fn has_words(list: Node<'_, '_>, first: &[u8], second: &[u8]) -> (bool, bool)
     ensures first { result.0 ≡ has_word first.now (tree_of list.entry) }

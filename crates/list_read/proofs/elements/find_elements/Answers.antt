@@ -17,7 +17,7 @@ loop-part-preserved-in-Some-next c =
     let ws = c.args.wanted.now in
     let rest = trees_left c.next.new.self in
     let first = sym c.children.ensures.given ∙ c.in-Some-next.ensures.steps in
-    ap (λ (fs : List (Option Tree)). completed rest ws fs) c.note_part.ensures
+    ap (λ (fs : List (Option Tree)). completed rest ws fs) c.note_part-next.ensures
     ∙ completed_more (tree_of c.in-Some.part) (tree_of c.in-Some-next.first) rest _ ws (map (option_map tree_of) c.loop-part.found) first
     ∙ ap (λ (ts : List Tree). completed ts ws (map (option_map tree_of) c.loop-part.found)) (sym c.in-Some.ensures.steps)
     ∙ c.loop-part.invariant
