@@ -1,13 +1,23 @@
 -- Filters of lists, and lists of entries by rising id.
-use Rattle.std.proofs.Common.{◌≡◌, ◌≢◌, ◌∙◌, ap, sym, subst, refl, ℕ, ◌+◌, ◌<◌, ◌≤◌, suc, Bool, true, false, cond, not, ◌==◌, nat_lt, List, [], ◌∷◌, ◌++◌, length, take, drop, slice_index_or, arith}
+use Rattle.std.proofs.Common.{◌≡◌, ◌≢◌, inl, inr, ◌∙◌, ap, sym, subst, refl, ℕ, ◌+◌, ◌<◌, ◌≤◌, suc, Bool, true, false, cond, not, ◌==◌, nat_lt, List, [], ◌∷◌, ◌++◌, length, take, drop, slice_index_or, arith}
 use Rattle.std.specs.Prelude.{if◌then◌else◌, Result, Ok, Err, is_ok, IsOk}
 use Rattle.std.specs.List.{filter, All, AllPairs, AllWithin, insert, remove}
 use Rattle.std.specs.List.Sorted.{IsPartitionedBy}
+use Rattle.std.proofs.lemmas.Bool.{cases_lt}
 use Rattle.std.proofs.lemmas.Bool.Decides.{nat_tests}
 use Rattle.std.proofs.lemmas.List.Elements.{All-head, All-tail, filter-append}
-use Rattle.std.proofs.lemmas.List.{take-append-drop, length-take, length-drop, get_or-take, get_or-drop, append-nil, drop_more, get_or_read}
+use Rattle.std.proofs.lemmas.List.{take-append-drop, length-take, length-drop, get_or-take, get_or-drop, append-nil, take_all, drop_all, drop_more, get_or_default, get_or_read}
 use Rattle.box_index.specs.declared.entry.Entry.{Entry}
 use Rattle.box_index.specs.Tiles.{IsRising, IsAbsent, placed, without}
+
+-- the last of a rising list is below, so all are
+pub all_below : (xs : List Entry) (id n : ℕ) (x : Entry) → IsRising xs → length xs ≡ n + 1 → (slice_index_or xs n x).id < id → AllWithin (λ e. e.id < id) xs 0 (length xs)
+all_below xs id n x r long low = λ k d z l.
+    let last : (slice_index_or xs n d).id ≡ (slice_index_or xs n x).id = ap (λ y. y.id) (get_or_default xs n d x (omega (arith, long))) in
+    elim (cases_lt k n) [
+      | inl b ↦ let up = r k n d b (omega (arith, long)) in omega (arith, up, last, low)
+      | inr b ↦ let here : k ≡ n = omega (arith, b, l, long) in subst (λ j. (slice_index_or xs j d).id < id) (sym here) (omega (arith, last, low))
+    ]
 
 -- ---- filters
 module _ {X : Type 0} where
@@ -144,6 +154,11 @@ none_at id xs n = sym (filter_all (λ (y : Entry). not (y.id == id)) xs (λ i d 
 pub inserted : {T E : Type 0} (r : Result T E) (now xs : List Entry) (e : Entry) (k : ℕ) → now ≡ (if is_ok r then insert xs k e else xs) → IsOk r → IsSplit e.id xs k → IsAbsent e.id xs → now ≡ placed e xs
 inserted (Ok v) now xs e k h o s a = h ∙ placed_at e xs k s a
 inserted (Err v) now xs e k h o s a = cc
+
+pub put_last : (now xs : List Entry) (e : Entry) (k : ℕ) → now ≡ xs ++ e ∷ [] → k ≡ length xs → IsSplit e.id xs k → IsAbsent e.id xs → now ≡ placed e xs
+put_last now xs e k h end s a =
+    let ends : insert xs k e ≡ xs ++ e ∷ [] = ap (λ ys. ys ++ e ∷ drop k xs) (take_all k xs (omega (arith, end))) ∙ ap (λ ys. xs ++ e ∷ ys) (drop_all k xs (omega (arith, end))) in
+    h ∙ sym ends ∙ placed_at e xs k s a
 
 pub same_place : (xs : List Entry) (k : ℕ) (x y : Entry) → k < length xs → x ≡ slice_index_or xs k x → y ≡ slice_index_or xs k y → x.id ≡ y.id
 same_place xs k x y l e g = ap (λ (v : Entry). v.id) (get_or_read xs k x l e y ∙ sym g)

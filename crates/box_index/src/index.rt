@@ -2,7 +2,7 @@
 
 ghost use Rattle.std.specs.Prelude.{◌≡◌, ◌<◌, ◌≤ℤ◌, pos, ◌&&◌, false, [], ℕ, length, slice_index_or, filter, All, IfOk, OnOk, OnErr};
 ghost use Rattle.std.specs.List.{AllZip};
-ghost use Rattle.geo_seg.specs.Boxes.{FitsWithin, widened, are_near};
+ghost use Rattle.geo_seg.specs.Boxes.{FitsWithin, widened};
 ghost use Rattle.box_index.specs.declared.entry.Entry.{Entry};
 ghost use Rattle.box_index.specs.Areas.{has_tile};
 ghost use Rattle.box_index.specs.Walks.{AreEmpty, AreMarks, HaveSameEntries};
@@ -12,7 +12,7 @@ use crate::area::Area;
 use crate::corners::last_corner;
 use crate::entry::Entry;
 use crate::kept::KeptBoxes;
-use crate::lanes::{LANES, TILES, are_near, owner};
+use crate::lanes::{LANES, TILES, owner, widen};
 use crate::walks::{mark_boxes, put_each, reserve_each, take_out_each};
 use geo_seg::Bounds;
 use std::alloc::{AllocError, Global};
@@ -123,12 +123,12 @@ impl TileIndex {
         owner(2 * self.reach, first, second) as u32
     }
 
-    /// Whether the boxes meet, also by touching, where the first is widened by the reach. It takes no memory.
-    pub fn are_near(&self, first: Bounds, second: Bounds) -> bool
-        requires first { FitsWithin (pos 2000000000) first }
-        ensures { result ≡ are_near (margin self.now) first second }
+    /// The box, widened by the reach: what it meets, also by touching, is near the box. It takes no memory.
+    pub fn widened(&self, bounds: Bounds) -> Bounds
+        requires { FitsWithin (pos 2000000000) bounds }
+        ensures { result ≡ widened bounds (margin self.now) }
     {
-        are_near(2 * self.reach, first, second)
+        widen(bounds, 2 * self.reach)
     }
 
     /// The tiles that the box meets where it is widened by the reach: those that lend the box's entry, where it is in the

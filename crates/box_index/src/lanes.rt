@@ -1,12 +1,11 @@
 //! Columns, rows and tiles.
 
 ghost use Rattle.std.specs.Prelude.{◌≡◌, ℕ, ℤ, ◌<◌, ◌≤◌, ◌+◌, ◌*◌, ◌≤ℤ◌, pos, neg_ℤ, true, false};
-ghost use Rattle.geo_seg.specs.Boxes.{FitsWithin, widened, are_near};
+ghost use Rattle.geo_seg.specs.Boxes.{FitsWithin, widened};
 ghost use Rattle.box_index.specs.Tiles.{lane, meets_tile, owner_of, tile_count};
 ghost use Rattle.box_index.specs.Areas.{has_tile, end_of};
 
 use crate::area::Area;
-use crate::boxes::do_boxes_meet;
 use geo_seg::Bounds;
 
 /// Tiles in a row, and rows of tiles.
@@ -27,7 +26,7 @@ pub(crate) fn lane(z: i64) -> usize
 }
 
 /// The box with each side moved out by the margin.
-fn widen(bounds: Bounds, margin: i64) -> Bounds
+pub(crate) fn widen(bounds: Bounds, margin: i64) -> Bounds
     requires from { pos 0 ≤ℤ margin }
     requires to { margin ≤ℤ pos 1000000000 }
     requires bounds { FitsWithin (pos 2000000000) bounds }
@@ -55,17 +54,6 @@ pub(crate) fn owner(margin: i64, first: Bounds, second: Bounds) -> usize
     let column = lane(wide.left.max(second.left));
     let row = lane(wide.top.max(second.top));
     row * LANES + column
-}
-
-/// Whether the boxes meet, also by touching, where the first is widened by the margin, in half nanometres.
-pub(crate) fn are_near(margin: i64, first: Bounds, second: Bounds) -> bool
-    requires from { pos 0 ≤ℤ margin }
-    requires to { margin ≤ℤ pos 1000000000 }
-    requires first { FitsWithin (pos 2000000000) first }
-    ensures { result ≡ are_near margin first second }
-{
-    let wide = widen(first, margin);
-    do_boxes_meet(wide, second)
 }
 
 impl Area {

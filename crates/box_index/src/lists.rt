@@ -6,13 +6,17 @@ ghost use Rattle.box_index.specs.Tiles.{IsRising, IsAbsent, placed, without};
 
 use crate::entry::Entry;
 
-/// How many entries have lesser ids.
+/// How many entries have lesser ids. Entries mostly come by rising ids, so the last one is asked first.
 fn place_of(entries: &[Entry], id: u32) -> usize
     requires { IsRising entries.now }
     ensures within { result ≤ length entries.now }
     ensures below { AllWithin (λ e. e.id < id) entries.now 0 result }
     ensures from { AllWithin (λ e. id ≤ e.id) entries.now result (length entries.now) }
 {
+    let count = entries.len();
+    if count == 0 || entries[count - 1].id < id {
+        return count;
+    }
     entries.partition_point(|e| e.id < id)
 }
 
@@ -24,6 +28,10 @@ pub(crate) fn put(entries: &mut Vec<Entry>, entry: Entry)
     ensures { entries.new.items ≡ placed entry entries.old.items }
 {
     let place = place_of(entries, entry.id);
+    if place == entries.len() {
+        entries.push_reserved(entry);
+        return;
+    }
     let _ = entries.insert(place, entry);
 }
 

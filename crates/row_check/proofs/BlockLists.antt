@@ -69,14 +69,17 @@ blocks_end size boxes entries front end split h = record {
   each = λ f e is k b at long. h.each (front ++ f) e (split ∙ ap (λ ys. front ++ ys) is ∙ sym (append_assoc front f e)) k b at long;
 }
 
-far_block : (size : ℕ) (index : PlainIndex) (tile : ℕ) (first : Entry) (boxes : List Bounds) (left : List Entry) → AreBlocks size boxes left → IsFar index first size boxes (length left) → filter (is_owned index tile first) (take size left) ≡ []
+far_block : (size : ℕ) (index : PlainIndex) (tile : ℕ) (first : Entry) (boxes : List Bounds) (left : List Entry) → AreBlocks size boxes left → IsFar (widened first.bounds (margin index)) size boxes (length left) → filter (is_owned index tile first) (take size left) ≡ []
 far_block size index tile first boxes left h far =
     filter_none (is_owned index tile first) (take size left)
     (All-weaker (λ (e : Entry). IsPartOf e.bounds far.box) (λ (e : Entry). is_owned index tile first e ≡ false)
     (λ e part. not_owned (are_near (margin index) first.bounds e.bounds) _ (far_part (margin index) first.bounds e.bounds far.box part far.far)) (take size left) (h.each [] left refl far.k far.box far.stands far.count_is))
 
+pub as_widened : (first : Entry) (index : PlainIndex) (wide : Bounds) (size : ℕ) (boxes : List Bounds) (count : ℕ) → wide ≡ widened first.bounds (margin index) → IsFar wide size boxes count → IsFar (widened first.bounds (margin index)) size boxes count
+as_widened first index wide size boxes count e far = subst (λ (w : Bounds). IsFar w size boxes count) e far
+
 -- a block more that is far
-pub block_less : (size : ℕ) (index : PlainIndex) (tile : ℕ) (a : Entry) (boxes : List Bounds) (others left rest : List Entry) → rest ≡ drop size left → AreBlocks size boxes left → IsFar index a size boxes (length left) → IsEndOf index tile a others left → IsEndOf index tile a others rest
+pub block_less : (size : ℕ) (index : PlainIndex) (tile : ℕ) (a : Entry) (boxes : List Bounds) (others left rest : List Entry) → rest ≡ drop size left → AreBlocks size boxes left → IsFar (widened a.bounds (margin index)) size boxes (length left) → IsEndOf index tile a others left → IsEndOf index tile a others rest
 block_less size index tile a boxes others left rest e blocks far h = record {
   front = h.front ++ take size left;
   split = h.split ∙ ap (λ ys. h.front ++ ys) (sym (take-append-drop size left) ∙ ap (λ ys. take size left ++ ys) (sym e)) ∙ sym (append_assoc h.front (take size left) rest);
@@ -89,8 +92,8 @@ block_less size index tile a boxes others left rest e blocks far h = record {
 -- both kinds of blocks
 pub boxes_end : (boxes : Boxes) (entries front end : List Entry) → entries ≡ front ++ end → AreBoxes boxes entries → AreBoxes boxes end
 boxes_end boxes entries front end split h = record {
-  short = blocks_end 8 boxes.short.now entries front end split h.short;
-  long = blocks_end 64 boxes.long.now entries front end split h.long;
+  short = blocks_end 4 boxes.short.now entries front end split h.short;
+  long = blocks_end 32 boxes.long.now entries front end split h.long;
 }
 
 -- what a slice behind the block has

@@ -1,17 +1,17 @@
 //! Blocks of the entries of a tile, each under one box, so that what is far is passed over together.
 
-ghost use Rattle.std.specs.Prelude.{◌≡◌, ◌<◌, pos, true, All, IfOk, ◌∷◌};
-ghost use Rattle.geo_seg.specs.Boxes.{FitsWithin, IsPartOf};
+ghost use Rattle.std.specs.Prelude.{◌≡◌, ◌<◌, true, All, IfOk, ◌∷◌};
+ghost use Rattle.geo_seg.specs.Boxes.{IsPartOf};
 ghost use Rattle.row_check.specs.Blocks.{AreBlocks, AreBoxes, IsFar};
 
-use box_index::{Entry, TileIndex};
+use box_index::{Entry, do_boxes_meet};
 use geo_seg::Bounds;
 use std::alloc::{AllocError, Global};
 
 /// How many entries have one box in a short block, and in a long one.
-pub(crate) const SHORT: usize = 8;
+pub(crate) const SHORT: usize = 4;
 
-pub(crate) const LONG: usize = 64;
+pub(crate) const LONG: usize = 32;
 
 /// The boxes of blocks of both sizes, the last block first. Blocks are counted from the end, so that they are the same for each end
 /// of the entries.
@@ -76,18 +76,11 @@ pub(crate) fn boxes_of(
     Ok(boxes)
 }
 
-/// Whether so many entries begin with a block whose box is not near that of the first. Only a yes is sure.
+/// Whether so many entries begin with a block whose box does not meet the wide one. Only a yes is sure.
 #[inline(always)]
-pub(crate) fn is_far(
-    index: &TileIndex,
-    first: &Entry,
-    size: usize,
-    boxes: &[Bounds],
-    count: usize,
-) -> bool
-    requires fits { FitsWithin (pos 2000000000) first.now.bounds }
-    requires some { 0 < size }
-    ensures { result ≡ true → IsFar index.now first.now size boxes.now count }
+pub(crate) fn is_far(wide: Bounds, size: usize, boxes: &[Bounds], count: usize) -> bool
+    requires { 0 < size }
+    ensures { result ≡ true → IsFar wide size boxes.now count }
 {
     if count < size {
         return false;
@@ -98,7 +91,7 @@ pub(crate) fn is_far(
         return false;
     }
     match boxes.get(behind / size) {
-        Some(bounds) => !index.are_near(first.bounds, *bounds),
+        Some(bounds) => !do_boxes_meet(wide, *bounds),
         None => false,
     }
 }

@@ -2,10 +2,10 @@
 
 ghost use Rattle.std.specs.Prelude.{◌≡◌, ◌+◌, ◌<◌, ◌≤◌, ◌∷◌, pos, Bool, All, length, filter, IfOk, OnOk};
 ghost use Rattle.std.specs.List.Sorted.{IsStrictlyIncreasing};
-ghost use Rattle.geo_seg.specs.Boxes.{FitsWithin};
+ghost use Rattle.geo_seg.specs.Boxes.{FitsWithin, widened};
 ghost use Rattle.board_index.specs.Holding.{IsEntryOf};
 ghost use Rattle.box_index.specs.declared.entry.Entry.{Entry};
-ghost use Rattle.box_index.specs.Tiles.{IsRising};
+ghost use Rattle.box_index.specs.Tiles.{IsRising, margin};
 ghost use Rattle.pair_check.specs.Asked.{IsNoteOf};
 ghost use Rattle.pair_check.specs.Rows.{AreRowsOfPair};
 ghost use Rattle.pair_check.specs.Views.{checked_by, deciders_of, IsWholeView};
@@ -18,7 +18,8 @@ ghost use Rattle.row_check.specs.Walks.{is_owned, partners_of, pairs_with, IsEnd
 use crate::blocks::{Boxes, LONG, SHORT, boxes_of, is_far, no_boxes};
 use crate::copper::{Length, are_apart, asked_of_copper};
 use crate::hands::{Hand, hand_at, hand_of, hands_of};
-use box_index::{Entry, TileIndex};
+use box_index::{Entry, TileIndex, do_boxes_meet};
+use geo_seg::Bounds;
 use pair_check::{Asked, CheckView, PairRows, Row, Steps, test_two};
 use std::alloc::{AllocError, Global};
 use std::sync::ledger::Ledger;
@@ -76,13 +77,14 @@ fn touched_of(alloc: Global, near: &[Entry], changed: &[u32]) -> Result<Vec<Entr
     Ok(touched)
 }
 
-/// Whether the two are near, and the tile answers for them. Boxes decide first.
-fn is_owned(index: &TileIndex, tile: u32, first: &Entry, second: &Entry) -> bool
+/// Whether the two are near, and the tile answers for them. Boxes decide first: `wide` is that of the first, widened.
+fn is_owned(index: &TileIndex, tile: u32, first: &Entry, wide: Bounds, second: &Entry) -> bool
     requires first { FitsWithin (pos 2000000000) first.now.bounds }
     requires second { FitsWithin (pos 2000000000) second.now.bounds }
+    requires wide { wide ≡ widened first.now.bounds (margin index.now) }
     ensures { result ≡ is_owned index.now tile first.now second.now }
 {
-    index.are_near(first.bounds, second.bounds) && index.owner(first.bounds, second.bounds) == tile
+    do_boxes_meet(wide, second.bounds) && index.owner(first.bounds, second.bounds) == tile
 }
 
 /// With which of the later entries the first is tested, with their boxes, and those of the later that changed. `touched` has
@@ -158,13 +160,14 @@ fn owned_from<'a>(at: &At<'_>, first: &Entry, others: &'a [Entry]) -> &'a [Entry
     ensures end { IsEndOf at.now.index.now at.now.tile first.now others.now result.now }
     ensures owned { StartsOwned at.now.index.now at.now.tile first.now result.now }
 {
+    let wide = at.index.widened(first.bounds);
     let mut left = others;
     'walk: while let Some((second, rest)) = left.split_first() {
-        if is_far(at.index, first, LONG, at.boxes.long, left.len()) {
+        if is_far(wide, LONG, at.boxes.long, left.len()) {
             left = &left[LONG..];
-        } else if is_far(at.index, first, SHORT, at.boxes.short, left.len()) {
+        } else if is_far(wide, SHORT, at.boxes.short, left.len()) {
             left = &left[SHORT..];
-        } else if is_owned(at.index, at.tile, first, second) {
+        } else if is_owned(at.index, at.tile, first, wide, second) {
             return left;
         } else {
             left = rest;

@@ -14,8 +14,8 @@ entries-init g c = record {
       none_tested (checked_by c.args.view.now) c.args.index.now c.args.tile c.args.changed.now c.near-near.result.now c.near-near.ensures.sound c.requires.index c.near-near.ensures.entries _ _ c.args.steps.now
       (c.deref-touched.ensures.value ∙ c.in_ok-all_touched.ensures) c.new-rows.ensures.items;
   boxes = record {
-    short = subst (λ bs. AreBlocks 8 bs c.near-near.result.now) (sym c.deref.ensures.value) c.in_ok-short_boxes.ensures;
-    long = subst (λ bs. AreBlocks 64 bs c.near-near.result.now) (sym c.deref-2.ensures.value) c.in_ok-long_boxes.ensures;
+    short = subst (λ bs. AreBlocks 4 bs c.near-near.result.now) (sym c.deref.ensures.value) c.in_ok-short_boxes.ensures;
+    long = subst (λ bs. AreBlocks 32 bs c.near-near.result.now) (sym c.deref-2.ensures.value) c.in_ok-long_boxes.ensures;
   };
 }
 
