@@ -145,9 +145,12 @@ pub(crate) fn least(waiting: &[Waiting]) -> usize
     ensures least { (k : ℕ) (d : Waiting) → k < length waiting.now → rank (slice_index_or waiting.now result d).link ≤ rank (slice_index_or waiting.now k d).link }
 {
     let mut least = 0;
+    let mut link = waiting[0].link;
     for k in 1..waiting.len() {
-        if precedes(waiting[k].link, waiting[least].link) {
+        let other = waiting[k].link;
+        if precedes(other, link) {
             least = k;
+            link = other;
         }
     }
     least
