@@ -174,6 +174,8 @@ impl Board {
     /// Appends an item and gives its id, one above the greatest that was ever given, or 0.
     ///
     /// Its refusals are those of `ItemError`, tested in that order. After each of them the board is as it was.
+    // Inlined, as is what makes an item, so that the item is made in its slot.
+    #[inline(always)]
     pub fn add(&mut self, item: Item) -> Result<u32, ItemError>
         requires { item.unit < 4294967295 }
         ensures refused { refusal_of self.old item ≡ reason_in result }
@@ -437,6 +439,7 @@ fn make_room(
 }
 
 /// Appends a slot with the item, and its id to those of its net and where it is a mark or a note, or changes nothing.
+#[inline(always)]
 fn push_slot(
     slots: &mut Vec<Option<Item>>,
     units: &mut Vec<u32>,

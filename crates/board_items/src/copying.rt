@@ -53,7 +53,7 @@ fn copy_part(alloc: Global, part: &Part) -> Result<Part, AllocError>
     })
 }
 
-fn copy_list(alloc: Global, parts: &[Part]) -> Result<SmallVec<Part, 2>, AllocError>
+fn copy_list(alloc: Global, parts: &[Part]) -> Result<SmallVec<Part, 1>, AllocError>
     ensures { IfOk result (λ copy. copy.items ≡ parts.now) }
 {
     let mut list = SmallVec::with_capacity(alloc, parts.len())?;

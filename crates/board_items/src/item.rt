@@ -112,4 +112,4 @@ pub struct Item {
 }
 
 // A board may hold 200,000 items.
-const _: () = prove!(size_of::<Item>() <= 320);
+const _: () = prove!(size_of::<Item>() <= 256);

@@ -30,10 +30,10 @@ impl<A: Allocator> MadeWith<A> for Part {
     }
 }
 
-/// A list of parts. Up to two are kept in place, since most items have no more.
+/// A list of parts. One is kept in place, since most items have no more.
 #[derive(Drop)]
 pub struct Parts {
-    pub(crate) list: SmallVec<Part, 2>,
+    pub(crate) list: SmallVec<Part, 1>,
 }
 
 impl Model for Parts {
@@ -49,7 +49,7 @@ impl Parts {
     ghost use Rattle.std.specs.Prelude.{◌≡◌};
 
     /// The parts of this list. It takes no memory.
-    pub fn of(list: SmallVec<Part, 2>) -> Parts
+    pub fn of(list: SmallVec<Part, 1>) -> Parts
         ensures { result ≡ list.items }
     {
         Parts { list }

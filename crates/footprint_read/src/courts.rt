@@ -67,7 +67,7 @@ fn figure_parts(
     alloc: Global,
     stance: Stance,
     drawings: &[Drawing],
-) -> Result<Option<SmallVec<Part, 2>>, AllocError>
+) -> Result<Option<SmallVec<Part, 1>>, AllocError>
     requires quarter { stance.quarter < 4 }
     requires at { IsWithin 3000000000000 stance.at }
     requires drawable { All IsDrawable drawings.now }
@@ -94,7 +94,7 @@ fn outline_part(poly: Poly) -> Part
     }
 }
 
-fn append_outlines(parts: &mut SmallVec<Part, 2>, polys: Vec<Poly>) -> Result<(), AllocError>
+fn append_outlines(parts: &mut SmallVec<Part, 1>, polys: Vec<Poly>) -> Result<(), AllocError>
     ensures { OnOk result (parts.new.items ≡ parts.old.items ++ map outline_part polys.items) }
 {
     for poly in polys {

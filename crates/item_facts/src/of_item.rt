@@ -27,6 +27,7 @@ fn net_name(alloc: Global, board: &Board, net: u32) -> Result<Name, AllocError>
 }
 
 /// The facts of an item of this class that meets these areas and courtyards.
+#[inline(always)]
 pub(crate) fn facts_with(
     alloc: Global,
     board: &Board,

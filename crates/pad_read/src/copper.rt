@@ -25,7 +25,7 @@ fn draw_next(
     layers: LayerSet,
     stance: Stance,
     drawing: &Drawing,
-    list: &mut SmallVec<Part, 2>,
+    list: &mut SmallVec<Part, 1>,
 ) -> Result<bool, AllocError>
     requires quarter { stance.quarter < 4 }
     requires at { IsWithin 3000000000000 stance.at }
@@ -42,7 +42,7 @@ pub fn draw_all(
     layers: LayerSet,
     stance: Stance,
     drawings: &[Drawing],
-    list: &mut SmallVec<Part, 2>,
+    list: &mut SmallVec<Part, 1>,
 ) -> Result<bool, AllocError>
     requires quarter { stance.quarter < 4 }
     requires at { IsWithin 3000000000000 stance.at }

@@ -165,7 +165,7 @@ fn cores_of(
 
 // ---- parts
 
-fn push_part(list: &mut SmallVec<Part, 2>, layers: LayerSet, shape: Shape) -> Result<(), AllocError>
+fn push_part(list: &mut SmallVec<Part, 1>, layers: LayerSet, shape: Shape) -> Result<(), AllocError>
     ensures { OnOk result (list.new.items ≡ list.old.items ++ record { layers = layers; shape = shape } ∷ []) }
 {
     list.push(Part { layers, shape })?;
@@ -177,7 +177,7 @@ fn push_around(
     layers: LayerSet,
     radius: Radius,
     cores: Vec<Core>,
-    list: &mut SmallVec<Part, 2>,
+    list: &mut SmallVec<Part, 1>,
 ) -> Result<(), AllocError>
     ensures { OnOk result (list.new.items ≡ list.old.items ++ parts_around layers radius cores.items) }
 {
@@ -205,7 +205,7 @@ pub fn draw_into(
     layers: LayerSet,
     stance: Stance,
     drawing: &Drawing,
-    list: &mut SmallVec<Part, 2>,
+    list: &mut SmallVec<Part, 1>,
 ) -> Result<bool, AllocError>
     requires quarter { stance.quarter < 4 }
     requires at { IsWithin 3000000000000 stance.at }

@@ -1,4 +1,4 @@
-//! Items that go into a board.
+//! Items that go into a board. What makes and adds the one item of a track or a via is inlined, so that it is made where it stays.
 
 ghost use Rattle.std.specs.Prelude.{◌≡◌, ◌<◌, ◌≤◌, suc, true, OnOk, IfOk, IfErr, Result};
 ghost use Rattle.board_items.specs.Boards.{with_item, is_admitted};
@@ -18,6 +18,7 @@ use list_read::place;
 use sexpr_read::Node;
 
 /// Appends an item that the board takes.
+#[inline(always)]
 fn add_item(board: &mut Board, item: Item) -> Result<(), BoardError>
     requires unit { item.unit < 4294967295 }
     requires admitted { is_admitted board.old item ≡ true }
@@ -50,6 +51,7 @@ pub fn add_items(board: &mut Board, unit: u32, items: Vec<Item>) -> Result<(), B
 }
 
 /// Appends the one item that was read of a list, where there is room for it.
+#[inline(always)]
 pub(crate) fn add_one(
     board: &mut Board,
     unit: u32,

@@ -47,6 +47,7 @@ pub(crate) fn net_number(found: Option<Node<'_, '_>>) -> Result<u32, BoardError>
 }
 
 /// The item of a draft that was made of this list, in this unit.
+#[inline(always)]
 pub(crate) fn item_of(
     alloc: Global,
     unit: u32,
@@ -74,6 +75,7 @@ pub(crate) fn item_of(
 }
 
 /// Whether the board has the net of a list, and else why the list is refused.
+#[inline(always)]
 fn check_net(board: &Board, node: Node<'_, '_>, net: u32) -> Result<(), BoardError>
     requires { net_given (tree_of node) ≡ Ok net }
     ensures known { OnOk result (net_of board.now (tree_of node.entry) ≡ Ok net) }
@@ -91,6 +93,7 @@ fn check_net(board: &Board, node: Node<'_, '_>, net: u32) -> Result<(), BoardErr
 }
 
 /// The same where the board has the draft's net, and else the refusal of that net.
+#[inline(always)]
 pub(crate) fn item_on(
     alloc: Global,
     board: &Board,

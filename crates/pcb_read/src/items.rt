@@ -22,6 +22,7 @@ pub struct Origin {
 }
 
 /// The track along a strip, unless the strip does not lie on a board.
+#[inline(always)]
 pub(crate) fn track_along(alloc: Global, strip: Strip, origin: Origin) -> Option<Item>
     ensures item { result ≡ track_along strip origin }
     ensures unit { IfSome result (λ item. item.unit ≡ origin.unit) }
@@ -75,6 +76,7 @@ fn hole_through(form: &ViaForm, layers: LayerSet) -> Option<Option<Hole>>
 }
 
 /// The via of this form, unless its disc or its hole does not lie on a board.
+#[inline(always)]
 pub(crate) fn via_of_form(alloc: Global, form: &ViaForm, origin: Origin) -> Option<Item>
     ensures item { result ≡ via_at form.now origin }
     ensures unit { IfSome result (λ item. item.unit ≡ origin.unit) }

@@ -29,6 +29,7 @@ const SEGMENT: [Wanted; 6] = [
 ];
 
 /// The track of `(segment (start X Y) (end X Y) (width W) (layer NAME) (net N) (tstamp NAME))`, its unit left open.
+#[inline(always)]
 #[tactic(auto, unfolding(crate::specs::Drafts::track_draft))]
 pub(crate) fn track_draft(
     alloc: Global,
@@ -54,6 +55,7 @@ pub(crate) fn track_draft(
 }
 
 /// The track of a list.
+#[inline(always)]
 pub(crate) fn track_of(
     alloc: Global,
     board: &Board,
@@ -81,6 +83,7 @@ const VIA: [Wanted; 6] = [
 ];
 
 /// The via of `(via blind micro (at X Y) (size S) (drill D) (layers NAME NAME) (net N) (tstamp NAME))`, its unit left open.
+#[inline(always)]
 #[tactic(auto, unfolding(crate::specs::Drafts::via_draft))]
 pub(crate) fn via_draft(
     alloc: Global,
@@ -114,6 +117,7 @@ pub(crate) fn via_draft(
 }
 
 /// The via of a list.
+#[inline(always)]
 pub(crate) fn via_of(
     alloc: Global,
     board: &Board,

@@ -110,6 +110,7 @@ impl FactsById {
 
     /// Gives the id these facts, in place of those that it had. Where memory is wanting all ids have the facts that they had.
     /// Behind the greatest id so far it takes room for all ids between.
+    #[inline(always)]
     pub fn insert(&mut self, id: u32, facts: Facts) -> Result<(), AllocError>
         ensures put { OnOk result (IsPut id (Some facts) self.old self.new) }
         ensures same { OnErr result (HasSameFacts self.old self.new) }
