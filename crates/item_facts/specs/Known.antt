@@ -1,8 +1,6 @@
 -- Classes of nets that were found, and facts of items that were.
-use Rattle.std.specs.Prelude.{◌≡◌, ◌⊎◌, ℕ, List, Option, Some, IsSome}
-use Rattle.std.specs.Ordering.{nat_cmp}
-use Rattle.std.specs.BTreeMap as tree
-use Rattle.std.specs.BTreeMap.{BTreeMap}
+use Rattle.std.specs.Prelude.{◌≡◌, ◌⊎◌, ℕ, List, Option, Some, IsSome, nat_eq}
+use Rattle.indexmap.specs.IndexMap.{IndexMap, get}
 use denote.Ref.{Bor}
 use Rattle.board_items.specs.declared.item.Item.{Item}
 use Rattle.board_items.specs.Boards.{PlainBoard, IsRising, item_at}
@@ -14,8 +12,8 @@ use Rattle.rule_pick.specs.FactsOf.{class_of_net, AreFacts}
 use Rattle.rule_pick.specs.declared.facts.Facts.{Facts}
 
 -- each net that is there has its class
-pub record AreKnown (classes : PlainClasses) (board : PlainBoard) (known : BTreeMap ℕ (Bor Class)) : Type 0 where
-  pub right : (net : ℕ) (c : Bor Class) → tree.get nat_cmp known net ≡ Some c → plain_class c.now ≡ class_of_net classes board net
+pub record AreKnown {S : Type 0} (classes : PlainClasses) (board : PlainBoard) (known : IndexMap ℕ (Bor Class) S) : Type 0 where
+  pub right : (net : ℕ) (c : Bor Class) → get nat_eq known net ≡ Some c → plain_class c.now ≡ class_of_net classes board net
 
 -- the items that are left, of these
 pub record AreLeft (items left : List (ℕ × Item)) : Type 0 where

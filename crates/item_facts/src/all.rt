@@ -1,4 +1,4 @@
-//! The facts of items.
+//! The facts of items. What makes those of one item is inlined, so that they are made where they stay.
 
 ghost use Rattle.std.specs.Prelude.{◌≡◌, IfOk, OnOk, IsSome};
 ghost use Rattle.board_items.specs.Boards.{IsSound, marks_of, item_at};
@@ -15,17 +15,17 @@ use crate::near::{index_marks, marks_near};
 use crate::of_item::facts_with;
 use board_items::{Board, Item};
 use box_index::TileIndex;
+use indexmap::IndexMap;
 use net_class::{Class, Classes};
 use rule_pick::{Facts, FactsById};
 use std::alloc::{AllocError, Global};
-use std::collections::BTreeMap;
 
 /// How many items a board takes.
 const MOST_ITEMS: u32 = 200_000;
 
 /// The class of a net, sought once for each net: patterns are dear.
 pub fn known_class<'c>(
-    known: &mut BTreeMap<u32, &'c Class>,
+    known: &mut IndexMap<u32, &'c Class>,
     board: &Board,
     classes: &'c Classes,
     net: u32,
@@ -44,6 +44,7 @@ pub fn known_class<'c>(
 
 /// The facts of an item of this class, where the ids are enough to ask for the areas and bodies that it meets. Only want of memory
 /// refuses it.
+#[inline(always)]
 pub fn facts_among(
     alloc: Global,
     board: &Board,
@@ -62,12 +63,13 @@ pub fn facts_among(
 /// The facts of an item, which is asked only against the areas and bodies near it. The index has all areas and bodies of the
 /// board, and may have its other items. `known` are classes of nets that were sought, and `room` is room for ids; a walk over
 /// many items hands both on. Only want of memory refuses it.
+#[inline(always)]
 pub fn facts_near<'c>(
     alloc: Global,
     board: &Board,
     classes: &'c Classes,
     index: &TileIndex,
-    known: &mut BTreeMap<u32, &'c Class>,
+    known: &mut IndexMap<u32, &'c Class>,
     room: &mut Vec<u32>,
     item: &Item,
 ) -> Result<Facts, AllocError>
@@ -124,7 +126,7 @@ pub fn all_facts(alloc: Global, board: &Board, classes: &Classes) -> Result<Fact
     ensures { IfOk result (HasFacts board.now classes.now) }
 {
     let index = index_marks(alloc, board)?;
-    let mut known = BTreeMap::new(alloc);
+    let mut known = IndexMap::new(alloc);
     let mut room = Vec::new(alloc);
     let mut all = FactsById::with_room(alloc, slots_of(board))?;
     for (id, item) in board.iter() {

@@ -12,12 +12,12 @@ ghost use Rattle.kept_facts.specs.Slots.{AreReady, AreEmpty, AreFilled};
 
 use board_items::{Board, Item};
 use box_index::TileIndex;
+use indexmap::IndexMap;
 use item_facts::{all_facts, class_of_net, facts_among, index_marks, known_class, marks_near};
 use net_class::{Class, Classes};
 use rayon::prelude::*;
 use rule_pick::{Facts, FactsById};
 use std::alloc::{AllocError, Global};
-use std::collections::BTreeMap;
 use std::thread::Threads;
 
 /// From how many slots on threads are worth their start.
@@ -28,10 +28,10 @@ fn classes_of<'c>(
     alloc: Global,
     board: &Board,
     classes: &'c Classes,
-) -> Result<BTreeMap<u32, &'c Class>, AllocError>
+) -> Result<IndexMap<u32, &'c Class>, AllocError>
     ensures { IfOk result (AreKnown classes.now board.now) }
 {
-    let mut known = BTreeMap::new(alloc);
+    let mut known = IndexMap::new(alloc);
     for (net, _) in board.nets() {
         known_class(&mut known, board, classes, net)?;
     }
@@ -40,7 +40,7 @@ fn classes_of<'c>(
 
 /// The class of a net, which was mostly sought before.
 fn class_in<'c>(
-    known: &BTreeMap<u32, &'c Class>,
+    known: &IndexMap<u32, &'c Class>,
     board: &Board,
     classes: &'c Classes,
     net: u32,
@@ -61,7 +61,7 @@ struct Sources<'a, 'c> {
     board: &'a Board,
     classes: &'c Classes,
     index: &'a TileIndex,
-    known: &'a BTreeMap<u32, &'c Class>,
+    known: &'a IndexMap<u32, &'c Class>,
 }
 
 /// The facts of an item.

@@ -16,11 +16,11 @@ ghost use Rattle.kept_facts.specs.Walks.{IsFoundAgain, AreFoundAgain};
 use crate::asking::asked_for;
 use board_items::{Board, Item};
 use box_index::TileIndex;
+use indexmap::IndexMap;
 use item_facts::{facts_near, same};
 use net_class::{Class, Classes};
 use rule_pick::{Facts, FactsById};
 use std::alloc::{AllocError, Global};
-use std::collections::BTreeMap;
 
 /// Whether the id is one of the edit's.
 fn is_among(ids: &[u32], id: u32) -> bool
@@ -53,7 +53,7 @@ struct Sources<'a> {
 /// `known` are the classes of nets that were sought, and `room` is room for ids.
 fn find_again<'a>(
     sources: &Sources<'a>,
-    known: &mut BTreeMap<u32, &'a Class>,
+    known: &mut IndexMap<u32, &'a Class>,
     room: &mut Vec<u32>,
     facts: &mut FactsById,
     id: u32,
@@ -96,7 +96,7 @@ fn find_all_again(
     requires asked { IsStrictlyIncreasing asked.now }
     ensures { IfOk result (λ changed. AreFoundAgain sources.now.board.now sources.now.classes.now ids.now asked.now facts.old facts.new changed.items) }
 {
-    let mut known = BTreeMap::new(sources.alloc);
+    let mut known = IndexMap::new(sources.alloc);
     let mut room = Vec::new(sources.alloc);
     let mut changed = Vec::new(sources.alloc);
     for place in 0..asked.len() {
