@@ -1,16 +1,15 @@
 -- What the corner of the entries of a tile says of the pairs that the tile answers for.
-use Rattle.std.proofs.Common.{◌≡◌, refl, sym, subst, ℕ, ℤ, pos, ◌-ℤ◌, ◌≤ℤ◌, ◌≤◌, ◌<◌, ◌+◌, ◌*◌, ◌/◌, ◌%◌, Bool, true, false, int_le, nat_le, List, length, get_or, take, All, Contains, arith}
+use Rattle.std.proofs.Common.{◌≡◌, refl, sym, subst, ℕ, ℤ, pos, ◌-ℤ◌, ◌≤ℤ◌, ◌≤◌, ◌<◌, ◌+◌, ◌*◌, ◌/◌, ◌%◌, Bool, true, false, int_le, nat_le, nat_lt, List, ◌∷◌, filter, All, Contains, arith}
 use Rattle.std.proofs.lemmas.Int.{ints, clamps}
 use Rattle.std.proofs.lemmas.Bool.Decides.{nat_tests}
 use Rattle.std.specs.Bool.{IsTrue}
 use Rattle.std.specs.Int.{int_max}
 use Rattle.geo_seg.specs.Boxes.{are_near}
-use Rattle.std.proofs.lemmas.List.{take_more}
-use Rattle.std.proofs.lemmas.List.Elements.{All-contains, All-push, All-weaker}
+use Rattle.std.proofs.lemmas.List.Elements.{All-append, All-cons, All-contains, All-filter, All-weaker}
 use Rattle.box_index.specs.declared.corners.Corner.{Corner}
 use Rattle.box_index.specs.declared.entry.Entry.{Entry}
 use Rattle.box_index.specs.Corners.{BeginsBy}
-use Rattle.box_index.specs.Tiles.{PlainIndex, IsSoundIndex, IsComplete, AnswersForNone, margin, lane, near_of, owner_of}
+use Rattle.box_index.specs.Tiles.{PlainIndex, IsSoundIndex, IsComplete, AnswersForNone, margin, lane, near_of, owner_of, placed}
 use Rattle.box_index.proofs.Buckets.{wide_from}
 use Rattle.box_index.proofs.TileLemmas.{lane-mono, lane-within}
 
@@ -18,10 +17,13 @@ use Rattle.box_index.proofs.TileLemmas.{lane-mono, lane-within}
 later : (old new : Corner) (e : Entry) → old.column ≤ new.column → old.row ≤ new.row → BeginsBy old e → BeginsBy new e
 later old new e c r b = let l = b.left in let t = b.top in record { left = omega (arith, l, c); top = omega (arith, t, r) }
 
-pub more_begun : (es : List Entry) (i : ℕ) (d : Entry) (old new : Corner) → i < length es → old.column ≤ new.column → old.row ≤ new.row → BeginsBy new (get_or es i d) → All (BeginsBy old) (take i es) → All (BeginsBy new) (take (i + 1) es)
-more_begun es i d old new lt c r own all =
-    subst (All (BeginsBy new)) (sym (take_more es i d lt))
-    (All-push (BeginsBy new) (take i es) (get_or es i d) (All-weaker (BeginsBy old) (BeginsBy new) (λ e b. later old new e c r b) (take i es) all) own)
+pub begun_placed : (e : Entry) (xs ys : List Entry) (old new : Corner) → ys ≡ placed e xs → old.column ≤ new.column → old.row ≤ new.row → BeginsBy new e → All (BeginsBy old) xs → All (BeginsBy new) ys
+begun_placed e xs ys old new is c r own all =
+    let low = λ (x : Entry). nat_lt x.id e.id in
+    let high = λ (x : Entry). nat_lt e.id x.id in
+    let further = All-weaker (BeginsBy old) (BeginsBy new) (λ x b. later old new x c r b) xs all in
+    subst (All (BeginsBy new)) (sym is)
+    (All-append (BeginsBy new) (filter low xs) (e ∷ filter high xs) (All-filter low (BeginsBy new) xs further) (All-cons (BeginsBy new) e (filter high xs) own (All-filter high (BeginsBy new) xs further)))
 
 -- ---- the pairs of a tile
 at_most : (a b : ℤ) → int_le a b ≡ true → a ≤ℤ b

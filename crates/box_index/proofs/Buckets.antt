@@ -1,5 +1,6 @@
--- Buckets of entries: what an index keeps when an entry is put in or taken out.
-use Rattle.std.proofs.Common.{◌≡◌, ◌≢◌, ◌∙◌, ap, sym, subst, refl, ℕ, ℤ, pos, ◌+ℤ◌, ◌*ℤ◌, ◌≤ℤ◌, ◌<◌, ◌≤◌, ◌/◌, ◌%◌, zero, suc, Bool, true, false, cond, not, ◌==◌, ◌&&◌, ◌||◌, nat_lt, nat_le, List, [], ◌∷◌, ◌++◌, length, take, slice_index_or, inl, inr, ◌⊎◌, vec_len, arith}
+-- What is near each tile, and what an index keeps when an entry is put in or taken out.
+use Rattle.std.proofs.Common.{◌≡◌, ◌≢◌, ◌∙◌, ap, sym, subst, refl, ℕ, ℤ, pos, ◌+ℤ◌, ◌*ℤ◌, ◌≤ℤ◌, ◌<◌, ◌≤◌, ◌/◌, ◌%◌, zero, suc, Bool, true, false, cond, not, ◌==◌, ◌&&◌, ◌||◌, nat_lt, nat_le, List, [], ◌∷◌, ◌++◌, length, take, slice_index_or, inl, inr, ◌⊎◌, Vec, vec_len, arith}
+use Rattle.std.specs.declared.alloc.Global.{Global}
 use Rattle.std.specs.List.{filter, All, AllPairs, Contains}
 use Rattle.std.proofs.lemmas.Bool.{cases_order}
 use Rattle.std.proofs.lemmas.Bool.Decides.{nat_tests}
@@ -15,7 +16,8 @@ use Rattle.box_index.specs.declared.entry.Entry.{Entry}
 use Rattle.box_index.specs.Tiles.{PlainIndex, IsSoundIndex, IsComplete, IsRising, IsAbsent, margin, is_in, meets_tile, near_of, is_held, is_met_by, numbers_below, dirty_of, owner_of, placed, without, tile_count}
 use Rattle.box_index.specs.Areas.{has_tile}
 use Rattle.box_index.specs.Cuts.{IsCut}
-use Rattle.box_index.specs.Walks.{Bucket, AreBuckets, IsChanged, CanTake, HasRoom, DoStay, IsPutIn, IsTakenFrom}
+use Rattle.box_index.specs.declared.shared.Shared.{Shared}
+use Rattle.box_index.specs.Shares.{AreShared, AreRising, CanTake, IsPutNear, IsTakenNear}
 use Rattle.box_index.proofs.TileLemmas.{lane-within, owns_both}
 use Rattle.box_index.proofs.Numbers.{any_kept, filter_same, filter_nothing}
 use Rattle.box_index.proofs.EntryLists.{filter_all, filter_none, filter_swap, pairs_first, pairs_rest, below_true, below_false, is_below}
@@ -79,6 +81,13 @@ pub near_with : (p : Entry → Bool) (e : Entry) (xs : List Entry) → p e ≡ t
 near_with p e xs t = placed_split p e xs
     ∙ ap (λ b. filter (λ (x : Entry). nat_lt x.id e.id) (filter p xs) ++ cond b (e ∷ filter (λ (x : Entry). nat_lt e.id x.id) (filter p xs)) (filter (λ (x : Entry). nat_lt e.id x.id) (filter p xs))) t
 
+-- the entry that was placed is there
+pub never_absent : (e : Entry) (xs : List Entry) → IsAbsent e.id (placed e xs) → ⊥
+never_absent e xs a =
+    let low = filter (λ (x : Entry). nat_lt x.id e.id) xs in
+    let high = filter (λ (x : Entry). nat_lt e.id x.id) xs in
+    All-contains (λ (x : Entry). x.id ≢ e.id) (placed e xs) e a (Contains-append_right low (e ∷ high) e (0, omega arith, refl)) refl
+
 -- those with lesser ids and those with greater ones are all, where no entry has the id
 parts_step : (id : ℕ) (x : Entry) (xs : List Entry) → IsRising (x ∷ xs) → IsAbsent id (x ∷ xs) → filter (λ (y : Entry). nat_lt y.id id) xs ++ filter (λ (y : Entry). nat_lt id y.id) xs ≡ xs → (x.id ≡ id) ⊎ ((x.id < id) ⊎ (id < x.id))
     → filter (λ (y : Entry). nat_lt y.id id) (x ∷ xs) ++ filter (λ (y : Entry). nat_lt id y.id) (x ∷ xs) ≡ x ∷ xs
@@ -107,24 +116,16 @@ near_past p e xs r a f =
     ∙ ap (λ b. filter (λ (x : Entry). nat_lt x.id e.id) (filter p xs) ++ cond b (e ∷ filter (λ (x : Entry). nat_lt e.id x.id) (filter p xs)) (filter (λ (x : Entry). nat_lt e.id x.id) (filter p xs))) f
     ∙ parts_whole e.id (filter p xs) (AllPairs-filter (λ (y z : Entry). y.id < z.id) p xs r) (All-filter p (λ (y : Entry). y.id ≢ e.id) xs a)
 
--- ---- buckets
+-- ---- a vector that was lent as a slice
 pub refilled : {X : Type 0} (P : List X → Type 0) (n : ℕ) (ws q : List X) → length ws ≡ n → P ws → P (take n (ws ++ q))
 refilled P n ws q e h = subst P (sym (take_at ws q n e)) h
 
-pub stayed : (reach : ℤ) (xs ys : List Entry) (old new q : List Bucket) (n : ℕ) → ys ≡ xs → length old ≡ n → length new ≡ length old → DoStay old new → AreBuckets (index_of reach xs) old → AreBuckets (index_of reach ys) (take n (new ++ q))
-stayed reach xs ys old new q n e l m s b =
-    refilled (AreBuckets (index_of reach ys)) n new q (m ∙ l) (subst (λ (zs : List Entry). AreBuckets (index_of reach zs) new) (sym e) (record { long = m ∙ b.long; each = λ tile d k. s tile d ∙ b.each tile d k }))
-
-put_tile : (reach : ℤ) (xs : List Entry) (e : Entry) (area : Area) (old new : List Bucket) → IsRising xs → IsAbsent e.id xs → ((tile : ℕ) → has_tile area tile ≡ is_in (index_of reach xs) tile e) → AreBuckets (index_of reach xs) old → IsChanged (IsPutIn e) area old new
-    → (tile : ℕ) (d : Bucket) → tile < tile_count → (b : Bool) → has_tile area tile ≡ b → (slice_index_or new tile d).items ≡ near_of (index_of reach (placed e xs)) tile
-put_tile reach xs e area old new r a same k c tile d l true t =
-    c.inside tile d t ∙ ap (placed e) (k.each tile d l) ∙ sym (near_with (is_in (index_of reach xs) tile) e xs (sym (same tile) ∙ t))
-put_tile reach xs e area old new r a same k c tile d l false t =
-    ap (λ (v : Bucket). v.items) (c.outside tile d t) ∙ k.each tile d l ∙ sym (near_past (is_in (index_of reach xs) tile) e xs r a (sym (same tile) ∙ t))
-
-pub put_buckets : (reach : ℤ) (xs : List Entry) (e : Entry) (area : Area) (old new : List Bucket) → IsRising xs → IsAbsent e.id xs → ((tile : ℕ) → has_tile area tile ≡ is_in (index_of reach xs) tile e) → AreBuckets (index_of reach xs) old → IsChanged (IsPutIn e) area old new
-    → AreBuckets (index_of reach (placed e xs)) new
-put_buckets reach xs e area old new r a same k c = record { long = c.long ∙ k.long; each = λ tile d l. put_tile reach xs e area old new r a same k c tile d l (has_tile area tile) refl }
+-- ---- what is near each tile
+pub put_near : (reach : ℤ) (xs : List Entry) (e : Entry) (area : Area) → IsRising xs → IsAbsent e.id xs → ((tile : ℕ) → has_tile area tile ≡ is_in (index_of reach xs) tile e) → IsPutNear e area (near_of (index_of reach xs)) (near_of (index_of reach (placed e xs)))
+put_near reach xs e area r a same = record {
+  inside = λ tile l t. near_with (is_in (index_of reach xs) tile) e xs (sym (same tile) ∙ t);
+  outside = λ tile l t. near_past (is_in (index_of reach xs) tile) e xs r a (sym (same tile) ∙ t);
+}
 
 has_within_at : (l c r t w b : ℕ) → b ≤ 124 → (nat_le l c && nat_le c r && nat_le t w && nat_le w b) ≡ true → w ≤ 124
 has_within_at l c r t w b h e = grind (arith, nat_tests)
@@ -132,12 +133,11 @@ has_within_at l c r t w b h e = grind (arith, nat_tests)
 pub has_within : (area : Area) (tile : ℕ) → has_tile area tile ≡ true → tile < tile_count
 has_within area tile h = let w = has_within_at area.left (tile % 125) area.right area.top (tile / 125) area.bottom area.bottom_within h in omega arith
 
-pub ready : (reach : ℤ) (xs : List Entry) (e : Entry) (area : Area) (old now : List Bucket) → IsSoundIndex (index_of reach xs) → IsAbsent e.id xs → AreBuckets (index_of reach xs) old → IsChanged HasRoom area old now → (tile : ℕ) (d : Bucket) → has_tile area tile ≡ true → CanTake e (slice_index_or now tile d)
-ready reach xs e area old now s a k c tile d t =
-    let items = (c.inside tile d t).items ∙ k.each tile d (has_within area tile t) in record {
+pub open_lists : (reach : ℤ) (xs : List Entry) (e : Entry) (area : Area) (tiles : List ℕ) (lists : List Shared) → IsSoundIndex (index_of reach xs) → IsAbsent e.id xs → AreShared (near_of (index_of reach xs)) tiles lists → CanTake e area tiles lists
+open_lists reach xs e area tiles lists s a k tile d list t =
+    let items = (k.each tile d list (has_within area tile t)).items in record {
       rising = subst IsRising (sym items) (AllPairs-filter (λ (y z : Entry). y.id < z.id) (is_in (index_of reach xs) tile) xs s.rising);
       absent = subst (IsAbsent e.id) (sym items) (All-filter (is_in (index_of reach xs) tile) (λ (y : Entry). y.id ≢ e.id) xs a);
-      room = (c.inside tile d t).room;
     }
 
 -- ---- an entry taken out
@@ -155,22 +155,18 @@ near_cut p xs ys e c f =
     ap (filter p) c.is ∙ filter-append p c.front c.back
     ∙ sym (ap (filter p) c.was ∙ filter-append p c.front (e ∷ c.back) ∙ ap (λ b. filter p c.front ++ cond b (e ∷ filter p c.back) (filter p c.back)) f)
 
-taken_tile : (reach : ℤ) (xs ys : List Entry) (id : ℕ) (e : Entry) (area : Area) (old new : List Bucket) → IsCut xs e ys → ys ≡ without id xs → ((tile : ℕ) → has_tile area tile ≡ is_in (index_of reach xs) tile e) → AreBuckets (index_of reach xs) old → IsChanged (IsTakenFrom id) area old new
-    → (tile : ℕ) (d : Bucket) → tile < tile_count → (b : Bool) → has_tile area tile ≡ b → (slice_index_or new tile d).items ≡ near_of (index_of reach ys) tile
-taken_tile reach xs ys id e area old new cut w same k c tile d l true t =
-    c.inside tile d t ∙ ap (without id) (k.each tile d l) ∙ filter_swap (λ (x : Entry). not (x.id == id)) (is_in (index_of reach xs) tile) xs ∙ ap (filter (is_in (index_of reach xs) tile)) (sym w)
-taken_tile reach xs ys id e area old new cut w same k c tile d l false t =
-    ap (λ (v : Bucket). v.items) (c.outside tile d t) ∙ k.each tile d l ∙ sym (near_cut (is_in (index_of reach xs) tile) xs ys e cut (sym (same tile) ∙ t))
-
-pub taken_buckets : (reach : ℤ) (xs ys : List Entry) (id : ℕ) (e : Entry) (area : Area) (old new : List Bucket) → IsCut xs e ys → ys ≡ without id xs → ((tile : ℕ) → has_tile area tile ≡ is_in (index_of reach xs) tile e) → AreBuckets (index_of reach xs) old → IsChanged (IsTakenFrom id) area old new
-    → AreBuckets (index_of reach ys) new
-taken_buckets reach xs ys id e area old new cut w same k c = record { long = c.long ∙ k.long; each = λ tile d l. taken_tile reach xs ys id e area old new cut w same k c tile d l (has_tile area tile) refl }
+pub taken_near : (reach : ℤ) (xs ys : List Entry) (id : ℕ) (e : Entry) (area : Area) → IsCut xs e ys → ys ≡ without id xs → ((tile : ℕ) → has_tile area tile ≡ is_in (index_of reach xs) tile e) → IsTakenNear id area (near_of (index_of reach xs)) (near_of (index_of reach ys))
+taken_near reach xs ys id e area cut w same = record {
+  all = λ tile l. ap (filter (is_in (index_of reach xs) tile)) w ∙ filter_swap (is_in (index_of reach xs) tile) (λ (x : Entry). not (x.id == id)) xs;
+  outside = λ tile l t. near_cut (is_in (index_of reach xs) tile) xs ys e cut (sym (same tile) ∙ t);
+}
 
 pub fits_cut : (reach : ℤ) (xs ys : List Entry) (e : Entry) → IsSoundIndex (index_of reach xs) → IsCut xs e ys → FitsWithin (pos 2000000000) e.bounds
 fits_cut reach xs ys e s c = All-contains (λ (x : Entry). FitsWithin (pos 2000000000) x.bounds) xs e s.fit (subst (λ (zs : List Entry). Contains zs e) (sym c.was) (Contains-append_right c.front (e ∷ c.back) e (0, omega arith, refl)))
 
-pub rising_buckets : (reach : ℤ) (xs : List Entry) (area : Area) (old : List Bucket) → IsSoundIndex (index_of reach xs) → AreBuckets (index_of reach xs) old → (tile : ℕ) (d : Bucket) → has_tile area tile ≡ true → IsRising (slice_index_or old tile d).items
-rising_buckets reach xs area old s k tile d t = subst IsRising (sym (k.each tile d (has_within area tile t))) (AllPairs-filter (λ (y z : Entry). y.id < z.id) (is_in (index_of reach xs) tile) xs s.rising)
+pub rising_lists : (reach : ℤ) (xs : List Entry) (area : Area) (tiles : List ℕ) (lists : List Shared) → IsSoundIndex (index_of reach xs) → AreShared (near_of (index_of reach xs)) tiles lists → AreRising area tiles lists
+rising_lists reach xs area tiles lists s k tile d list t =
+    subst IsRising (sym (k.each tile d list (has_within area tile t)).items) (AllPairs-filter (λ (y z : Entry). y.id < z.id) (is_in (index_of reach xs) tile) xs s.rising)
 
 -- ---- what is lent
 meets_past_at : (l c r t w b : ℕ) → b ≤ 124 → 125 ≤ w → (nat_le l c && nat_le c r && nat_le t w && nat_le w b) ≡ false
@@ -206,9 +202,9 @@ pub area_tiles : (reach : ℤ) (xs : List Entry) (area : Area) (e : Entry) → I
 area_tiles reach xs area e s h tile = h tile ∙ ap (λ m. meets_tile (widened e.bounds m) tile) (doubled reach s.reach_from s.reach_to)
 
 -- ---- tiles that hold an entry, and tiles that are met by one of the boxes
-pub held_tile : (inside index : PlainIndex) (buckets : List Bucket) (tile : ℕ) (v : Bucket) (b : Bool) → AreBuckets inside buckets → inside ≡ index → tile < tile_count → v ≡ slice_index_or buckets tile v → b ≡ (vec_len v == 0) → not b ≡ is_held index tile
-held_tile inside index buckets tile v b k s l e h =
-    ap not h ∙ ap (λ n. not (n == 0)) v.ok.0 ∙ ap (λ (xs : List Entry). not (length xs == 0)) (ap (λ (w : Bucket). w.items) e ∙ k.each tile v l)
+pub held_tile : (inside index : PlainIndex) (tile : ℕ) (entries : Vec Entry Global) (b : Bool) → entries.items ≡ near_of inside tile → inside ≡ index → b ≡ (vec_len entries == 0) → not b ≡ is_held index tile
+held_tile inside index tile entries b is s h =
+    ap not h ∙ ap (λ n. not (n == 0)) entries.ok.0 ∙ ap (λ (xs : List Entry). not (length xs == 0)) is
     ∙ any_kept (is_in inside tile) inside.entries ∙ ap (λ (i : PlainIndex). is_held i tile) s
 
 pub dirty_is : (inside index : PlainIndex) (boxes : List Bounds) (all : Bool) (old new now : List Bool) → inside ≡ index → IsSoundIndex inside → ((tile : ℕ) (d : Bool) → tile < tile_count → slice_index_or old tile d ≡ all)

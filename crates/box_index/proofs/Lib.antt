@@ -8,3 +8,6 @@ pub mod KeptLemmas
 pub mod FarLemmas
 pub mod Reaching
 pub mod Copies
+pub mod Grids
+pub mod Ones
+pub mod Changed

@@ -3,5 +3,6 @@ pub mod Corners
 pub mod Areas
 pub mod Cuts
 pub mod Walks
+pub mod Shares
 pub mod Kept
 pub mod Reached

@@ -1,6 +1,6 @@
 //! Where entries begin.
 
-ghost use Rattle.std.specs.Prelude.{pos, All};
+ghost use Rattle.std.specs.Prelude.{pos, ◌≤◌};
 ghost use Rattle.geo_seg.specs.Boxes.{FitsWithin};
 ghost use Rattle.box_index.specs.Corners.{BeginsBy};
 
@@ -14,17 +14,17 @@ pub(crate) struct Corner {
     pub(crate) row: usize,
 }
 
-/// A corner such that no entry begins right of its column or below its row.
-pub(crate) fn last_corner(entries: &[Entry]) -> Corner
-    requires { All (λ e. FitsWithin (pos 2000000000) e.bounds) entries.now }
-    ensures { All (BeginsBy result) entries.now }
-{
-    let mut last = Corner { column: 0, row: 0 };
-    for entry in entries {
-        last = Corner {
-            column: last.column.max(lane(entry.bounds.left)),
-            row: last.row.max(lane(entry.bounds.top)),
-        };
+impl Corner {
+    /// The corner, moved right and down as far as the entry begins.
+    pub(crate) fn with(self, entry: Entry) -> Corner
+        requires { FitsWithin (pos 2000000000) entry.bounds }
+        ensures column { self.column ≤ result.column }
+        ensures row { self.row ≤ result.row }
+        ensures begun { BeginsBy result entry }
+    {
+        Corner {
+            column: self.column.max(lane(entry.bounds.left)),
+            row: self.row.max(lane(entry.bounds.top)),
+        }
     }
-    last
 }

@@ -1,19 +1,18 @@
 //! The index.
 
 ghost use Rattle.std.specs.Prelude.{◌≡◌, ◌<◌, ◌≤ℤ◌, pos, ◌&&◌, false, [], ℕ, length, slice_index_or, filter, All, IfOk, OnOk, OnErr};
-ghost use Rattle.std.specs.List.{AllZip};
 ghost use Rattle.geo_seg.specs.Boxes.{FitsWithin, widened};
 ghost use Rattle.box_index.specs.declared.entry.Entry.{Entry};
 ghost use Rattle.box_index.specs.Areas.{has_tile};
-ghost use Rattle.box_index.specs.Walks.{AreEmpty, AreMarks, HaveSameEntries};
 ghost use Rattle.box_index.specs.Tiles.{PlainIndex, IsSoundIndex, IsComplete, AnswersForNone, IsAbsent, OwnsBoth, meets_tile, near_of, owner_of, margin, placed, without, held_of, is_held, dirty_of, numbers_below, tile_count};
 
 use crate::area::Area;
-use crate::corners::last_corner;
 use crate::entry::Entry;
+use crate::fills::filled;
+use crate::grid::Grid;
 use crate::kept::KeptBoxes;
 use crate::lanes::{LANES, TILES, owner, widen};
-use crate::walks::{mark_boxes, put_each, reserve_each, take_out_each};
+use crate::walks::mark_boxes;
 use geo_seg::Bounds;
 use std::alloc::{AllocError, Global};
 use std::marker::Model;
@@ -31,19 +30,18 @@ pub struct TileIndex {
     // the box of each id
     boxes: KeptBoxes,
     // of each tile the entries that meet it, by rising id
-    tiles: Vec<Vec<Entry>>,
+    grid: Grid,
 }
 
 impl Model for TileIndex {
-    ghost use Rattle.box_index.specs.Walks.{AreEmpty, AreMarks};
-    ghost use Rattle.box_index.specs.Tiles.{PlainIndex, IsSoundIndex};
-    ghost use Rattle.box_index.specs.Walks.{AreBuckets};
+    ghost use Rattle.box_index.specs.Tiles.{PlainIndex, IsSoundIndex, near_of};
+    ghost use Rattle.box_index.specs.Shares.{AreShared, IsEvenAt};
 
     ghost Value = { PlainIndex };
 
     ghost view = { λ t. record { reach = t.reach; entries = t.boxes } };
 
-    ghost invariant = { λ t. IsSoundIndex (record { reach = t.reach; entries = t.boxes }) × AreBuckets (record { reach = t.reach; entries = t.boxes }) t.tiles.items };
+    ghost invariant = { λ t. IsSoundIndex (record { reach = t.reach; entries = t.boxes }) × AreShared (near_of (record { reach = t.reach; entries = t.boxes })) t.grid.tiles.items t.grid.lists.items × IsEvenAt t.grid.even t.grid.tiles.items };
 }
 
 impl TileIndex {
@@ -56,7 +54,7 @@ impl TileIndex {
         Ok(TileIndex {
             reach,
             boxes: KeptBoxes::new(alloc),
-            tiles: empty_tiles(alloc, TILES)?,
+            grid: Grid::new(alloc)?,
         })
     }
 
@@ -67,7 +65,7 @@ impl TileIndex {
         Ok(TileIndex {
             reach: self.reach,
             boxes: self.boxes.copy()?,
-            tiles: copy_tiles(&self.tiles)?,
+            grid: self.grid.copy()?,
         })
     }
 
@@ -81,9 +79,9 @@ impl TileIndex {
     {
         let entry = Entry { id, bounds };
         let area = Area::around(2 * self.reach, bounds);
-        reserve_each(&mut self.tiles, area)?;
+        self.grid.make_room(area)?;
         self.boxes.put(entry)?;
-        put_each(&mut self.tiles, area, entry);
+        self.grid.put(area, entry);
         Ok(())
     }
 
@@ -93,7 +91,7 @@ impl TileIndex {
     {
         if let Some(entry) = self.boxes.take_out(id) {
             let area = Area::around(2 * self.reach, entry.bounds);
-            take_out_each(&mut self.tiles, area, id);
+            self.grid.take_out(area, id);
         }
     }
 
@@ -104,9 +102,11 @@ impl TileIndex {
         ensures complete { IsComplete self.now }
         ensures sound { IsSoundIndex self.now }
     {
-        match self.tiles.get(tile as usize) {
-            Some(entries) => entries,
-            None => &[],
+        let tile = tile as usize;
+        if tile < TILES {
+            &self.grid.at(tile).entries
+        } else {
+            &[]
         }
     }
 
@@ -146,8 +146,11 @@ impl TileIndex {
     pub fn may_answer(&self, tile: u32) -> bool
         ensures { result ≡ false → AnswersForNone self.now tile }
     {
-        let last = last_corner(self.near(tile));
         let tile = tile as usize;
+        if tile >= TILES {
+            return true;
+        }
+        let last = self.grid.at(tile).last;
         tile % LANES <= last.column && tile / LANES <= last.row
     }
 
@@ -156,7 +159,7 @@ impl TileIndex {
         requires { tile < tile_count }
         ensures { result ≡ is_held self.now tile }
     {
-        !self.tiles[tile].is_empty()
+        !self.grid.at(tile).entries.is_empty()
     }
 
     /// How many tiles hold an entry. It takes no memory.
@@ -179,12 +182,12 @@ impl TileIndex {
         ensures tiles { IfOk result (λ tiles. tiles.items ≡ dirty_of self.now boxes.now all) }
         ensures sound { IsSoundIndex self.now }
     {
-        let alloc = *self.tiles.allocator();
+        let alloc = *self.grid.tiles.allocator();
         // What no box marks is not walked over.
         if boxes.is_empty() && !all {
             return Ok(Vec::new(alloc));
         }
-        let mut marks = new_marks(alloc, TILES, all)?;
+        let mut marks = filled(alloc, all)?;
         mark_boxes(&mut marks, 2 * self.reach, boxes);
         self.marked(alloc, &marks)
     }
@@ -203,55 +206,12 @@ impl TileIndex {
         requires { length marks.now ≡ tile_count }
         ensures { IfOk result (λ tiles. tiles.items ≡ filter (λ tile. is_held self.now tile && slice_index_or marks.now tile false) (numbers_below tile_count)) }
     {
-        let mut tiles = Vec::new(alloc);
+        let mut tiles = Vec::with_capacity(alloc, TILES)?;
         for tile in 0..TILES {
             if self.holds_marked(marks, tile) {
-                tiles.push(tile as u32)?;
+                tiles.push_reserved(tile as u32);
             }
         }
         Ok(tiles)
     }
-}
-
-/// So many tiles without entries.
-fn empty_tiles(alloc: Global, count: usize) -> Result<Vec<Vec<Entry>>, AllocError>
-    ensures { IfOk result (AreEmpty count) }
-{
-    let mut tiles = Vec::with_capacity(alloc, count)?;
-    for _ in 0..count {
-        tiles.push(Vec::new(alloc))?;
-    }
-    Ok(tiles)
-}
-
-/// The same entries.
-fn copy_entries(alloc: Global, entries: &[Entry]) -> Result<Vec<Entry>, AllocError>
-    ensures { IfOk result (λ copy. copy.items ≡ entries.now) }
-{
-    let mut copy = Vec::with_capacity(alloc, entries.len())?;
-    copy.extend_from_slice(entries)?;
-    Ok(copy)
-}
-
-/// The tiles with the same entries.
-fn copy_tiles(tiles: &Vec<Vec<Entry>>) -> Result<Vec<Vec<Entry>>, AllocError>
-    ensures { IfOk result (λ copy. AllZip HaveSameEntries tiles.now.items copy.items) }
-{
-    let alloc = *tiles.allocator();
-    let mut copy = Vec::with_capacity(alloc, tiles.len())?;
-    for entries in tiles {
-        copy.push(copy_entries(alloc, entries)?)?;
-    }
-    Ok(copy)
-}
-
-/// So many marks, all alike.
-fn new_marks(alloc: Global, count: usize, mark: bool) -> Result<Vec<bool>, AllocError>
-    ensures { IfOk result (AreMarks count mark) }
-{
-    let mut marks = Vec::with_capacity(alloc, count)?;
-    for _ in 0..count {
-        marks.push(mark)?;
-    }
-    Ok(marks)
 }

@@ -9,11 +9,16 @@ mod area;
 mod boxes;
 mod corners;
 mod entry;
+mod fills;
+mod grid;
+mod homes;
 mod index;
 mod kept;
 mod lanes;
 mod lists;
 mod near;
+mod parting;
+mod shared;
 mod walks;
 
 pub use area::Area;

@@ -1,6 +1,6 @@
 //! Lists of entries by rising id.
 
-ghost use Rattle.std.specs.Prelude.{◌≡◌, ◌<◌, ◌≤◌, length, vec_len, vec_capacity};
+ghost use Rattle.std.specs.Prelude.{◌≡◌, ◌<◌, ◌≤◌, true, false, length, vec_len, vec_capacity};
 ghost use Rattle.std.specs.List.{AllWithin};
 ghost use Rattle.box_index.specs.Tiles.{IsRising, IsAbsent, placed, without};
 
@@ -18,6 +18,16 @@ fn place_of(entries: &[Entry], id: u32) -> usize
         return count;
     }
     entries.partition_point(|e| e.id < id)
+}
+
+/// Whether an entry has this id.
+pub(crate) fn has(entries: &[Entry], id: u32) -> bool
+    requires { IsRising entries.now }
+    ensures there { result ≡ true → IsAbsent id entries.now → ⊥ }
+    ensures absent { result ≡ false → IsAbsent id entries.now }
+{
+    let place = place_of(entries, id);
+    place < entries.len() && entries[place].id == id
 }
 
 /// Puts an entry into its place. There is room for it.

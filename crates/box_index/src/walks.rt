@@ -1,69 +1,75 @@
 //! Walks over the tiles of an area.
 
-ghost use Rattle.std.specs.Prelude.{◌≡◌, ℕ, ◌<◌, length, true, slice_index_or, OnOk, Bool, All, pos, ◌≤ℤ◌, ◌||◌};
+ghost use Rattle.std.specs.Prelude.{◌≡◌, ℕ, ◌<◌, ◌≤◌, length, true, slice_index_or, Bool, All, pos, ◌≤ℤ◌, ◌||◌};
 ghost use Rattle.geo_seg.specs.Boxes.{FitsWithin};
-ghost use Rattle.box_index.specs.Tiles.{IsRising, is_met_by, tile_count};
-ghost use Rattle.box_index.specs.Areas.{has_tile};
-ghost use Rattle.box_index.specs.Walks.{IsChanged, Bucket, CanTake, HasRoom, DoStay, IsPutIn, IsTakenFrom};
+ghost use Rattle.box_index.specs.Tiles.{is_met_by, tile_count};
+ghost use Rattle.box_index.specs.Areas.{end_of, LiesIn};
+ghost use Rattle.box_index.specs.Walks.{IsChanged};
+ghost use Rattle.box_index.specs.Shares.{AreHomed, AreReady, AreRising, AreChanged, CanTake, IsEven, IsPut, IsTaken, DoMeetAll};
 
 use crate::area::Area;
 use crate::entry::Entry;
-use crate::lists::{put, take_out};
+use crate::shared::Shared;
 use geo_seg::Bounds;
-use std::alloc::AllocError;
 
-/// Makes room for one more entry in each tile of the area.
-pub(crate) fn reserve_each(tiles: &mut [Vec<Entry>], area: Area) -> Result<(), AllocError>
-    requires { length tiles.old ≡ tile_count }
-    ensures ok { OnOk result (IsChanged HasRoom area tiles.old tiles.new) }
-    ensures stay { DoStay tiles.old tiles.new }
+/// Whether all tiles of the area have the same list.
+pub(crate) fn is_even(tiles: &[u32], area: Area) -> bool
+    requires { length tiles.now ≡ tile_count }
+    ensures { result ≡ true → IsEven area tiles.now }
 {
     let end = area.end();
+    let number = tiles[area.first()];
     let mut tile = area.first();
     'tiles: while tile < end {
-        tiles[tile].reserve(1)?;
+        if tiles[tile] != number {
+            return false;
+        }
         tile = area.after(tile);
     }
-    Ok(())
+    true
 }
 
-/// Puts the entry into each tile of the area.
-pub(crate) fn put_each(tiles: &mut [Vec<Entry>], area: Area, entry: Entry)
-    requires long { length tiles.old ≡ tile_count }
-    requires ready { (tile : ℕ) → (d : Bucket) → has_tile area tile ≡ true → CanTake entry (slice_index_or tiles.old tile d) }
-    ensures { IsChanged (IsPutIn entry) area tiles.old tiles.new }
+/// Puts the entry into the list of each tile of the area. All that is met beyond the end is met before it.
+pub(crate) fn put_each(tiles: &[u32], lists: &mut [Shared], area: Area, end: usize, entry: Entry)
+    requires homed { AreHomed tiles.now lists.old }
+    requires ready { AreReady area tiles.now lists.old }
+    requires open { CanTake entry area tiles.now lists.old }
+    requires fits { FitsWithin (pos 2000000000) entry.bounds }
+    requires end { end ≤ end_of area }
+    requires all { DoMeetAll area tiles.now end }
+    ensures { AreChanged (IsPut entry) (λ list. LiesIn list.home area) area tiles.now lists.old lists.new }
 {
-    let end = area.end();
     let mut tile = area.first();
     'tiles: while tile < end {
-        put(&mut tiles[tile], entry);
-        tile = area.after(tile);
-    }
-}
-
-/// Takes the entry of this id out of each tile of the area.
-pub(crate) fn take_out_each(tiles: &mut [Vec<Entry>], area: Area, id: u32)
-    requires long { length tiles.old ≡ tile_count }
-    requires rising { (tile : ℕ) → (d : Bucket) → has_tile area tile ≡ true → IsRising (slice_index_or tiles.old tile d).items }
-    ensures { IsChanged (IsTakenFrom id) area tiles.old tiles.new }
-{
-    let end = area.end();
-    let mut tile = area.first();
-    'tiles: while tile < end {
-        take_out(&mut tiles[tile], id);
+        lists[tiles[tile] as usize].put(entry);
         tile = area.after(tile);
     }
 }
 
-/// Marks each tile of the area.
-pub(crate) fn mark_each(marks: &mut [bool], area: Area)
-    requires { length marks.old ≡ tile_count }
-    ensures { IsChanged (λ (was is : Bool). is ≡ true) area marks.old marks.new }
+/// Takes the entry of this id out of the list of each tile of the area. All that is met beyond the end is met before it.
+pub(crate) fn take_out_each(tiles: &[u32], lists: &mut [Shared], area: Area, end: usize, id: u32)
+    requires homed { AreHomed tiles.now lists.old }
+    requires rising { AreRising area tiles.now lists.old }
+    requires end { end ≤ end_of area }
+    requires all { DoMeetAll area tiles.now end }
+    ensures { AreChanged (IsTaken id) (λ list. Unit) area tiles.now lists.old lists.new }
+{
+    let mut tile = area.first();
+    'tiles: while tile < end {
+        lists[tiles[tile] as usize].take_out(id);
+        tile = area.after(tile);
+    }
+}
+
+/// Gives each tile of the area the value.
+pub(crate) fn fill_area<T: Copy>(values: &mut [T], area: Area, value: T)
+    requires { length values.old ≡ tile_count }
+    ensures { IsChanged (λ was is. is ≡ value) area values.old values.new }
 {
     let end = area.end();
     let mut tile = area.first();
     'tiles: while tile < end {
-        marks[tile] = true;
+        values[tile] = value;
         tile = area.after(tile);
     }
 }
@@ -77,6 +83,6 @@ pub(crate) fn mark_boxes(marks: &mut [bool], margin: i64, boxes: &[Bounds])
     ensures { (tile : ℕ) → (d : Bool) → tile < tile_count → slice_index_or marks.new tile d ≡ (slice_index_or marks.old tile d || is_met_by margin boxes.now tile) }
 {
     for bounds in boxes {
-        mark_each(marks, Area::around(margin, *bounds));
+        fill_area(marks, Area::around(margin, *bounds), true);
     }
 }

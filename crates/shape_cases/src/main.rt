@@ -20,7 +20,9 @@ use std::process::ExitCode;
 fn answer(alloc: Global, call: &str) -> Result<Vec<u8>, Fault> {
     let (name, written) = first_word(call);
     match name {
-        "near_tiles" | "held" | "dirty" | "remove" => tiles::answer(alloc, name, written),
+        "near_tiles" | "held" | "dirty" | "remove" | "ids_near" => tiles::answer(
+            alloc, name, written,
+        ),
         "chain" => outlines::chained(alloc, written),
         "nest" | "check_nest" => nests::answer(alloc, name, written),
         "bounds"

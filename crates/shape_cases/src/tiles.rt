@@ -1,5 +1,5 @@
-//! Calls on an index of one box. The first part has the reach in nanometres, the id and the sides of the box in half
-//! nanometres: left, top, right and bottom.
+//! Calls on an index. Most have one box: the first part has the reach in nanometres, the id and the sides of the box in half
+//! nanometres: left, top, right and bottom. `ids_near` has the reach and a tile there, and a box in each other part.
 
 ghost use Rattle.std.specs.Prelude.{pos, IfOk};
 ghost use Rattle.geo_seg.specs.Boxes.{FitsWithin};
@@ -73,6 +73,40 @@ fn near(alloc: Global, index: &TileIndex) -> Result<Vec<u8>, Fault> {
     shown(alloc, &tiles)
 }
 
+/// Puts in a box, in place of that of its id, or takes the id out where there are no sides.
+fn put_or_take(index: &mut TileIndex, step: &[i64]) -> Result<(), Fault> {
+    let [id, sides @ ..] = step else {
+        return Err(Fault::BadNumber);
+    };
+    let id = small(*id)?;
+    index.remove(id);
+    if sides.is_empty() {
+        return Ok(());
+    }
+    Ok(index.insert(id, bounds(sides)?)?)
+}
+
+/// The ids that the tile lends once all steps are done, from a copy of the index.
+fn ids_near(alloc: Global, first: &[i64], steps: &[Vec<i64>]) -> Result<Vec<u8>, Fault> {
+    let [reach, tile] = first else {
+        return Err(Fault::BadNumber);
+    };
+    let (reach, tile) = (*reach, small(*tile)?);
+    if reach < 0 || 500_000_000 < reach {
+        return Err(Fault::BadNumber);
+    }
+    let mut index = TileIndex::new(alloc, reach)?;
+    for step in steps {
+        put_or_take(&mut index, step)?;
+    }
+    let copy = index.copy()?;
+    let mut ids = Vec::new(alloc);
+    for entry in copy.near(tile) {
+        ids.push(entry.id)?;
+    }
+    shown(alloc, &ids)
+}
+
 /// The answer of a call on an index, and on what another part has.
 fn asked(
     alloc: Global,
@@ -96,8 +130,13 @@ fn asked(
 /// The answer of the call of this name, from a copy of the index.
 pub fn answer(alloc: Global, name: &str, written: &str) -> Result<Vec<u8>, Fault> {
     let parts = parts_of(alloc, written)?;
-    let first = parts.first().ok_or(Fault::UnknownCall)?;
+    let Some((first, others)) = parts.split_first() else {
+        return Err(Fault::UnknownCall);
+    };
+    if name == "ids_near" {
+        return ids_near(alloc, first, others);
+    }
     let index = index(alloc, first)?.copy()?;
     crosses_threads(&index);
-    asked(alloc, name, index, parts.get(1))
+    asked(alloc, name, index, others.first())
 }

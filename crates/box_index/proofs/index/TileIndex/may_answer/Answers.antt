@@ -1,21 +1,29 @@
-use Rattle.std.proofs.Common.{pos, sym, subst}
+use Rattle.std.proofs.Common.{◌<◌, sym, subst, arith}
 use Rattle.std.specs.List.{All}
-use Rattle.std.proofs.lemmas.List.Elements.{All-filter}
-use Rattle.geo_seg.specs.Boxes.{FitsWithin}
-use Rattle.box_index.specs.declared.entry.Entry.{Entry}
+use Rattle.box_index.specs.declared.shared.Shared.{Shared}
 use Rattle.box_index.specs.Corners.{BeginsBy}
-use Rattle.box_index.specs.Tiles.{is_in}
+use Rattle.box_index.specs.Tiles.{PlainIndex, IsSoundIndex, near_of, tile_count}
+use Rattle.box_index.specs.Shares.{AreShared}
 use Rattle.box_index.proofs.Begins.{none_in_column, none_in_row}
+use Rattle.box_index.proofs.Buckets.{complete}
 use Rattle.box_index.proofs.index.TileIndex.may_answer.Goals as goal
-
-pub last_corner-last-requires : goal.last_corner-last-requires
-last_corner-last-requires c =
-    subst (All (λ (e : Entry). FitsWithin (pos 2000000000) e.bounds)) (sym c.near.ensures.entries) (All-filter (is_in c.args.self.now c.args.tile) (λ (e : Entry). FitsWithin (pos 2000000000) e.bounds) c.args.self.now.entries c.near.ensures.sound.fit)
 
 pub returns-then-tile-last : goal.returns-then-tile-last
 returns-then-tile-last c test =
-    none_in_row c.args.self.now c.near.ensures.sound c.near.ensures.complete c.args.tile c.last_corner-last.result (subst (All (BeginsBy c.last_corner-last.result)) c.near.ensures.entries c.last_corner-last.ensures) test
+    let list = c.at.result.now in
+    let index = c.args.self.now in
+    let sound = subst (λ (i : PlainIndex). IsSoundIndex i) c.self.view_is c.self.invariant.0 in
+    let shared = subst (λ (i : PlainIndex). AreShared (near_of i) c.self.inside.grid.tiles.items c.self.inside.grid.lists.items) c.self.view_is c.self.invariant.1 in
+    let low : c.args.tile < tile_count = let l = c.if-tile-ge-TILES.false in omega (arith, l) in
+    let begun = subst (λ (l : Shared). All (BeginsBy l.last) (near_of index c.args.tile)) (sym (c.at.ensures 0 list)) (shared.each c.args.tile 0 list low).begun in
+    none_in_row index sound (complete index sound) c.args.tile list.last begun test
 
 pub returns-else-tile-last : goal.returns-else-tile-last
 returns-else-tile-last c test =
-    none_in_column c.args.self.now c.near.ensures.sound c.near.ensures.complete c.args.tile c.last_corner-last.result (subst (All (BeginsBy c.last_corner-last.result)) c.near.ensures.entries c.last_corner-last.ensures) test
+    let list = c.at.result.now in
+    let index = c.args.self.now in
+    let sound = subst (λ (i : PlainIndex). IsSoundIndex i) c.self.view_is c.self.invariant.0 in
+    let shared = subst (λ (i : PlainIndex). AreShared (near_of i) c.self.inside.grid.tiles.items c.self.inside.grid.lists.items) c.self.view_is c.self.invariant.1 in
+    let low : c.args.tile < tile_count = let l = c.if-tile-ge-TILES.false in omega (arith, l) in
+    let begun = subst (λ (l : Shared). All (BeginsBy l.last) (near_of index c.args.tile)) (sym (c.at.ensures 0 list)) (shared.each c.args.tile 0 list low).begun in
+    none_in_column index sound (complete index sound) c.args.tile list.last begun test
