@@ -123,18 +123,8 @@ impl From<Failed> for FetchError {
     }
 }
 
-/// The least and the most that one read asks for.
-const LEAST_PIECE: usize = 65_536;
-
-const MOST_PIECE: usize = 1_048_576;
-
-/// How many bytes to ask for behind so many: as many again, so that a small file takes little room.
-fn piece_len(done: usize) -> usize
-    ensures some { 0 < result }
-    ensures most { result ≤ 1048576 }
-{
-    done.clamp(LEAST_PIECE, MOST_PIECE)
-}
+/// What a read fills: it asks for so many bytes. They are appended as one piece, which costs a small part of what it would cost one by one.
+const BLANK: [u8; 32_768] = [0; 32_768];
 
 /// Reads a piece of the file to the end of the text, which has the bytes before it, and says how many came.
 fn read_piece<F: Shelf>(shelf: &mut F, name: &str, text: &mut Vec<u8>) -> Result<usize, FetchError>
@@ -145,7 +135,7 @@ fn read_piece<F: Shelf>(shelf: &mut F, name: &str, text: &mut Vec<u8>) -> Result
     ensures counts { (other : List ℕ) → F.faults shelf.old other ≤ F.faults shelf.new other }
 {
     let done = text.len();
-    text.resize(done + piece_len(done), 0)?;
+    text.extend_from_slice(&BLANK)?;
     let n = shelf.read(name, done as u64, &mut text[done..])?;
     text.truncate(done + n);
     Ok(n)
