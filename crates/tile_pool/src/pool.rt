@@ -63,8 +63,12 @@ fn add<T: TileWork>(alloc: Global, work: &T, number: u32, batch: &mut Vec<T::Out
     batch.push(value).is_ok()
 }
 
-/// A worker for each seat.
-fn crew_of<X: Drop>(alloc: Global, seats: Vec<DealSeat>) -> Result<Vec<Worker<X>>, AllocError>
+/// A worker for each seat, with room for so many values.
+fn crew_of<X: Drop>(
+    alloc: Global,
+    seats: Vec<DealSeat>,
+    share: usize,
+) -> Result<Vec<Worker<X>>, AllocError>
     ensures seats { IfOk result (λ crew. map (λ w. w.seat) crew.items ≡ seats.items) }
     ensures fresh { IfOk result (λ crew. All (λ w. (w.batch.items ≡ []) × (w.failed ≡ false)) crew.items) }
 {
@@ -72,7 +76,7 @@ fn crew_of<X: Drop>(alloc: Global, seats: Vec<DealSeat>) -> Result<Vec<Worker<X>
     for seat in seats {
         crew.push_reserved(Worker {
             seat,
-            batch: Vec::new(alloc),
+            batch: Vec::with_capacity(alloc, share)?,
             failed: false,
         });
     }
@@ -187,6 +191,27 @@ fn gathered<T: TileWork>(
     (take_all(work, slots, answers), dealt)
 }
 
+/// Ends the deal of one seat, which was given all numbers in their order, so that its batch is the answers.
+fn gathered_alone<T: TileWork>(
+    work: &T,
+    deal: Deal,
+    seats: Vec<DealSeat>,
+    mut batches: Vec<Vec<T::Out>>,
+) -> (Vec<T::Out>, Dealt)
+    requires own { AreSeatsOf deal seats.items }
+    requires done { All (λ s. seat_done s ≡ true) seats.items }
+    requires batches { AreBatches (T.gives work.now) (map seat_hand seats.items) batches.items }
+    requires alone { (length batches.items ≡ 1) × (length seats.items ≡ 1) }
+    ensures answers { AreAnswers (T.gives work.now) (deal_tiles deal) result.0.items }
+    ensures dealt { (dealt_tiles result.1 ≡ deal_tiles deal) × (dealt_seats result.1 ≡ deal_seats deal) }
+{
+    let dealt = deal.close(seats);
+    match batches.pop() {
+        Some(batch) => (batch, dealt),
+        None => unreachable!(),
+    }
+}
+
 /// Tests each number below `tiles`, which is at most the count of the work and at most 15,625, by 1 to 64 workers that claim numbers
 /// side by side. The answers stand in the order of the numbers, and beside them it is told which worker was given which numbers. A
 /// worker calls `before`, tests and calls `after`; after a want of memory it draws on without testing. Only want of memory refuses
@@ -207,16 +232,19 @@ pub fn run_tiles<R: Threads + Sync, T: TileWork, G: Gate>(
     ensures dealt { IfOk result (λ r. (dealt_tiles r.1 ≡ tiles) × (dealt_seats r.1 ≡ workers)) }
 {
     let (deal, seats) = Deal::new(alloc, tiles, workers)?;
-    let crew = crew_of(alloc, seats)?;
+    let crew = crew_of(alloc, seats, (tiles / workers) as usize)?;
     let seats = Vec::with_capacity(alloc, workers as usize)?;
     let batches = Vec::with_capacity(alloc, workers as usize)?;
-    let slots = slots_of(alloc, tiles)?;
-    let answers = Vec::with_capacity(alloc, tiles as usize)?;
     let threads = workers.min(tiles.max(1)) as usize;
     let crew = run_all(rt, alloc, &deal, work, gate, crew, threads);
     let left = disband(crew, seats, batches);
     if left.failed {
         return Err(AllocError);
     }
+    if workers == 1 {
+        return Ok(gathered_alone(work, deal, left.seats, left.batches));
+    }
+    let slots = slots_of(alloc, tiles)?;
+    let answers = Vec::with_capacity(alloc, tiles as usize)?;
     Ok(gathered(work, deal, left.seats, left.batches, slots, answers))
 }
