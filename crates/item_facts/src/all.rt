@@ -23,6 +23,9 @@ use std::alloc::{AllocError, Global};
 /// How many items a board takes.
 const MOST_ITEMS: u32 = 200_000;
 
+/// How many tests of an item against an area or a body are few.
+const FEW_TESTS: usize = 8_192;
+
 /// The class of a net, sought once for each net: patterns are dear.
 pub fn known_class<'c>(
     known: &mut IndexMap<u32, &'c Class>,
@@ -120,11 +123,31 @@ fn slots_of(board: &Board) -> usize {
     MOST_ITEMS.saturating_sub(board.left()) as usize
 }
 
+/// Whether so few items are asked against so few areas and bodies that an index of these costs more than it saves.
+fn are_few(board: &Board) -> bool {
+    board.marks().len().saturating_mul(slots_of(board)) <= FEW_TESTS
+}
+
+/// The facts of all items of a board with few of them: each is asked against all areas and bodies.
+fn few_facts(alloc: Global, board: &Board, classes: &Classes) -> Result<FactsById, AllocError>
+    ensures { IfOk result (HasFacts board.now classes.now) }
+{
+    let mut all = FactsById::with_room(alloc, slots_of(board))?;
+    for (id, item) in board.iter() {
+        let facts = facts_of(alloc, board, classes, item)?;
+        all.insert(id, facts)?;
+    }
+    Ok(all)
+}
+
 /// The facts of all items of the board, by id. Each is asked only against the areas and bodies near it, and the class of each
 /// net is found once. Only want of memory refuses it.
 pub fn all_facts(alloc: Global, board: &Board, classes: &Classes) -> Result<FactsById, AllocError>
     ensures { IfOk result (HasFacts board.now classes.now) }
 {
+    if are_few(board) {
+        return few_facts(alloc, board, classes);
+    }
     let index = index_marks(alloc, board)?;
     let mut known = IndexMap::new(alloc);
     let mut room = Vec::new(alloc);

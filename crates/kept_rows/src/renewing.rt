@@ -45,7 +45,10 @@ fn push_batches(rows: &mut Vec<Row>, batches: &[TileRows]) -> Result<(), AllocEr
     ensures { OnOk result (rows.new.items ≡ rows.old.items ++ flat_map (λ (batch : List PlainRow). batch) batches.now) }
 {
     for batch in batches {
-        rows.extend_from_slice(batch.as_slice())?;
+        // most tiles have no rows
+        if !batch.as_slice().is_empty() {
+            rows.extend_from_slice(batch.as_slice())?;
+        }
     }
     Ok(())
 }

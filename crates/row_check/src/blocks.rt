@@ -8,9 +8,10 @@ use box_index::{Entry, do_boxes_meet};
 use geo_seg::Bounds;
 use std::alloc::{AllocError, Global};
 
-/// How many entries have one box in a short block, and in a long one.
+/// How many entries have one box in a short block.
 pub(crate) const SHORT: usize = 4;
 
+/// And in a long one.
 pub(crate) const LONG: usize = 32;
 
 /// The boxes of blocks of both sizes, the last block first. Blocks are counted from the end, so that they are the same for each end

@@ -278,12 +278,12 @@ pub fn test_tile<L: Ledger>(
     ensures rows { IfOk result (λ rows. AreRowsOfTile (checked_by view.now) index.now tile changed.now rows.items) }
     ensures steps { steps.new ≤ steps.old + most_steps index.now tile changed.now }
 {
-    let asked = Asked::by(view);
     let near = index.near(tile);
     // What is large lies in many tiles that answer for none of its pairs.
     if !index.may_answer(tile) {
         return Ok(Vec::new(alloc));
     }
+    let asked = Asked::by(view);
     let all_touched = touched_of(alloc, near, changed)?;
     let short_boxes = boxes_of(alloc, near, SHORT)?;
     let long_boxes = boxes_of(alloc, near, LONG)?;
