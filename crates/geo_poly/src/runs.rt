@@ -56,12 +56,11 @@ pub(crate) fn part_of(poly: &Poly, low: usize, high: usize, size: usize) -> Part
     }
 }
 
-/// Two sizes more, of parts for which no box is kept.
+/// One size more, of parts for which no box is kept.
 const FIFTH: usize = RUN_PARTS * FOURTH_RUN;
 
-const SIXTH: usize = RUN_PARTS * FIFTH;
-
-/// The size from which a walk over so many edges begins to divide them.
+/// The size from which a walk over so many edges begins to divide them. However many they are, the first parts are the longest runs:
+/// the box of a longer part would have to be found from all its corners.
 fn first_size(all: usize) -> usize {
     if all <= FIRST_RUN {
         FIRST_RUN
@@ -71,10 +70,8 @@ fn first_size(all: usize) -> usize {
         THIRD_RUN
     } else if all <= FOURTH_RUN {
         FOURTH_RUN
-    } else if all <= FIFTH {
-        FIFTH
     } else {
-        SIXTH
+        FIFTH
     }
 }
 

@@ -38,7 +38,7 @@ fn is_run_clear(poly: &Poly, low: usize, size: usize, near: Bounds, d: i64) -> b
 }
 
 /// Where the longest such run from `low` on ends, or `low` where there is none.
-fn clear_end(poly: &Poly, low: usize, near: Bounds, d: i64) -> usize
+fn clear_run(poly: &Poly, low: usize, near: Bounds, d: i64) -> usize
     requires low { low < length poly.now }
     requires fits { FitsWithin (pos 1000000000) near }
     requires range { IsUpTo (pos 2000000001) d }
@@ -58,6 +58,27 @@ fn clear_end(poly: &Poly, low: usize, near: Bounds, d: i64) -> usize
     } else {
         low
     }
+}
+
+/// Where the last of such runs ends, one behind another from `low` on, or `low` where there is none.
+fn clear_end(poly: &Poly, low: usize, near: Bounds, d: i64) -> usize
+    requires low { low < length poly.now }
+    requires fits { FitsWithin (pos 1000000000) near }
+    requires range { IsUpTo (pos 2000000001) d }
+    ensures after { low ≤ result }
+    ensures within { result ≤ length poly.now }
+    ensures clear { EachEdge (LiesClear near d) (between low result (outline poly.now)) }
+{
+    let all = poly.corners().len();
+    let mut at = low;
+    'runs: while at < all {
+        let next = clear_run(poly, at, near, d);
+        if next == at {
+            return at;
+        }
+        at = next;
+    }
+    at
 }
 
 /// Where a run from `low` on ends of which each edge is apart from the segment, whose box is `near`; or

@@ -1,23 +1,17 @@
-use Rattle.geo_seg.specs.declared.runs.TheConstants.{FIRST_RUN, SECOND_RUN, THIRD_RUN, FOURTH_RUN}
-use Rattle.geo_poly.proofs.RunLemmas.{run_clear}
+use Rattle.std.proofs.Common.{◌≤◌, List, length, subst, sym, arith}
+use Rattle.geo_seg.specs.declared.points.Point.{Point}
+use Rattle.geo_seg.specs.Inside.{outline}
+use Rattle.geo_seg.proofs.Passed.{passed}
+use Rattle.geo_poly.specs.Runs.{LiesClear}
+use Rattle.geo_poly.proofs.RunLemmas.{each_on}
 use Rattle.geo_poly.proofs.walks.clear_end.Goals as goal
 
-pub returns-then-is_run_clear-clause-clear : goal.returns-then-is_run_clear-clause-clear
-returns-then-is_run_clear-clause-clear c =
-    run_clear c.args.near c.args.d c.corners-all.result.now c.args.poly.now c.args.low FOURTH_RUN c.end.result c.corners-all.ensures.same c.end.ensures.run c.requires.range.from c.requires.range.to
-    (c.is_run_clear.ensures c.if-is_run_clear.true)
-
-pub returns-then-is_run_clear-2-clause-clear : goal.returns-then-is_run_clear-2-clause-clear
-returns-then-is_run_clear-2-clause-clear c =
-    run_clear c.args.near c.args.d c.corners-all.result.now c.args.poly.now c.args.low THIRD_RUN c.end-then-is_run_clear-2.result c.corners-all.ensures.same c.end-then-is_run_clear-2.ensures.run c.requires.range.from c.requires.range.to
-    (c.is_run_clear-else-is_run_clear.ensures c.if-is_run_clear-2.true)
-
-pub returns-then-is_run_clear-3-clause-clear : goal.returns-then-is_run_clear-3-clause-clear
-returns-then-is_run_clear-3-clause-clear c =
-    run_clear c.args.near c.args.d c.corners-all.result.now c.args.poly.now c.args.low SECOND_RUN c.end-then-is_run_clear-3.result c.corners-all.ensures.same c.end-then-is_run_clear-3.ensures.run c.requires.range.from c.requires.range.to
-    (c.is_run_clear-else-is_run_clear-2.ensures c.if-is_run_clear-3.true)
-
-pub returns-then-is_run_clear-4-clause-clear : goal.returns-then-is_run_clear-4-clause-clear
-returns-then-is_run_clear-4-clause-clear c =
-    run_clear c.args.near c.args.d c.corners-all.result.now c.args.poly.now c.args.low FIRST_RUN c.end-then-is_run_clear-4.result c.corners-all.ensures.same c.end-then-is_run_clear-4.ensures.run c.requires.range.from c.requires.range.to
-    (c.is_run_clear-else-is_run_clear-3.ensures c.if-is_run_clear-4.true)
+pub runs-preserved : goal.runs-preserved
+runs-preserved c =
+    let low = c.args.low in let at = c.runs.at in let next = c.clear_run-next.result in
+    let so_far = c.runs.invariant in let run = c.clear_run-next.ensures in
+    let up : low ≤ next = omega (arith, so_far.0, run.after) in (
+      up,
+      subst (λ (z : List Point). next ≤ length z) (sym c.corners-all.ensures.same) run.within,
+      each_on (LiesClear c.args.near (passed c.args.d)) low at next (outline c.args.poly.now) so_far.0 run.after so_far.2 run.clear,
+    )
