@@ -16,10 +16,12 @@ use Rattle.box_index.specs.declared.entry.Entry.{Entry}
 use Rattle.box_index.specs.Tiles.{PlainIndex, IsSoundIndex, IsComplete, IsRising, IsAbsent, margin, is_in, meets_tile, near_of, is_held, is_met_by, numbers_below, dirty_of, owner_of, placed, without, tile_count}
 use Rattle.box_index.specs.Areas.{has_tile}
 use Rattle.box_index.specs.Cuts.{IsCut}
+use Rattle.box_index.specs.declared.spans.Span.{Span}
+use Rattle.box_index.specs.Spans.{HasAll}
 use Rattle.box_index.specs.declared.shared.Shared.{Shared}
 use Rattle.box_index.specs.Shares.{AreShared, AreRising, CanTake, IsPutNear, IsTakenNear}
 use Rattle.box_index.proofs.TileLemmas.{lane-within, owns_both}
-use Rattle.box_index.proofs.Numbers.{any_kept, filter_same, filter_nothing}
+use Rattle.box_index.proofs.Numbers.{and_no, any_kept, filter_same, filter_nothing}
 use Rattle.box_index.proofs.EntryLists.{filter_all, filter_none, filter_swap, pairs_first, pairs_rest, below_true, below_false, is_below}
 
 abbrev pub index_of : ℤ → List Entry → PlainIndex
@@ -216,13 +218,23 @@ dirty_is inside index boxes all old new now s sound o n e =
     (ap (λ (ms : List Bool). slice_index_or ms tile false) e ∙ n tile false l ∙ ap (λ b. b || is_met_by (passed (pos 2 *ℤ passed inside.reach)) boxes tile) (o tile false l)
     ∙ ap (λ m. all || is_met_by m boxes tile) (margin_is inside index s sound)))
 
-and_no : (b : Bool) → b && false ≡ false
-and_no true = refl
-and_no false = refl
-
 no_boxes : (boxes : List Bounds) → (length boxes == 0) ≡ true → boxes ≡ []
 no_boxes [] h = refl
 no_boxes (b ∷ bs) h = grind (arith, nat_tests)
+
+-- what is marked lies in the span of what the boxes meet
+pub marks_span : (boxes : List Bounds) (m : ℤ) (all : Bool) (old new now : List Bool) (span : Span) → ((tile : ℕ) (d : Bool) → tile < tile_count → slice_index_or old tile d ≡ all)
+    → ((tile : ℕ) (d : Bool) → tile < tile_count → slice_index_or new tile d ≡ (slice_index_or old tile d || is_met_by m boxes tile)) → now ≡ new
+    → HasAll (λ tile. all || is_met_by m boxes tile) span → HasAll (λ tile. slice_index_or now tile false) span
+marks_span boxes m all old new now span o n e h =
+    let at : (tile : ℕ) → tile < tile_count → slice_index_or now tile false ≡ (all || is_met_by m boxes tile) =
+    λ tile l. ap (λ (ms : List Bool). slice_index_or ms tile false) e ∙ n tile false l ∙ ap (λ b. b || is_met_by m boxes tile) (o tile false l) in
+    record {
+      first = h.first;
+      end = h.end;
+      before = λ tile l. at tile (let f = h.first in omega (arith, l, f)) ∙ h.before tile l;
+      past = λ tile g l. at tile l ∙ h.past tile g l;
+    }
 
 -- without boxes, and not of all tiles, there is none
 pub dirty_none : (index : PlainIndex) (boxes : List Bounds) (all : Bool) → (length boxes == 0) ≡ true → all ≡ false → [] ≡ dirty_of index boxes all

@@ -4,5 +4,6 @@ pub mod Areas
 pub mod Cuts
 pub mod Walks
 pub mod Shares
+pub mod Spans
 pub mod Kept
 pub mod Reached

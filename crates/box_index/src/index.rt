@@ -4,6 +4,7 @@ ghost use Rattle.std.specs.Prelude.{◌≡◌, ◌<◌, ◌≤ℤ◌, pos, ◌&&
 ghost use Rattle.geo_seg.specs.Boxes.{FitsWithin, widened};
 ghost use Rattle.box_index.specs.declared.entry.Entry.{Entry};
 ghost use Rattle.box_index.specs.Areas.{has_tile};
+ghost use Rattle.box_index.specs.Spans.{HasAll};
 ghost use Rattle.box_index.specs.Tiles.{PlainIndex, IsSoundIndex, IsComplete, AnswersForNone, IsAbsent, OwnsBoth, meets_tile, near_of, owner_of, margin, placed, without, held_of, is_held, dirty_of, numbers_below, tile_count};
 
 use crate::area::Area;
@@ -12,6 +13,7 @@ use crate::fills::filled;
 use crate::grid::Grid;
 use crate::kept::KeptBoxes;
 use crate::lanes::{LANES, TILES, owner, widen};
+use crate::spans::Span;
 use crate::walks::mark_boxes;
 use geo_seg::Bounds;
 use std::alloc::{AllocError, Global};
@@ -189,7 +191,8 @@ impl TileIndex {
         }
         let mut marks = filled(alloc, all)?;
         mark_boxes(&mut marks, 2 * self.reach, boxes);
-        self.marked(alloc, &marks)
+        let span = Span::reached(2 * self.reach, boxes, all);
+        self.marked(alloc, &marks, span)
     }
 
     /// Whether the tile holds an entry and is marked.
@@ -198,18 +201,20 @@ impl TileIndex {
         requires within { tile < tile_count }
         ensures { result ≡ (is_held self.now tile && slice_index_or marks.now tile false) }
     {
-        self.holds(tile) && marks[tile]
+        // Few tiles are marked, and the mark is at hand.
+        marks[tile] && self.holds(tile)
     }
 
-    /// The marked tiles that hold an entry.
-    fn marked(&self, alloc: Global, marks: &[bool]) -> Result<Vec<u32>, AllocError>
-        requires { length marks.now ≡ tile_count }
+    /// The marked tiles that hold an entry. All that are marked lie in the span.
+    fn marked(&self, alloc: Global, marks: &[bool], span: Span) -> Result<Vec<u32>, AllocError>
+        requires long { length marks.now ≡ tile_count }
+        requires span { HasAll (λ tile. slice_index_or marks.now tile false) span }
         ensures { IfOk result (λ tiles. tiles.items ≡ filter (λ tile. is_held self.now tile && slice_index_or marks.now tile false) (numbers_below tile_count)) }
     {
-        let mut tiles = Vec::with_capacity(alloc, TILES)?;
-        for tile in 0..TILES {
+        let mut tiles = Vec::new(alloc);
+        for tile in span.first..span.end {
             if self.holds_marked(marks, tile) {
-                tiles.push_reserved(tile as u32);
+                tiles.push(tile as u32)?;
             }
         }
         Ok(tiles)

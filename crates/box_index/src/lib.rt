@@ -19,6 +19,7 @@ mod lists;
 mod near;
 mod parting;
 mod shared;
+mod spans;
 mod walks;
 
 pub use area::Area;
