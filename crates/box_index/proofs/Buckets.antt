@@ -107,7 +107,7 @@ parts_step id x xs r a h (inr (inr g)) =
     ∙ ap (λ b. cond b (x ∷ filter (λ (y : Entry). nat_lt id y.id) xs) (filter (λ (y : Entry). nat_lt id y.id) xs)) (below_true _ _ g)
     ∙ ap (λ ys. x ∷ ys) every
 
-parts_whole : (id : ℕ) (xs : List Entry) → IsRising xs → IsAbsent id xs → filter (λ (y : Entry). nat_lt y.id id) xs ++ filter (λ (y : Entry). nat_lt id y.id) xs ≡ xs
+pub parts_whole : (id : ℕ) (xs : List Entry) → IsRising xs → IsAbsent id xs → filter (λ (y : Entry). nat_lt y.id id) xs ++ filter (λ (y : Entry). nat_lt id y.id) xs ≡ xs
 parts_whole id [] r a = refl
 parts_whole id (x ∷ xs) r a =
     parts_step id x xs r a (parts_whole id xs (pairs_rest (λ (y z : Entry). y.id < z.id) x xs r) (All-tail (λ (y : Entry). y.id ≢ id) x xs a)) (cases_order x.id id)

@@ -11,3 +11,4 @@ pub mod Copies
 pub mod Grids
 pub mod Ones
 pub mod Changed
+pub mod Vacancies

@@ -1,10 +1,10 @@
 -- Lists of entries that tiles share, and the tiles that have them. A tile has the number of a list.
-use Rattle.std.specs.Prelude.{◌≡◌, ◌≢◌, ◌⊎◌, ℕ, ◌<◌, ◌≤◌, true, false, List, All, Option, IfSome, length, slice_index_or, vec_len, vec_capacity}
+use Rattle.std.specs.Prelude.{◌≡◌, ◌≢◌, ◌⊎◌, ℕ, ◌<◌, ◌≤◌, Bool, true, false, ◌&&◌, ◌==◌, List, filter, All, Option, IfSome, length, slice_index_or, vec_len, vec_capacity}
 use Rattle.box_index.specs.declared.area.Area.{Area}
 use Rattle.box_index.specs.declared.entry.Entry.{Entry}
 use Rattle.box_index.specs.declared.shared.Shared.{Shared}
 use Rattle.box_index.specs.declared.parting.Parted.{Parted}
-use Rattle.box_index.specs.Tiles.{IsRising, IsAbsent, placed, without, tile_count}
+use Rattle.box_index.specs.Tiles.{IsRising, IsAbsent, placed, without, numbers_below, tile_count}
 use Rattle.box_index.specs.Areas.{has_tile, LiesIn}
 use Rattle.box_index.specs.Corners.{BeginsBy}
 
@@ -60,6 +60,13 @@ pub record IsOf (entries : List Entry) (list : Shared) : Type 0 where
 pub record AreShared (near : ℕ → List Entry) (tiles : List ℕ) (lists : List Shared) : Type 0 where
   pub homed : AreHomed tiles lists
   pub each : (tile d : ℕ) (s : Shared) → tile < tile_count → IsOf (near tile) (list_at tiles lists tile d s)
+
+-- the tile is one of the area's and has no entries
+abbrev pub is_vacant : (ℕ → List Entry) → Area → ℕ → Bool
+is_vacant near area tile = has_tile area tile && (length (near tile) == 0)
+
+abbrev pub vacant_of : (ℕ → List Entry) → Area → List ℕ
+vacant_of near area = filter (is_vacant near area) (numbers_below tile_count)
 
 -- all tiles of the area have the same list
 abbrev pub IsEven : Area → List ℕ → Type 0

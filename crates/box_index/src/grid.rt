@@ -1,20 +1,20 @@
 //! The entries of each tile. Tiles that have the same may share a list: an area or a fill lies in thousands of tiles.
 
-ghost use Rattle.std.specs.Prelude.{◌≡◌, ℕ, ◌<◌, ◌≤◌, true, List, [], pos, IfOk, OnOk};
+ghost use Rattle.std.specs.Prelude.{◌≡◌, ℕ, ◌<◌, ◌≤◌, true, List, [], length, pos, IfOk, OnOk};
 ghost use Rattle.std.specs.List.{AllZip};
 ghost use Rattle.geo_seg.specs.Boxes.{FitsWithin};
 ghost use Rattle.box_index.specs.declared.entry.Entry.{Entry};
 ghost use Rattle.box_index.specs.declared.shared.Shared.{Shared};
 ghost use Rattle.box_index.specs.Tiles.{tile_count};
 ghost use Rattle.box_index.specs.Areas.{has_tile, end_of, LiesIn};
-ghost use Rattle.box_index.specs.Shares.{AreHomed, AreShared, AreReady, AreRising, CanTake, IsEven, IsEvenAt, IsEqual, IsPutNear, IsTakenNear, DoMeetAll, list_at};
+ghost use Rattle.box_index.specs.Shares.{AreHomed, AreShared, AreReady, AreRising, CanTake, IsEven, IsEvenAt, IsEqual, IsPutNear, IsTakenNear, DoMeetAll, list_at, vacant_of};
 
 use crate::area::Area;
 use crate::entry::Entry;
 use crate::fills::filled;
 use crate::parting::{part_each, part_one};
 use crate::shared::Shared;
-use crate::walks::{is_even, put_each, take_out_each};
+use crate::walks::{count_vacant, is_even, put_each, take_out_each};
 use std::alloc::{AllocError, Global};
 
 /// The lists of all tiles.
@@ -102,6 +102,27 @@ impl Grid {
         ensures lies { result ≡ true → (tile d : ℕ) (s : Shared) → has_tile area tile ≡ true → LiesIn (list_at self.now.tiles.items self.now.lists.items tile d s).home area }
     {
         self.is_known_even(area) && self.at(area.first()).home.lies_in(area)
+    }
+
+    /// Whether the tiles of the area are known to have the same list, and it has an entry.
+    fn is_filled(&self, area: Area) -> bool
+        requires homed { AreHomed self.now.tiles.items self.now.lists.items }
+        requires even { IsEvenAt self.now.even self.now.tiles.items }
+        ensures { result ≡ true → (near : ℕ → List Entry) → AreShared near self.now.tiles.items self.now.lists.items → vacant_of near area ≡ [] }
+    {
+        self.is_known_even(area) && !self.at(area.first()).entries.is_empty()
+    }
+
+    /// How many tiles of the area have no entries.
+    pub(crate) fn vacant(&self, area: Area) -> u32
+        requires homed { AreHomed self.now.tiles.items self.now.lists.items }
+        requires even { IsEvenAt self.now.even self.now.tiles.items }
+        ensures { (near : ℕ → List Entry) → AreShared near self.now.tiles.items self.now.lists.items → result ≡ length (vacant_of near area) }
+    {
+        if self.is_filled(area) {
+            return 0;
+        }
+        count_vacant(&self.tiles, &self.lists, area)
     }
 
     /// The list of a tile.

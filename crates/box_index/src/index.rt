@@ -33,17 +33,20 @@ pub struct TileIndex {
     boxes: KeptBoxes,
     // of each tile the entries that meet it, by rising id
     grid: Grid,
+    // how many tiles hold an entry
+    held: u32,
 }
 
 impl Model for TileIndex {
-    ghost use Rattle.box_index.specs.Tiles.{PlainIndex, IsSoundIndex, near_of};
+    ghost use Rattle.std.specs.Prelude.{◌≡◌, length};
+    ghost use Rattle.box_index.specs.Tiles.{PlainIndex, IsSoundIndex, near_of, held_of};
     ghost use Rattle.box_index.specs.Shares.{AreShared, IsEvenAt};
 
     ghost Value = { PlainIndex };
 
     ghost view = { λ t. record { reach = t.reach; entries = t.boxes } };
 
-    ghost invariant = { λ t. IsSoundIndex (record { reach = t.reach; entries = t.boxes }) × AreShared (near_of (record { reach = t.reach; entries = t.boxes })) t.grid.tiles.items t.grid.lists.items × IsEvenAt t.grid.even t.grid.tiles.items };
+    ghost invariant = { λ t. IsSoundIndex (record { reach = t.reach; entries = t.boxes }) × AreShared (near_of (record { reach = t.reach; entries = t.boxes })) t.grid.tiles.items t.grid.lists.items × IsEvenAt t.grid.even t.grid.tiles.items × (t.held ≡ length (held_of (record { reach = t.reach; entries = t.boxes }))) };
 }
 
 impl TileIndex {
@@ -57,6 +60,7 @@ impl TileIndex {
             reach,
             boxes: KeptBoxes::new(alloc),
             grid: Grid::new(alloc)?,
+            held: 0,
         })
     }
 
@@ -68,6 +72,7 @@ impl TileIndex {
             reach: self.reach,
             boxes: self.boxes.copy()?,
             grid: self.grid.copy()?,
+            held: self.held,
         })
     }
 
@@ -83,6 +88,7 @@ impl TileIndex {
         let area = Area::around(2 * self.reach, bounds);
         self.grid.make_room(area)?;
         self.boxes.put(entry)?;
+        self.held += self.grid.vacant(area);
         self.grid.put(area, entry);
         Ok(())
     }
@@ -94,6 +100,7 @@ impl TileIndex {
         if let Some(entry) = self.boxes.take_out(id) {
             let area = Area::around(2 * self.reach, entry.bounds);
             self.grid.take_out(area, id);
+            self.held -= self.grid.vacant(area);
         }
     }
 
@@ -168,13 +175,7 @@ impl TileIndex {
     pub fn held(&self) -> u32
         ensures { result ≡ length (held_of self.now) }
     {
-        let mut count = 0;
-        for tile in 0..TILES {
-            if self.holds(tile) {
-                count += 1;
-            }
-        }
-        count
+        self.held
     }
 
     /// The numbers, rising, of the tiles with an entry that one of the boxes meets once it is widened by the reach; with

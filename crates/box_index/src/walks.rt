@@ -1,11 +1,12 @@
 //! Walks over the tiles of an area.
 
-ghost use Rattle.std.specs.Prelude.{◌≡◌, ℕ, ◌<◌, ◌≤◌, length, true, slice_index_or, Bool, All, pos, ◌≤ℤ◌, ◌||◌};
+ghost use Rattle.std.specs.Prelude.{◌≡◌, ℕ, ◌<◌, ◌≤◌, length, true, slice_index_or, Bool, List, All, pos, ◌≤ℤ◌, ◌||◌};
 ghost use Rattle.geo_seg.specs.Boxes.{FitsWithin};
+ghost use Rattle.box_index.specs.declared.entry.Entry.{Entry};
 ghost use Rattle.box_index.specs.Tiles.{is_met_by, tile_count};
 ghost use Rattle.box_index.specs.Areas.{end_of, LiesIn};
 ghost use Rattle.box_index.specs.Walks.{IsChanged};
-ghost use Rattle.box_index.specs.Shares.{AreHomed, AreReady, AreRising, AreChanged, CanTake, IsEven, IsPut, IsTaken, DoMeetAll};
+ghost use Rattle.box_index.specs.Shares.{AreHomed, AreReady, AreRising, AreShared, AreChanged, CanTake, IsEven, IsPut, IsTaken, DoMeetAll, vacant_of};
 
 use crate::area::Area;
 use crate::entry::Entry;
@@ -59,6 +60,23 @@ pub(crate) fn take_out_each(tiles: &[u32], lists: &mut [Shared], area: Area, end
         lists[tiles[tile] as usize].take_out(id);
         tile = area.after(tile);
     }
+}
+
+/// How many tiles of the area have no entries.
+pub(crate) fn count_vacant(tiles: &[u32], lists: &[Shared], area: Area) -> u32
+    requires { AreHomed tiles.now lists.now }
+    ensures { (near : ℕ → List Entry) → AreShared near tiles.now lists.now → result ≡ length (vacant_of near area) }
+{
+    let end = area.end();
+    let mut count = 0;
+    let mut tile = area.first();
+    'tiles: while tile < end {
+        if lists[tiles[tile] as usize].entries.is_empty() {
+            count += 1;
+        }
+        tile = area.after(tile);
+    }
+    count
 }
 
 /// Gives each tile of the area the value.

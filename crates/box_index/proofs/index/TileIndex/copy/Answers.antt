@@ -1,6 +1,6 @@
-use Rattle.std.proofs.Common.{◌∙◌, ap, sym, subst, ℤ, List}
+use Rattle.std.proofs.Common.{◌≡◌, ◌∙◌, ap, sym, subst, length, ℤ, List}
 use Rattle.box_index.specs.declared.entry.Entry.{Entry}
-use Rattle.box_index.specs.Tiles.{PlainIndex, IsSoundIndex, near_of}
+use Rattle.box_index.specs.Tiles.{PlainIndex, IsSoundIndex, held_of, near_of}
 use Rattle.box_index.specs.Shares.{AreShared}
 use Rattle.box_index.proofs.Buckets.{index_of}
 use Rattle.box_index.proofs.Copies.{same_reach}
@@ -15,4 +15,5 @@ invariant_of-result c =
       subst (λ (i : PlainIndex). IsSoundIndex i) (sym same) c.self.invariant.0,
       subst (λ (i : PlainIndex). AreShared (near_of i) copy.tiles.items copy.lists.items) (sym same) (c.in_ok-copy-2.ensures.shared (near_of (index_of reach xs)) c.self.invariant.1),
       c.in_ok-copy-2.ensures.even c.self.invariant.2,
+      subst (λ (i : PlainIndex). c.self.inside.held ≡ length (held_of i)) (sym same) c.self.invariant.3,
     )
