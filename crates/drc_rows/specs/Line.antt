@@ -1,5 +1,5 @@
 -- A line that is put together before it goes out.
-use Rattle.std.specs.Prelude.{◌≡◌, ◌≤◌, ◌==◌, ℕ, List, [], ◌∷◌, ◌++◌, Option, Result, MatchResult, OnErr, if◌then◌else◌, codes}
+use Rattle.std.specs.Prelude.{◌≡◌, ◌≤◌, ◌<◌, ◌==◌, ℕ, List, [], ◌∷◌, ◌++◌, get_or, Option, Result, MatchResult, OnErr, if◌then◌else◌, codes}
 use Rattle.std.specs.List.{flat_map}
 use Rattle.std.specs.Io.KnownBytes.{Appends}
 use Rattle.drc_io.specs.Causes.{Rose}
@@ -33,3 +33,7 @@ escaped name = flat_map escaped_byte name
 -- a word and a name
 abbrev pub named : List ℕ → List ℕ → List ℕ
 named word name = word ++ codes " \"" ++ escaped name ++ codes "\""
+
+-- the bytes of a name from a place up to another stand for themselves
+abbrev pub AreOwn : List ℕ → ℕ → ℕ → Type 0
+AreOwn name from to = (k : ℕ) → from ≤ k → k < to → escaped_byte (get_or name k 0) ≡ get_or name k 0 ∷ []

@@ -1,6 +1,6 @@
 use Rattle.std.proofs.Common.{◌≡◌, take}
 use Rattle.drc_rows.specs.Line.{escaped}
-use Rattle.drc_rows.proofs.pieces.is_plain.Given as goal
+use Rattle.drc_rows.proofs.pieces.is_short_plain.Given as goal
 
 -- what has been passed stands for itself
 abbrev pub invariant-loop-byte : goal.invariant-loop-byte
