@@ -1,6 +1,7 @@
 //! The lines of a report, written to a sink one at a time. No call takes memory.
 #![tactic(auto)]
 
+mod digits;
 mod items;
 mod line;
 mod millimetres;

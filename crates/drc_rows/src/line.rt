@@ -4,6 +4,7 @@ ghost use Rattle.std.specs.Prelude.{◌≡◌, ◌≤◌, ◌+◌, ◌++◌, ℕ
 ghost use Rattle.drc_io.specs.Sinks.{Writes};
 ghost use Rattle.drc_rows.specs.Line.{Puts};
 
+use crate::digits::place;
 use drc_io::{Failed, Sink, put_all};
 use std::marker::Model;
 
@@ -36,6 +37,7 @@ impl Line {
     }
 
     /// Puts a piece at the end. Where there is no room, what came before it goes out first.
+    #[inline(always)]
     pub fn push<W: Sink>(&mut self, out: &mut W, piece: &[u8]) -> Result<(), Failed>
         ensures { Puts (W.written out.old) (W.written out.new) (W.faults out.old) (W.faults out.new) self.old piece.now self.new result }
     {
@@ -46,8 +48,7 @@ impl Line {
                 return put_all(out, piece);
             }
         }
-        place(&mut self.bytes, self.len, piece);
-        self.len += piece.len();
+        self.len = place(&mut self.bytes, self.len, piece);
         Ok(())
     }
 
@@ -57,12 +58,4 @@ impl Line {
     {
         put_all(out, &self.bytes[..self.len])
     }
-}
-
-/// Copies the piece into the bytes from a place on.
-fn place(bytes: &mut [u8], at: usize, piece: &[u8])
-    requires { at + length piece.now ≤ length bytes.old }
-    ensures { take (at + length piece.now) bytes.new ≡ take at bytes.old ++ piece.now }
-{
-    bytes[at..at + piece.len()].copy_from_slice(piece);
 }
