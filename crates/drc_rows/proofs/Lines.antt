@@ -37,6 +37,29 @@ Puts-past a b c m n o text pending piece x (Err e) is w v = record {
   failed = grind (arith, w.later, v.failed);
 }
 
+-- what was pending went out
+pub Puts-out : {S T E D : Type 0} (a b : Option (List ℕ)) (m n : ℕ) (text pending : List ℕ) (x : S) (y : T)
+    → text ≡ pending → Writes {T = S} {E = D} a b m n text (Ok x) → Puts {T = T} {E = E} a b m n pending [] [] (Ok y)
+Puts-out a b m n text pending x y is w = record { bytes = record { sent = text; whole = ap (λ l. l ++ []) (sym is); appended = w.bytes }; later = w.later; failed = tt }
+
+-- nothing was pending, and a piece went out as it is
+pub Puts-through : {T E : Type 0} (a b : Option (List ℕ)) (m n : ℕ) (none piece : List ℕ) (r : Result T E) → none ≡ [] → Writes a b m n piece r → Puts a b m n none piece none r
+Puts-through a b m n none piece (Ok y) is w = record { bytes = record { sent = piece; whole = rw is (sym (append-nil piece)); appended = w.bytes }; later = w.later; failed = tt }
+Puts-through a b m n none piece (Err e) is w = record { bytes = subst (λ l. AppendsFront a b (l ++ piece)) (sym is) w.bytes; later = w.later; failed = w.failed }
+
+-- a piece at the end of what is kept
+pub Puts-append : {S T E D : Type 0} (a b : Option (List ℕ)) (m n : ℕ) (pending kept piece left : List ℕ) (x : S) (y : T)
+    → Puts {T = S} {E = D} a b m n pending [] kept (Ok x) → left ≡ kept ++ piece → Puts {T = T} {E = E} a b m n pending piece left (Ok y)
+Puts-append a b m n pending kept piece left x y w is = record {
+  bytes = record {
+    sent = w.bytes.sent;
+    whole = ap (λ l. l ++ piece) (sym (append-nil pending) ∙ w.bytes.whole) ∙ (append_assoc w.bytes.sent kept piece ∙ ap (λ l. w.bytes.sent ++ l) (sym is));
+    appended = w.bytes.appended;
+  };
+  later = w.later;
+  failed = tt;
+}
+
 regroup : (pending first sent kept second : List ℕ) → pending ++ first ≡ sent ++ kept → pending ++ (first ++ second) ≡ sent ++ (kept ++ second)
 regroup pending first sent kept second e =
     sym (append_assoc pending first second) ∙ (ap (λ l. l ++ second) e ∙ append_assoc sent kept second)

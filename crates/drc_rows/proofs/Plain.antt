@@ -1,6 +1,7 @@
 -- Names whose bytes all stand for themselves.
-use Rattle.std.proofs.Common.{◌≡◌, ℕ, suc, ◌<◌, ◌≤◌, List, [], ◌∷◌, ◌++◌, length, get_or, ap, ◌∙◌, refl, arith, Bool, true, false, not, nat_lt}
+use Rattle.std.proofs.Common.{◌≡◌, ℕ, suc, ◌+◌, ◌-◌, ◌≤◌, List, [], ◌∷◌, ◌++◌, length, get_or, take, drop, ap, subst, ◌∙◌, refl, arith, Bool, true, false, nat_lt}
 use Rattle.std.proofs.lemmas.Bool.Decides.{nat_tests}
+use Rattle.std.proofs.lemmas.List.{get_or-take, get_or-drop}
 use Rattle.drc_rows.specs.Line.{escaped, escaped_byte, AreOwn}
 
 -- byte by byte
@@ -19,6 +20,9 @@ own_both name from middle start reach to meet far left right k low high = by (na
     by true h = left k low (grind (arith, nat_tests, h))
     by false h = right k (grind (arith, nat_tests, h)) (omega arith)
 
-pub not_true : (b : Bool) → not b ≡ true → b ≡ false
-not_true false h = refl
-not_true true h = absurd cc
+-- a part, by itself
+pub own_part : (name : List ℕ) (at count size : ℕ) → size ≡ count → AreOwn (take size (drop at name)) 0 count → AreOwn name at (at + count)
+own_part name at count size is own k low high =
+    let back : at + (k - at) ≡ k = omega arith in
+    let same : get_or (take size (drop at name)) (k - at) 0 ≡ get_or name k 0 = get_or-take size (drop at name) (k - at) 0 (omega arith) ∙ (get_or-drop at name (k - at) 0 ∙ ap (λ j. get_or name j 0) back) in
+    subst (λ (x : ℕ). escaped_byte x ≡ x ∷ []) same (own (k - at) (omega arith) (omega arith))

@@ -1,9 +1,10 @@
 -- Lengths that can be written, and items whose places can be.
-use Rattle.std.proofs.Common.{◌≡◌, ◌≤◌, ◌≤ℤ◌, ℤ, pos, negsuc, neg_ℤ, Bool, true, false, ◌&&◌, is_some, refl, arith}
+use Rattle.std.proofs.Common.{ℕ, List, ◌++◌, ◌≡◌, ◌≤◌, ◌≤ℤ◌, ℤ, pos, negsuc, neg_ℤ, Bool, true, false, ◌&&◌, is_some, refl, arith}
 use Rattle.std.proofs.lemmas.Int.{ints}
 use Rattle.std.specs.Int.Signed.{le_z}
 use Rattle.std.specs.Prelude.{unsigned_abs}
 use Rattle.int_algebra.proofs.Scalars.{passed}
+use Rattle.exact_dec.specs.Written.{mm_text}
 use Rattle.plain_types.specs.Lengths.{IsLength}
 use Rattle.board_items.specs.declared.item.Item.{Item}
 use Rattle.board_items.specs.Boards.{PlainBoard, is_near, is_on_board, is_admitted, name_of, has_layers_of}
@@ -55,3 +56,7 @@ pub on_board : (board : PlainBoard) (item : Item) → is_admitted board item ≡
 on_board board item h =
     let has = is_some (name_of board item.net) in
     (both (is_on_board item) has (both (is_on_board item && has) (has_layers_of board item) h).0).0
+
+-- two lengths, as they are passed to a call
+pub both_as : (before between : List ℕ) (v w x y : ℤ) → v ≡ x → w ≡ y → before ++ mm_text v ++ between ++ mm_text w ≡ before ++ mm_text x ++ between ++ mm_text y
+both_as before between v w x y e f = rw (e, f)

@@ -6,12 +6,12 @@ ghost use Rattle.drc_rows.specs.Line.{Puts, named};
 ghost use Rattle.drc_rows.specs.Report.{title_of, item_text, text_of};
 
 use crate::line::Line;
-use crate::millimetres::Millimetres;
-use crate::pieces::{push_all, push_quoted};
+use crate::pieces::{push_lengths, push_quoted};
 use board_items::{Board, Item, What};
 use drc_io::{Failed, Name, Sink};
 
 /// Puts a word and a name into the line.
+#[inline(always)]
 fn push_named<W: Sink>(line: &mut Line, out: &mut W, word: &[u8], name: &Name) -> Result<(), Failed>
     ensures { Puts (W.written out.old) (W.written out.new) (W.faults out.old) (W.faults out.new) line.old (named word.now name.now) line.new result }
 {
@@ -53,10 +53,8 @@ fn push_item<W: Sink>(line: &mut Line, out: &mut W, item: &Item) -> Result<(), F
     requires { is_on_board item.now ≡ true }
     ensures { Puts (W.written out.old) (W.written out.new) (W.faults out.old) (W.faults out.new) line.old (item_text item.now) line.new result }
 {
-    let x = Millimetres::of(item.x);
-    let y = Millimetres::of(item.y);
     push_title(line, out, item)?;
-    push_all(line, out, &[b" at ", x.as_bytes(), b" ", y.as_bytes()])
+    push_lengths(line, out, b" at ", item.x, b" ", item.y)
 }
 
 /// Puts the item of an id into the line.

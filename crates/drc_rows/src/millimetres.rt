@@ -3,12 +3,8 @@
 ghost use Rattle.std.specs.Prelude.{◌≡◌, ◌≤◌, ℕ, List, take, unsigned_abs};
 ghost use Rattle.exact_dec.specs.Written.{mm_text};
 
-use crate::digits::place_short;
 use exact_dec::{Nm, write_mm};
 use std::marker::Model;
-
-/// Lengths below this one have at most three digits before the point, as all of boards have.
-const SHORT: u64 = 1_000_000_000;
 
 /// The text of a length in millimetres.
 #[derive(Drop)]
@@ -32,11 +28,7 @@ impl Millimetres {
         ensures { result ≡ mm_text nm }
     {
         let mut bytes = [0; 16];
-        let len = if nm.unsigned_abs() < SHORT {
-            place_short(&mut bytes, 0, nm)
-        } else {
-            write_mm(nm, &mut bytes)
-        };
+        let len = write_mm(nm, &mut bytes);
         Millimetres { bytes, len }
     }
 

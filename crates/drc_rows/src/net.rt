@@ -11,8 +11,7 @@ ghost use Rattle.drc_rows.specs.NetBlock.{net_line, group_line, item_text_at, an
 
 use crate::items::{push_item_of, push_title};
 use crate::line::Line;
-use crate::millimetres::Millimetres;
-use crate::pieces::{push_all, push_quoted};
+use crate::pieces::{push_all, push_lengths, push_quoted};
 use board_items::{Board, Item};
 use drc_io::{Failed, Sink};
 use itoa::Buffer;
@@ -93,10 +92,8 @@ fn push_item_at<W: Sink>(
 ) -> Result<(), Failed>
     ensures { Puts (W.written out.old) (W.written out.new) (W.faults out.old) (W.faults out.new) line.old (item_text_at item.now anchor) line.new result }
 {
-    let x = Millimetres::of(anchor.x);
-    let y = Millimetres::of(anchor.y);
     push_title(line, out, item)?;
-    push_all(line, out, &[b" at ", x.as_bytes(), b" ", y.as_bytes()])
+    push_lengths(line, out, b" at ", anchor.x, b" ", anchor.y)
 }
 
 /// Puts the item of an anchor into the line, at the place of the anchor.

@@ -11,8 +11,7 @@ ghost use Rattle.drc_rows.specs.Report.{severity_word, layer_text, head_text, si
 
 use crate::items::push_item_of;
 use crate::line::Line;
-use crate::millimetres::Millimetres;
-use crate::pieces::{push_all, push_quoted};
+use crate::pieces::{push_all, push_lengths, push_quoted};
 use board_items::Board;
 use cond_lang::{Family, Rule, Severity};
 use copper_layers::layer_name;
@@ -114,23 +113,11 @@ fn push_asked<W: Sink>(
 }
 
 /// Puts into the line the length that is asked for, under a word, and the one that there is.
-fn push_lengths<W: Sink>(line: &mut Line, out: &mut W, word: &[u8], row: &Row) -> Result<(), Failed>
+fn push_measure<W: Sink>(line: &mut Line, out: &mut W, word: &[u8], row: &Row) -> Result<(), Failed>
     ensures { Puts (W.written out.old) (W.written out.new) (W.faults out.old) (W.faults out.new) line.old (lengths_text word.now row.now) line.new result }
 {
-    let asked = Millimetres::of(row.value());
-    let has = Millimetres::of(row.gap());
-    push_all(
-        line,
-        out,
-        &[
-            b" | ",
-            word,
-            b" ",
-            asked.as_bytes(),
-            b" | has ",
-            has.as_bytes(),
-        ],
-    )
+    push_all(line, out, &[b" | ", word])?;
+    push_lengths(line, out, b" ", row.value(), b" | has ", row.gap())
 }
 
 /// Puts into the line both lengths and what asks for the one.
@@ -144,7 +131,7 @@ fn push_measured<W: Sink>(
     requires { HasSource (map plain_rule rules.now) row.now }
     ensures { Puts (W.written out.old) (W.written out.new) (W.faults out.old) (W.faults out.new) line.old (measured_text word.now (map plain_rule rules.now) row.now) line.new result }
 {
-    push_lengths(line, out, word, row)?;
+    push_measure(line, out, word, row)?;
     push_asked(line, out, rules, row)
 }
 

@@ -1,9 +1,9 @@
-use Rattle.std.proofs.Common.{◌≡◌, ◌∙◌, ap, refl, ◌++◌, [], append_assoc, append-nil, arith, codes}
+use Rattle.std.proofs.Common.{◌++◌, refl, arith, codes}
 use Rattle.std.proofs.lemmas.Result.{err_from_is_err_and}
 use Rattle.exact_dec.specs.Written.{mm_text}
 use Rattle.drc_rows.specs.Report.{title_of}
 use Rattle.int_algebra.proofs.Scalars.{passed_is}
-use Rattle.drc_rows.proofs.Scalars.{x_near, y_near}
+use Rattle.drc_rows.proofs.Scalars.{x_near, y_near, both_as}
 use Rattle.drc_rows.proofs.Lines.{Puts-then, Puts-cut, Puts-text}
 use Rattle.drc_rows.proofs.items.push_item.Goals as goal
 
@@ -16,7 +16,7 @@ returns-in_err-push_title g c =
 pub returns : goal.returns
 returns g c =
     let item = c.args.item.now in
-    let x : c.as_bytes.result.now ≡ mm_text item.x = c.as_bytes.ensures ∙ (c.of-x.ensures ∙ ap mm_text (passed_is item.x (omega (arith, x_near item c.requires)))) in
-    let y : c.as_bytes-2.result.now ≡ mm_text item.y = c.as_bytes-2.ensures ∙ (c.of-y.ensures ∙ ap mm_text (passed_is item.y (omega (arith, y_near item c.requires)))) in
-    let place : codes " at " ++ (c.as_bytes.result.now ++ (codes " " ++ (c.as_bytes-2.result.now ++ []))) ≡ codes " at " ++ mm_text item.x ++ codes " " ++ mm_text item.y = rw (x, y) (simp (append_assoc, append-nil)) in
-    Puts-then _ _ _ _ _ _ _ _ _ _ _ _ _ c.in_ok-push_title.ensures (Puts-text _ _ _ _ _ _ _ _ _ place c.push_all.ensures)
+    let x = passed_is item.x (omega (arith, x_near item c.requires)) in
+    let y = passed_is item.y (omega (arith, y_near item c.requires)) in
+    Puts-then _ _ _ _ _ _ _ _ _ _ _ _ _ c.in_ok-push_title.ensures
+    (Puts-text _ _ _ _ _ _ _ _ _ (both_as (codes " at ") (codes " ") _ _ item.x item.y x y) c.push_lengths.ensures)

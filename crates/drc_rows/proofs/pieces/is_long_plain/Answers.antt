@@ -1,13 +1,14 @@
-use Rattle.std.proofs.Common.{◌+◌, ◌-◌, length, arith}
-use Rattle.drc_rows.proofs.Plain.{own_all, own_both, not_true}
+use Rattle.std.proofs.Common.{◌+◌, ◌-◌, min, length, arith}
+use Rattle.drc_rows.proofs.Plain.{own_all, own_both, own_part}
 use Rattle.drc_rows.proofs.pieces.is_long_plain.Goals as goal
 
 pub step-preserved : goal.step-preserved
 step-preserved c =
-    own_both c.args.name.now 0 c.step.at c.step.at (c.step.at + 16) (c.step.at + 16) (omega arith) (omega arith) c.step.invariant (c.is_step_odd.ensures c.if-is_step_odd.false)
+    let name = c.args.name.now in
+    let to = min (c.step.at + 16) (length name) in
+    let from = c.min-from.result in
+    own_both name 0 (min c.step.at (length name)) from (from + 16) to (omega arith) (omega arith) c.step.invariant
+    (own_part name from 16 ((from + 16) - from) (omega arith) (c.is_step_odd.ensures c.if-is_step_odd.false))
 
 pub returns : goal.returns
-returns c = λ plain.
-    let name = c.args.name.now in
-    let last = length name - 16 in
-    own_all name (own_both name 0 c.step.at last (last + 16) (length name) (omega arith) (omega arith) c.step.invariant (c.is_step_odd-2.ensures (not_true _ plain)))
+returns c = λ _. own_all c.args.name.now (λ k low high. c.step.invariant k low (omega arith))

@@ -2,10 +2,10 @@ use Rattle.std.proofs.lemmas.Result.{err_from_is_err_and}
 use Rattle.drc_rows.proofs.Lines.{Puts-then, Puts-stop}
 use Rattle.drc_rows.proofs.report.push_measured.Goals as goal
 
-pub returns-in_err-push_lengths : goal.returns-in_err-push_lengths
-returns-in_err-push_lengths g c =
+pub returns-in_err-push_measure : goal.returns-in_err-push_measure
+returns-in_err-push_measure g c =
     let p = err_from_is_err_and c.from_residual.result c.from_residual.ensures.1 in
-    Puts-stop _ _ _ _ _ _ _ _ _ _ _ _ p.1 c.in_err-push_lengths.ensures
+    Puts-stop _ _ _ _ _ _ _ _ _ _ _ _ p.1 c.in_err-push_measure.ensures
 
 pub returns : goal.returns
-returns g c = Puts-then _ _ _ _ _ _ _ _ _ _ _ _ _ c.in_ok-push_lengths.ensures c.push_asked.ensures
+returns g c = Puts-then _ _ _ _ _ _ _ _ _ _ _ _ _ c.in_ok-push_measure.ensures c.push_asked.ensures
