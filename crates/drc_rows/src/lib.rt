@@ -1,4 +1,4 @@
-//! The lines of a report, written to a sink one at a time. No call takes memory.
+//! The lines of a report, which go out to a sink many at a time. No call takes memory.
 #![tactic(auto)]
 
 mod digits;
@@ -10,6 +10,7 @@ mod notes;
 mod pieces;
 mod report;
 
-pub use net::write_net;
+pub use line::Line;
+pub use net::push_net;
 pub use notes::{count_notes, write_notes};
 pub use report::{write_line, write_pieces, write_rows};

@@ -11,13 +11,13 @@ use drc_io::{Failed, Sink, put_all};
 use exact_dec::Nm;
 use std::marker::Model;
 
-/// How many bytes there is room for. What is longer goes out in several writes. Each net has a line of its own, whose
-/// bytes are 0 at first, so they are few.
-const ROOM: usize = 1024;
+/// How many bytes there is room for. What is longer goes out in several writes.
+const ROOM: usize = 8192;
 
-/// What was put together and has not gone out yet: at most [`ROOM`] bytes.
+/// What was put together and has not gone out yet, at most 8,192 bytes. Contracts see it as the list of these bytes; `Puts` of `specs/Line`
+/// says what goes out and what stays where more is put in.
 #[derive(Drop)]
-pub(crate) struct Line {
+pub struct Line {
     bytes: [u8; ROOM],
     len: usize,
 }
@@ -27,10 +27,11 @@ impl Model for Line {
 
     ghost view = { λ l. take l.len l.bytes };
 
-    ghost invariant = { λ l. l.len ≤ 1024 };
+    ghost invariant = { λ l. l.len ≤ 8192 };
 }
 
 impl Line {
+    /// Nothing yet.
     pub fn new() -> Line
         ensures { result ≡ [] }
     {
@@ -54,10 +55,10 @@ impl Line {
 
     /// Makes room for so many bytes: where there is none, what is pending goes out.
     #[inline(always)]
-    pub fn make_room<W: Sink>(&mut self, out: &mut W, count: usize) -> Result<(), Failed>
-        requires { count ≤ 1024 }
+    pub(crate) fn make_room<W: Sink>(&mut self, out: &mut W, count: usize) -> Result<(), Failed>
+        requires { count ≤ 8192 }
         ensures puts { Puts (W.written out.old) (W.written out.new) (W.faults out.old) (W.faults out.new) self.old [] self.new result }
-        ensures room { IfOk result (λ _. length self.new + count ≤ 1024) }
+        ensures room { IfOk result (λ _. length self.new + count ≤ 8192) }
     {
         if count > ROOM - self.len {
             self.flush(out)?;
@@ -67,17 +68,17 @@ impl Line {
 
     /// Puts a piece at the end, where there is room for it.
     #[inline(always)]
-    pub fn append(&mut self, piece: &[u8])
-        requires { length self.old + length piece.now ≤ 1024 }
+    pub(crate) fn append(&mut self, piece: &[u8])
+        requires { length self.old + length piece.now ≤ 8192 }
         ensures { self.new ≡ self.old ++ piece.now }
     {
         self.len = place(&mut self.bytes, self.len, piece);
     }
 
     /// Puts a length in millimetres at the end, where there is room for 16 bytes.
-    pub fn append_length(&mut self, nm: Nm)
+    pub(crate) fn append_length(&mut self, nm: Nm)
         requires far { unsigned_abs nm ≤ 1000000000000 }
-        requires room { length self.old + 16 ≤ 1024 }
+        requires room { length self.old + 16 ≤ 8192 }
         ensures text { self.new ≡ self.old ++ mm_text nm }
         ensures len { length self.new ≤ length self.old + 16 }
     {
@@ -93,7 +94,7 @@ impl Line {
     #[inline(never)]
     fn append_long(&mut self, nm: Nm)
         requires far { unsigned_abs nm ≤ 1000000000000 }
-        requires room { length self.old + 16 ≤ 1024 }
+        requires room { length self.old + 16 ≤ 8192 }
         ensures text { self.new ≡ self.old ++ mm_text nm }
         ensures len { length self.new ≤ length self.old + 16 }
     {
@@ -102,7 +103,7 @@ impl Line {
 
     /// Puts a piece at the end. Where there is no room, what came before it goes out first.
     #[inline(always)]
-    pub fn push<W: Sink>(&mut self, out: &mut W, piece: &[u8]) -> Result<(), Failed>
+    pub(crate) fn push<W: Sink>(&mut self, out: &mut W, piece: &[u8]) -> Result<(), Failed>
         ensures { Puts (W.written out.old) (W.written out.new) (W.faults out.old) (W.faults out.new) self.old piece.now self.new result }
     {
         if piece.len() > ROOM {
@@ -114,7 +115,7 @@ impl Line {
         Ok(())
     }
 
-    /// Lets all that is left go out.
+    /// Lets all that is left go out. `Failed` comes only where the sink's count of faults rose, and then a front part of it was written.
     pub fn end<W: Sink>(self, out: &mut W) -> Result<(), Failed>
         ensures { Writes (W.written out.old) (W.written out.new) (W.faults out.old) (W.faults out.new) self result }
     {

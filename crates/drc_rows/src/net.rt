@@ -2,7 +2,6 @@
 
 ghost use Rattle.std.specs.Prelude.{◌≡◌, ◌<◌, ◌++◌, All, IsSome, length, decimal};
 ghost use Rattle.std.specs.List.{flat_map};
-ghost use Rattle.drc_io.specs.Sinks.{Writes};
 ghost use Rattle.board_items.specs.Boards.{name_of};
 ghost use Rattle.net_groups.specs.Groups.{IsOnBoard};
 ghost use Rattle.ratsnest.specs.NestOf.{anchor_at, HasPlaces};
@@ -39,7 +38,7 @@ fn push_number<W: Sink>(
 // ---- the net
 
 /// Puts the name of a net and how many groups it has into the line.
-fn push_net<W: Sink>(line: &mut Line, out: &mut W, name: &[u8], count: usize) -> Result<(), Failed>
+fn push_head<W: Sink>(line: &mut Line, out: &mut W, name: &[u8], count: usize) -> Result<(), Failed>
     ensures { Puts (W.written out.old) (W.written out.new) (W.faults out.old) (W.faults out.new) line.old (net_line name.now count) line.new result }
 {
     push_quoted(line, out, b"net", name)?;
@@ -170,9 +169,14 @@ fn push_links<W: Sink>(
     Ok(())
 }
 
-/// Puts the lines of a net together.
+/// Puts the lines of a net into the line: its name and how many groups it has, a line for each group, and a line for each link of its
+/// nest. A group is told by its first member, and each end of a link is at the place of its anchor.
+///
+/// The net is declared; no group is empty, and all members and the items of all anchors are on the board; the links join
+/// anchors of the list. `Failed` comes only where the sink's count of faults rose, and then a front part of what the line held and of
+/// these lines was written. It takes no memory.
 #[tactic(auto, unfolding(crate::specs::NetBlock::net_block))]
-fn push_block<W: Sink>(
+pub fn push_net<W: Sink>(
     line: &mut Line,
     out: &mut W,
     board: &Board,
@@ -189,33 +193,7 @@ fn push_block<W: Sink>(
     ensures { Puts (W.written out.old) (W.written out.new) (W.faults out.old) (W.faults out.new) line.old (net_block board.now net groups.now anchors.now nest.now.links) line.new result }
 {
     let name = board.net_name(net).unwrap();
-    push_net(line, out, name.bytes(), groups.len())?;
+    push_head(line, out, name.bytes(), groups.len())?;
     push_groups(line, out, board, groups)?;
     push_links(line, out, board, anchors, nest.links.as_slice())
-}
-
-/// Writes the lines of a net: its name and how many groups it has, a line for each group, and a line for each link of its
-/// nest. A group is told by its first member, and each end of a link is at the place of its anchor.
-///
-/// The net is declared; no group is empty, and all members and the items of all anchors are on the board; the links join
-/// anchors of the list. `Failed` comes only where the sink's count of faults rose, and then a front part of the lines was
-/// written. It takes no memory.
-pub fn write_net<W: Sink>(
-    board: &Board,
-    net: u32,
-    groups: &[Group],
-    anchors: &[Anchor],
-    nest: &Nest,
-    out: &mut W,
-) -> Result<(), Failed>
-    requires declared { IsSome (name_of board.now net) }
-    requires filled { All (λ group. 0 < length group) groups.now }
-    requires members { All (All (IsOnBoard board.now)) groups.now }
-    requires anchors { All (λ anchor. IsOnBoard board.now anchor.id) anchors.now }
-    requires places { All (HasPlaces anchors.now) nest.now.links }
-    ensures { Writes (W.written out.old) (W.written out.new) (W.faults out.old) (W.faults out.new) (net_block board.now net groups.now anchors.now nest.now.links) result }
-{
-    let mut line = Line::new();
-    push_block(&mut line, out, board, net, groups, anchors, nest)?;
-    line.end(out)
 }

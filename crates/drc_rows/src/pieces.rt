@@ -48,7 +48,7 @@ pub(crate) fn push_quoted<W: Sink>(
 /// The same where there is room and the name needs no backslash.
 #[inline(always)]
 fn append_quoted(line: &mut Line, word: &[u8], name: &[u8])
-    requires room { length line.old + (length word.now + length name.now + 3) ≤ 1024 }
+    requires room { length line.old + (length word.now + length name.now + 3) ≤ 8192 }
     requires plain { escaped name.now ≡ name.now }
     ensures { line.new ≡ line.old ++ named word.now name.now }
 {
@@ -95,7 +95,7 @@ pub(crate) fn push_lengths<W: Sink>(
 fn append_lengths(line: &mut Line, before: &[u8], first: Nm, between: &[u8], second: Nm)
     requires first { unsigned_abs first ≤ 1000000000000 }
     requires second { unsigned_abs second ≤ 1000000000000 }
-    requires room { length line.old + (length before.now + length between.now + 32) ≤ 1024 }
+    requires room { length line.old + (length before.now + length between.now + 32) ≤ 8192 }
     ensures { line.new ≡ line.old ++ (before.now ++ mm_text first ++ between.now ++ mm_text second) }
 {
     line.append(before);

@@ -7,13 +7,16 @@ ghost use Rattle.cond_lang.specs.Rules.{plain_rule};
 ghost use Rattle.rule_text.specs.Views.{plain_rules};
 ghost use Rattle.pair_check.specs.Rows.{HasItems, HasSource};
 ghost use Rattle.net_groups.specs.NetParts.{is_open, IsWritable};
+ghost use Rattle.drc_rows.specs.Line.{Puts};
 ghost use Rattle.drc_rows.specs.Report.{rows_text, notes_text};
 ghost use Rattle.drc_rows.specs.ReportOf.{part_text, nets_text, tiles_line, first_line, whole_report, short_report};
 ghost use Rattle.run_reports.specs.Counts.{counts_text};
 
 use board_items::Board;
 use drc_io::{Failed, Sink};
-use drc_rows::{count_notes, write_line, write_net, write_notes, write_pieces, write_rows};
+use drc_rows::{
+    Line, count_notes, push_net, write_line, write_notes, write_pieces, write_rows,
+};
 use itoa::Buffer;
 use kept_nets::NetPart;
 use net_class::Classes;
@@ -44,22 +47,44 @@ fn write_counted_notes<W: Sink>(board: &Board, rules: &Rules, out: &mut W) -> Re
     write_line(b"not checked ", count_notes(board, rules), b"", out)
 }
 
-/// Writes the lines of a net, if it is open.
-fn write_part<W: Sink>(board: &Board, part: &NetPart, out: &mut W) -> Result<(), Failed>
+/// Puts the lines of a net into the line, if it is open.
+fn push_part<W: Sink>(
+    line: &mut Line,
+    out: &mut W,
+    board: &Board,
+    part: &NetPart,
+) -> Result<(), Failed>
     requires { IsWritable board.now part.now }
-    ensures { Writes (W.written out.old) (W.written out.new) (W.faults out.old) (W.faults out.new) (part_text board.now part.now) result }
+    ensures { Puts (W.written out.old) (W.written out.new) (W.faults out.old) (W.faults out.new) line.old (part_text board.now part.now) line.new result }
 {
     if !part.is_open() {
         return Ok(());
     }
-    write_net(
+    push_net(
+        line,
+        out,
         board,
         part.net,
         &part.groups,
         &part.anchors,
         &part.nest,
-        out,
     )
+}
+
+/// Puts the lines of all open nets into the line.
+fn push_open<W: Sink>(
+    line: &mut Line,
+    out: &mut W,
+    board: &Board,
+    parts: &[NetPart],
+) -> Result<(), Failed>
+    requires { All (IsWritable board.now) parts.now }
+    ensures { Puts (W.written out.old) (W.written out.new) (W.faults out.old) (W.faults out.new) line.old (flat_map (part_text board.now) parts.now) line.new result }
+{
+    for part in parts {
+        push_part(line, out, board, part)?;
+    }
+    Ok(())
 }
 
 /// Writes the lines of all open nets.
@@ -67,10 +92,9 @@ fn write_open<W: Sink>(board: &Board, parts: &[NetPart], out: &mut W) -> Result<
     requires { All (IsWritable board.now) parts.now }
     ensures { Writes (W.written out.old) (W.written out.new) (W.faults out.old) (W.faults out.new) (flat_map (part_text board.now) parts.now) result }
 {
-    for part in parts {
-        write_part(board, part, out)?;
-    }
-    Ok(())
+    let mut line = Line::new();
+    push_open(&mut line, out, board, parts)?;
+    line.end(out)
 }
 
 /// How many nets are open.
