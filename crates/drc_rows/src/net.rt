@@ -18,6 +18,7 @@ use net_groups::Group;
 use ratsnest::{Anchor, Link, Nest};
 
 /// Puts a number between two texts into the line.
+#[inline(always)]
 fn push_number<W: Sink>(
     line: &mut Line,
     out: &mut W,
