@@ -1,5 +1,5 @@
 #!/usr/bin/env python3
-"""Writes boards, rule files and scripts to time the program with: boards.py KIND NUMBER > FILE.
+"""Writes boards, rule files and scripts to time the program with: boards.py KIND NUMBER [FILE] > FILE.
 
 made N       N vias on a grid, each with a short track; every seventh track comes near its neighbour
 crowd N      N short tracks of as many nets within 8 mm by 8 mm
@@ -16,11 +16,13 @@ rules N      a rule file of N rules with conditions; of none it asks for a clear
 
 Scripts, each of N commands:
 edits N      for `made 90000`: of each twenty commands twelve moves, three deletions and five additions of single tracks and vias
+edits N FILE the same for the board of a file
 places N     for `ground 10000`: footprints that are moved
 steps N      for `beside N`: the lone via, to and fro
 turns N      for any board: rules that replace the rules, with one reach and then with another
 """
 import random
+import re
 import sys
 
 HEAD = '(kicad_pcb (version 20221018) (generator pcbnew)\n(layers (0 "F.Cu" signal) (31 "B.Cu" signal))\n(net 0 "")\n'
@@ -140,10 +142,23 @@ def beside(count):
     yield via(304, 304, 2, "a")
 
 
-def edits(count):
-    """the names that stand on the board `made 90000`, less those that were deleted, with those that were added"""
+def tracks_of(path):
+    """of the tracks and vias in the file of a board their names, the numbers of their nets, and the least and the greatest of their whole millimetres"""
+    with open(path) as file:
+        lists = re.findall(r"\((?:segment|via)\b.*?\(tstamp [^()]*\)", file.read(), re.S)
+    places = [[int(float(word)) for word in re.search(r"\((?:start|at) (\S+) (\S+?)\)", text).groups()] for text in lists]
+    names = [re.search(r"\(tstamp ([^()]*)\)", text).group(1) for text in lists]
+    nets = sorted({int(re.search(r"\(net (\d+)", text).group(1)) for text in lists})
+    return names, nets, [(min(column), max(column) + 1) for column in zip(*places)]
+
+
+def edits(count, path=None):
+    """the names that stand on the board, `made 90000` or that of the file, less those that were deleted, with those that were added"""
     dice = random.Random(7)
-    names = ["%s%d" % (word, k) for k in range(90000) for word in ("v", "s")]
+    if path:
+        names, numbers, sides = tracks_of(path)
+    else:
+        names, numbers, sides = ["%s%d" % (word, k) for k in range(90000) for word in ("v", "s")], range(1, 1001), [(-450, 450)] * 2
     for k in range(count):
         place = dice.randrange(len(names))
         if k % 20 < 12:
@@ -153,7 +168,8 @@ def edits(count):
             names[place] = names[-1]
             names.pop()
         else:
-            x, y, net, name = dice.randrange(-450, 450), dice.randrange(-450, 450), dice.randrange(1, 1001), "e%d" % k
+            x, y = (dice.randrange(*side) for side in sides)
+            net, name = numbers[dice.randrange(len(numbers))], "e%d" % k
             names.append(name)
             item = via(x, y, net, name) if k % 2 else track(x, y, x + 2, y, net, name)
             print("(add %s)" % item.strip())
@@ -187,7 +203,7 @@ def main():
     kind, number = sys.argv[1], int(sys.argv[2])
     printed = {"rules": rules, "edits": edits, "places": places, "steps": steps, "turns": turns}
     if kind in printed:
-        printed[kind](number)
+        printed[kind](number, *sys.argv[3:])
         return
     makers = {"made": made, "crowd": crowd, "fill": fill, "combs": combs, "parts": parts, "routes": routes, "areas": areas, "ground": ground, "beside": beside,
               "piece": lambda n: row(n, 700000), "loose": lambda n: row(n, 2000000)}

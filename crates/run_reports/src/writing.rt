@@ -14,9 +14,7 @@ ghost use Rattle.run_reports.specs.Counts.{counts_text};
 
 use board_items::Board;
 use drc_io::{Failed, Sink};
-use drc_rows::{
-    Line, count_notes, push_net, write_line, write_notes, write_pieces, write_rows,
-};
+use drc_rows::{Line, count_notes, push_net, write_line, write_notes, write_pieces, write_rows};
 use itoa::Buffer;
 use kept_nets::NetPart;
 use net_class::Classes;
