@@ -114,17 +114,17 @@ module _ (anchors : List Anchor) (rise : AnchorsRise anchors) (few : length anch
           square_small s.anchor.y t.anchor.y s.anchor.y_in_range t.anchor.y_in_range,
         )
 
-    module _ (best : List Link) (b : AreBestTo spots labels (length spots) best) where
-      leaving_least : (c i j : ℕ) → c < length best → i < length spots → j < length spots → best_at best c ≡ link_between (spot_at spots i) (spot_at spots j) →
+    module _ (skipped : ℕ) (best : List Link) (b : AreBestTo spots labels skipped (length spots) best) where
+      leaving_least : (c i j : ℕ) → c ≢ skipped → c < length best → i < length spots → j < length spots → best_at best c ≡ link_between (spot_at spots i) (spot_at spots j) →
           (p q : ℕ) → p < length anchors → q < length anchors → label_at labels (group_at anchors p) ≡ c → label_at labels (group_at anchors q) ≢ c →
           rank_at anchors (spot_at spots i).place (spot_at spots j).place ≤ rank_at anchors p q
-      leaving_least c i j hc hi hj is p q hp hq lp lq =
+      leaving_least c i j kept hc hi hj is p q hp hq lp lq =
           let u = are.whole p hp in
           let v = are.whole q hq in
           let lu : label_of labels (spot_at spots u.0) ≡ c = label_is u.0 u.1 ∙ ap (λ z. label_at labels (group_at anchors z)) u.2 ∙ lp in
           let lv : label_of labels (spot_at spots v.0) ≢ c = λ e. lq (sym (ap (λ z. label_at labels (group_at anchors z)) v.2) ∙ sym (label_is v.0 v.1) ∙ e) in
           let le : rank (best_at best (label_of labels (spot_at spots u.0))) ≤ rank (link_between (spot_at spots u.0) (spot_at spots v.0)) =
-          b.least u.0 v.0 u.1 v.1 (λ e. lv (e ∙ lu)) in
+          b.least u.0 v.0 u.1 v.1 (λ e. kept (sym lu ∙ e)) (λ e. lv (e ∙ lu)) in
           let le' : rank (best_at best c) ≤ rank (link_between (spot_at spots u.0) (spot_at spots v.0)) =
           subst (λ z. rank (best_at best z) ≤ rank (link_between (spot_at spots u.0) (spot_at spots v.0))) lu le in
           let far : link_between (spot_at spots u.0) (spot_at spots v.0) ≡ link_at anchors p q =
@@ -135,16 +135,19 @@ module _ (anchors : List Anchor) (rise : AnchorsRise anchors) (few : length anch
       pub best_usable : All (IsUsable anchors) best
       best_usable c d hc =
           let at : best_at best c ≡ get_or best c d = get_or_default best c no_link d hc in
-          subst (λ (z : Link). IsUsable anchors z) at (elim (b.choice c hc) [
-            | inl e ↦ inl (ap (λ (z : Link). z.square) e)
-            | inr f ↦
-                let i = f.0 in
-                let j = f.1 in
-                let hi : i < length spots = f.2 in
-                let hj : j < length spots = f.3 in
-                let is : best_at best c ≡ link_at anchors (spot_at spots i).place (spot_at spots j).place = f.6 ∙ between i j hi hj in
-                inr (subst (λ (z : Link). InNest anchors z) (sym is) (leaving_in_nest c (spot_at spots i).place (spot_at spots j).place (are.within i hi) (are.within j hj)
-                (sym (label_is i hi) ∙ f.4) (λ e. f.5 (label_is j hj ∙ e)) (leaving_least c i j hc hi hj f.6)))
+          subst (λ (z : Link). IsUsable anchors z) at (elim (cases_eq c skipped) [
+            | inl e ↦ inl (ap (λ (z : Link). z.square) (ap (best_at best) e ∙ b.none))
+            | inr kept ↦ elim (b.choice c hc) [
+              | inl e ↦ inl (ap (λ (z : Link). z.square) e)
+              | inr f ↦
+                  let i = f.0 in
+                  let j = f.1 in
+                  let hi : i < length spots = f.2 in
+                  let hj : j < length spots = f.3 in
+                  let is : best_at best c ≡ link_at anchors (spot_at spots i).place (spot_at spots j).place = f.6 ∙ between i j hi hj in
+                  inr (subst (λ (z : Link). InNest anchors z) (sym is) (leaving_in_nest c (spot_at spots i).place (spot_at spots j).place (are.within i hi) (are.within j hj)
+                  (sym (label_is i hi) ∙ f.4) (λ e. f.5 (label_is j hj ∙ e)) (leaving_least c i j kept hc hi hj f.6)))
+            ]
           ])
 
       -- where each is idle, nothing leaves a label
@@ -170,6 +173,13 @@ module _ (anchors : List Anchor) (rise : AnchorsRise anchors) (few : length anch
             ])
       ]
 
+      -- then nothing has another label than an anchor whose label is not passed over
+      idle_is_whole : ((k : ℕ) → k < length best → IsIdle anchors labels (best_at best k)) → (u v : ℕ) → u < length spots → v < length spots →
+          label_of labels (spot_at spots u) < length best → label_of labels (spot_at spots u) ≢ skipped → label_of labels (spot_at spots v) ≢ label_of labels (spot_at spots u) → ⊥
+      idle_is_whole idle u v hu hv fits kept apart =
+          shorter_than_none u v hu hv (subst (λ (z : Link). rank z ≤ rank (link_between (spot_at spots u) (spot_at spots v))) (idle_is_none idle (label_of labels (spot_at spots u)) fits)
+          (b.least u v hu hv kept apart))
+
       pub idle_is_one : GroupsOccur anchors → length labels ≡ group_count anchors → length best ≡ length labels → ((g : ℕ) → g < length labels → label_at labels g < length labels) →
           ((k : ℕ) → k < length best → IsIdle anchors labels (best_at best k)) → AreOne labels
       idle_is_one occur count len below idle g h hg hh = elim (cases_eq (label_at labels g) (label_at labels h)) [
@@ -181,9 +191,8 @@ module _ (anchors : List Anchor) (rise : AnchorsRise anchors) (few : length anch
             let v = are.whole q.0 q.1 in
             let lu : label_of labels (spot_at spots u.0) ≡ label_at labels g = label_is u.0 u.1 ∙ ap (λ z. label_at labels (group_at anchors z)) u.2 ∙ ap (label_at labels) p.2 in
             let lv : label_of labels (spot_at spots v.0) ≡ label_at labels h = label_is v.0 v.1 ∙ ap (λ z. label_at labels (group_at anchors z)) v.2 ∙ ap (label_at labels) q.2 in
-            let le : rank (best_at best (label_of labels (spot_at spots u.0))) ≤ rank (link_between (spot_at spots u.0) (spot_at spots v.0)) =
-            b.least u.0 v.0 u.1 v.1 (λ e. n (sym lu ∙ sym e ∙ lv)) in
-            let none : best_at best (label_of labels (spot_at spots u.0)) ≡ no_link =
-            idle_is_none idle (label_of labels (spot_at spots u.0)) (omega (arith, lu, below g hg, len)) in
-            absurd (shorter_than_none u.0 v.0 u.1 v.1 (subst (λ (z : Link). rank z ≤ rank (link_between (spot_at spots u.0) (spot_at spots v.0))) none le))
+            absurd (elim (cases_eq (label_at labels g) skipped) [
+              | inl s ↦ idle_is_whole idle v.0 u.0 v.1 u.1 (omega (arith, lv, below h hh, len)) (λ e. n (s ∙ sym e ∙ lv)) (λ e. n (sym lu ∙ e ∙ lv))
+              | inr s ↦ idle_is_whole idle u.0 v.0 u.1 v.1 (omega (arith, lu, below g hg, len)) (λ e. s (sym lu ∙ e)) (λ e. n (sym lu ∙ sym e ∙ lv))
+            ])
       ]

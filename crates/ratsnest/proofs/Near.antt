@@ -123,9 +123,10 @@ module _ (spots : List Spot) (labels : List ℕ) where
   ]
 
   -- one anchor more
-  pub best_more : (i own : ℕ) (best : List Link) (new : Link) → i < length spots → own ≡ label_of labels (spot_at spots i) → own < length best → AreBestTo spots labels i best →
-      IsLooked spots labels (spot_at spots i) own 0 (length spots) (best_at best own) new → AreBestTo spots labels (i + 1) (set best own new)
-  best_more i own best new hi is ho b k = record {
+  pub best_more : (skipped i own : ℕ) (best : List Link) (new : Link) → i < length spots → own ≡ label_of labels (spot_at spots i) → own < length best → own ≢ skipped →
+      AreBestTo spots labels skipped i best → IsLooked spots labels (spot_at spots i) own 0 (length spots) (best_at best own) new → AreBestTo spots labels skipped (i + 1) (set best own new)
+  best_more skipped i own best new hi is ho kept b k = record {
+    none = get_or-set_other best own skipped new no_link (λ q. kept (sym q)) ∙ b.none;
     choice = λ c h. elim (cases_eq c own) [
       | inl e ↦
           let at : best_at (set best own new) c ≡ new = ap (best_at (set best own new)) e ∙ get_or-set_same best own new no_link ho in
@@ -143,7 +144,7 @@ module _ (spots : List Spot) (labels : List ℕ) where
             | inr f ↦ inr (f.0, f.1, f.2, f.3, f.4, f.5, at ∙ f.6)
           ]
     ];
-    least = λ p j hp hj other.
+    least = λ p j hp hj far other.
         let own_at : best_at (set best own new) own ≡ new = get_or-set_same best own new no_link ho in
         elim (cases_eq (label_of labels (spot_at spots p)) own) [
           | inl e ↦
@@ -151,7 +152,7 @@ module _ (spots : List Spot) (labels : List ℕ) where
               subst (λ (z : Link). rank z ≤ rank (link_between (spot_at spots p) (spot_at spots j))) (sym at) (elim (cases_eq p i) [
                 | inl q ↦ subst (λ z. rank new ≤ rank (link_between (spot_at spots z) (spot_at spots j))) (sym q) (k.passed.not_others j (omega arith) hj hj (λ z. other (z ∙ sym e)))
                 | inr q ↦
-                    let was : rank (best_at best (label_of labels (spot_at spots p))) ≤ rank (link_between (spot_at spots p) (spot_at spots j)) = b.least p j (omega arith) hj other in
+                    let was : rank (best_at best (label_of labels (spot_at spots p))) ≤ rank (link_between (spot_at spots p) (spot_at spots j)) = b.least p j (omega arith) hj far other in
                     let was' : rank (best_at best own) ≤ rank (link_between (spot_at spots p) (spot_at spots j)) =
                     subst (λ z. rank (best_at best z) ≤ rank (link_between (spot_at spots p) (spot_at spots j))) e was in
                     omega (arith, k.not_old, was')
@@ -161,19 +162,29 @@ module _ (spots : List Spot) (labels : List ℕ) where
               get_or-set_other best own (label_of labels (spot_at spots p)) new no_link n in
               subst (λ (z : Link). rank z ≤ rank (link_between (spot_at spots p) (spot_at spots j))) (sym at) (elim (cases_eq p i) [
                 | inl q ↦ absurd (n (ap (λ z. label_of labels (spot_at spots z)) q ∙ sym is))
-                | inr q ↦ b.least p j (omega arith) hj other
+                | inr q ↦ b.least p j (omega arith) hj far other
               ])
         ];
   }
 
-  pub best_none : (n : ℕ) (best : List Link) → best ≡ replicate n no_link → AreBestTo spots labels 0 best
-  best_none n best is = record {
-    choice = λ c h. inl (elim (cases_lt c n) [
-      | inl l ↦ ap (λ (z : List Link). best_at z c) is ∙ get_or-replicate n c no_link no_link l
-      | inr g ↦ absurd (omega (arith, h, ap length is, length-replicate n no_link))
-    ]);
-    least = λ i j h k other. absurd (omega arith);
+  -- an anchor more that has the label that is passed over
+  pub best_same : (skipped i : ℕ) (best : List Link) → label_of labels (spot_at spots i) ≡ skipped → AreBestTo spots labels skipped i best → AreBestTo spots labels skipped (i + 1) best
+  best_same skipped i best is b = record {
+    none = b.none;
+    choice = b.choice;
+    least = λ p j hp hj far other. elim (cases_eq p i) [
+      | inl q ↦ absurd (far (ap (λ z. label_of labels (spot_at spots z)) q ∙ is))
+      | inr q ↦ b.least p j (omega arith) hj far other
+    ];
   }
+
+  pub best_none : (skipped n : ℕ) (best : List Link) → best ≡ replicate n no_link → AreBestTo spots labels skipped 0 best
+  best_none skipped n best is =
+      let each : (c : ℕ) → best_at best c ≡ no_link = λ c. elim (cases_lt c n) [
+        | inl l ↦ ap (λ (z : List Link). best_at z c) is ∙ get_or-replicate n c no_link no_link l
+        | inr g ↦ get_or_past best c no_link (omega (arith, ap length is, length-replicate n no_link))
+      ] in
+      record { none = each skipped; choice = λ c h. inl (each c); least = λ i j h k far other. absurd (omega arith) }
 
   -- what a name says
   pub named_some : (nodes : List Node) (k : ℕ) (name : Option ℕ) → IfSome name (λ c. (d : Node) → IsNamed spots labels (get_or nodes k d).low (get_or nodes k d).high c) →

@@ -100,10 +100,11 @@ abbrev pub IsLeaving : List Spot → List ℕ → ℕ → Link → Type 0
 IsLeaving spots labels c l = (i j : ℕ) × (i < length spots) × (j < length spots) × (label_of labels (spot_at spots i) ≡ c) × (label_of labels (spot_at spots j) ≢ c)
     × (l ≡ link_between (spot_at spots i) (spot_at spots j))
 
--- for each label the least link that leaves it, as far as the first n anchors tell
-pub record AreBestTo (spots : List Spot) (labels : List ℕ) (n : ℕ) (best : List Link) : Type 0 where
+-- for each label but one the least link that leaves it, as far as the first n anchors tell
+pub record AreBestTo (spots : List Spot) (labels : List ℕ) (skipped n : ℕ) (best : List Link) : Type 0 where
+  pub none : best_at best skipped ≡ no_link
   pub choice : (c : ℕ) → c < length best → (best_at best c ≡ no_link) ⊎ IsLeaving spots labels c (best_at best c)
-  pub least : (i j : ℕ) → i < n → j < length spots → label_of labels (spot_at spots j) ≢ label_of labels (spot_at spots i) →
+  pub least : (i j : ℕ) → i < n → j < length spots → label_of labels (spot_at spots i) ≢ skipped → label_of labels (spot_at spots j) ≢ label_of labels (spot_at spots i) →
       rank (best_at best (label_of labels (spot_at spots i))) ≤ rank (link_between (spot_at spots i) (spot_at spots j))
 
 -- each group is listed among the members of its label, and there alone

@@ -1,4 +1,4 @@
-//! For each label, the least link that leaves the groups that have it.
+//! For each label but one, the least link that leaves the groups that have it.
 
 ghost use Rattle.std.specs.Prelude.{◌≡◌, ◌+◌, ◌<◌, ◌≤◌, ℕ, length, slice_index_or, IsTrue, IfOk, IfSome, Some, None, Option, replicate};
 ghost use Rattle.ratsnest.specs.declared.tree.Node.{Node};
@@ -239,13 +239,45 @@ fn look(
     look(tree, labels, names, from, own, halves.right, best);
 }
 
-/// For each label the least link that leaves it.
-fn seek(tree: &Tree, labels: &[usize], names: &[Option<usize>], best: &mut [Link])
+/// Counts the anchors of each label.
+fn count_each(tree: &Tree, labels: &[usize], counts: &mut [usize])
+    requires labels { (g : ℕ) → label_at labels.now g < length counts.old }
+{
+    for i in 0..tree.spots.len() {
+        let label = label_of(labels, &tree.spots[i]);
+        counts[label] = counts[label].saturating_add(1);
+    }
+}
+
+/// The place of the greatest count.
+fn greatest(counts: &[usize]) -> usize {
+    let mut place = 0;
+    let mut most: usize = 0;
+    for i in 0..counts.len() {
+        if most < counts[i] {
+            most = counts[i];
+            place = i;
+        }
+    }
+    place
+}
+
+/// The label that most anchors have.
+pub(crate) fn largest(alloc: Global, tree: &Tree, labels: &[usize]) -> Result<usize, AllocError>
+    requires labels { (g : ℕ) → label_at labels.now g < length labels.now }
+{
+    let mut counts = vec![in alloc; 0; labels.len()]?;
+    count_each(tree, labels, &mut counts);
+    Ok(greatest(&counts))
+}
+
+/// For each label but one the least link that leaves it.
+fn seek(tree: &Tree, labels: &[usize], names: &[Option<usize>], skipped: usize, best: &mut [Link])
     requires nodes { AreNodes tree.now.spots.items tree.now.nodes.items }
     requires names { AreNames tree.now.spots.items labels.now tree.now.nodes.items names.now }
     requires labels { (g : ℕ) → label_at labels.now g < length best.old }
     requires none { best.old ≡ replicate (length best.old) no_link }
-    ensures { AreBestTo tree.now.spots.items labels.now (length tree.now.spots.items) best.new }
+    ensures { AreBestTo tree.now.spots.items labels.now skipped (length tree.now.spots.items) best.new }
 {
     let whole = Part {
         low: 0,
@@ -255,23 +287,26 @@ fn seek(tree: &Tree, labels: &[usize], names: &[Option<usize>], best: &mut [Link
     for i in 0..tree.spots.len() {
         let from = tree.spots[i];
         let own = label_of(labels, &from);
-        look(tree, labels, names, &from, own, whole, &mut best[own]);
+        if own != skipped {
+            look(tree, labels, names, &from, own, whole, &mut best[own]);
+        }
     }
 }
 
-/// For each label the least link that leaves it.
+/// For each label but one the least link that leaves it.
 pub(crate) fn all_best(
     alloc: Global,
     tree: &Tree,
     labels: &[usize],
+    skipped: usize,
 ) -> Result<Vec<Link>, AllocError>
     requires nodes { AreNodes tree.now.spots.items tree.now.nodes.items }
     requires labels { (g : ℕ) → label_at labels.now g < length labels.now }
     ensures len { IfOk result (λ v. length v.items ≡ length labels.now) }
-    ensures best { IfOk result (λ v. AreBestTo tree.now.spots.items labels.now (length tree.now.spots.items) v.items) }
+    ensures best { IfOk result (λ v. AreBestTo tree.now.spots.items labels.now skipped (length tree.now.spots.items) v.items) }
 {
     let names = all_names(alloc, tree, labels)?;
     let mut best = vec![in alloc; no_link(); labels.len()]?;
-    seek(tree, labels, &names, &mut best);
+    seek(tree, labels, &names, skipped, &mut best);
     Ok(best)
 }

@@ -1,4 +1,4 @@
-//! The nest, found by joining: in each round the least link that leaves each label is taken, and joins two labels.
+//! The nest, found by joining: in each round the least link that leaves each label but the largest is taken, and joins two labels.
 //!
 //! Which link that is, is asked for each anchor of a tree of areas, which passes over what is too far or has the label.
 
@@ -12,12 +12,12 @@ ghost use Rattle.ratsnest.specs.Mem.{Mem, Climbs};
 use crate::anchor::Anchor;
 use crate::joins::{Members, join_all, own_labels, own_members};
 use crate::link::Link;
-use crate::nearest::all_best;
+use crate::nearest::{all_best, largest};
 use crate::places::count_groups;
 use crate::tree::{Tree, tree_of};
 use std::alloc::{AllocError, Global};
 
-/// Takes the least link that leaves each label. Answers whether there was one.
+/// Takes the least link that leaves each label but the largest: those links join labels all the same. Answers whether there was one.
 fn take_round(
     alloc: Global,
     anchors: &[Anchor],
@@ -40,7 +40,8 @@ fn take_round(
     ensures done { IfOk result (λ yes. yes ≡ false → AreOne labels.new) }
 {
     let before = links.len();
-    let best = all_best(alloc, tree, labels)?;
+    let skipped = largest(alloc, tree, labels)?;
+    let best = all_best(alloc, tree, labels, skipped)?;
     join_all(alloc, anchors, &best, labels, members, links)?;
     Ok(before < links.len())
 }
