@@ -1,5 +1,5 @@
 -- On counts of flags.
-use Rattle.std.proofs.Common.{◌≡◌, ℕ, ◌+◌, ◌*◌, ◌<◌, Bool, true, false, cond, List, length, get_or, set, replicate, count_by, inl, inr, sym, ◌∙◌, ap, arith}
+use Rattle.std.proofs.Common.{◌≡◌, ◌≢◌, ℕ, ◌+◌, ◌*◌, ◌≤◌, ◌<◌, Bool, true, false, cond, List, length, get_or, set, replicate, count_by, inl, inr, sym, ◌∙◌, ap, arith}
 use Rattle.std.proofs.lemmas.Bool.{cases_eq, cases_Bool}
 use Rattle.std.proofs.lemmas.List.{get_or-set_same, get_or-set_other, get_or-replicate, length-set, length-replicate, same_lists, get_or_default}
 use Rattle.std.proofs.lemmas.List.Sums.{sum_by-set}
@@ -42,3 +42,10 @@ counted_one xs i l h only =
       ]
     ]) in
     omega (arith, counted_less xs i l h, none)
+
+-- two flags
+pub counted_two : (xs : List Bool) (i j : ℕ) → i < length xs → j < length xs → i ≢ j → get_or xs i true ≡ true → get_or xs j true ≡ true → 2 ≤ count_by (λ b. b) xs
+counted_two xs i j hi hj ne ei ej =
+    let less : count_by (λ b. b) (set xs i false) + 1 ≡ count_by (λ b. b) xs = counted_less xs i hi ei in
+    let still : get_or (set xs i false) j true ≡ true = get_or-set_other xs i j false true (λ q. ne (sym q)) ∙ ej in
+    omega (arith, less, counted_less (set xs i false) j (omega (arith, hj, length-set xs i false)) still)

@@ -11,7 +11,7 @@ use Rattle.ratsnest.specs.Forest.{label_at, IsRelabeled, IsJoining, IsForest, Ar
 use Rattle.ratsnest.proofs.Members.{Mem-append_left, Mem-append_right, Mem-append_cases, Sub-from_mem}
 use Rattle.ratsnest.proofs.Climbing.{Climbs-insert, Mem-insert, Mem-insert_cases}
 use Rattle.ratsnest.proofs.Grown.{group_below}
-use Rattle.ratsnest.proofs.Counted.{counted_less, counted_one, counted_all}
+use Rattle.ratsnest.proofs.Counted.{counted_less, counted_one, counted_two, counted_all}
 use Rattle.ratsnest.proofs.Theory
 use Rattle.ratsnest.proofs.Whole.{from, to, same_rank_links, Drops-reverse, Mem-reverse}
 
@@ -172,6 +172,16 @@ climbs_same anchors xs ys cx cy there back =
     (Sub-from_mem (reverse xs) (reverse ys) (λ l m. (Mem-reverse ys l).1 (there l ((Mem-reverse xs l).0 m))))
     (Sub-from_mem (reverse ys) (reverse xs) (λ l m. (Mem-reverse xs l).1 (back l ((Mem-reverse ys l).0 m)))) in
     sym (reverse-reverse xs) ∙ ap reverse e ∙ reverse-reverse ys
+
+-- so many links leave one label
+pub forest_whole : (anchors : List Anchor) (labels : List ℕ) (links : List Link) → IsForest anchors labels links → length labels ≤ length links + 1 → AreOne labels
+forest_whole anchors labels links f many g h hg hh = elim (cases_eq (label_at labels g) (label_at labels h)) [
+  | inl e ↦ e
+  | inr n ↦
+      let a : label_at labels g < length f.heads = omega (arith, f.heads_fit g hg, f.head_count) in
+      let b : label_at labels h < length f.heads = omega (arith, f.heads_fit h hh, f.head_count) in
+      absurd (omega (arith, counted_two f.heads (label_at labels g) (label_at labels h) a b n (f.used_head g hg) (f.used_head h hh), f.counted, f.count, many))
+]
 
 module _ (anchors : List Anchor) (labels : List ℕ) (links : List Link) (f : IsForest anchors labels links) (one : AreOne labels) (some : 0 < group_count anchors) where
   one_head : count_by (λ b. b) f.heads ≡ 1

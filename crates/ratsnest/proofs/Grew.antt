@@ -1,7 +1,6 @@
 -- Whether links were added.
-use Rattle.std.proofs.Common.{◌≡◌, ℕ, false, nat_lt, ◌+◌, ◌≤◌, ◌<◌, List, length, inl, inr, refl, sym, ◌∙◌, subst, arith}
+use Rattle.std.proofs.Common.{◌≡◌, ℕ, ◌+◌, ◌≤◌, ◌<◌, List, length, inl, inr, refl, sym, ◌∙◌, subst, arith}
 use Rattle.std.proofs.lemmas.Bool.{cases_eq}
-use Rattle.std.proofs.lemmas.Bool.Decides.{nat_tests}
 use Rattle.ratsnest.specs.declared.anchor.Anchor.{Anchor}
 use Rattle.ratsnest.specs.declared.link.Link.{Link}
 use Rattle.ratsnest.specs.Forest.{best_at, IsIdle, HasGrown, HaveGrown}
@@ -32,6 +31,3 @@ pub grown_less : (anchors : List Anchor) (best : List Link) (m n : ℕ) → m �
     HaveGrown anchors best n labels links labels' links' → HaveGrown anchors best m labels links labels' links'
 grown_less anchors best m n le labels links labels' links' (inl a) = inl a
 grown_less anchors best m n le labels links labels' links' (inr a) = inr (a.0, a.1, λ k h. a.2 k (omega arith))
-
-pub not_less : (a b : ℕ) → nat_lt a b ≡ false → b ≤ a
-not_less a b h = grind (arith, nat_tests)

@@ -38,11 +38,20 @@ fn label_of(labels: &[usize], spot: &Spot) -> usize
     label_at(labels, spot.anchor.group as usize)
 }
 
-/// The label that all of a part have.
-fn name_of_all(tree: &Tree, labels: &[usize], low: usize, high: usize) -> Option<usize>
+/// The label that all of a part have, unless it is the one that is passed over: none asks for that.
+fn name_of_all(
+    tree: &Tree,
+    labels: &[usize],
+    skipped: usize,
+    low: usize,
+    high: usize,
+) -> Option<usize>
     ensures { IfSome result (IsNamed tree.now.spots.items labels.now low high) }
 {
     let first = label_of(labels, tree.spots.get(low)?);
+    if first == skipped {
+        return None;
+    }
     for i in low..high.min(tree.spots.len()) {
         if label_of(labels, &tree.spots[i]) != first {
             return None;
@@ -98,13 +107,19 @@ fn name_of_both(
 }
 
 /// The name of a node.
-fn name_of(tree: &Tree, labels: &[usize], names: &[Option<usize>], node: usize) -> Option<usize>
+fn name_of(
+    tree: &Tree,
+    labels: &[usize],
+    skipped: usize,
+    names: &[Option<usize>],
+    node: usize,
+) -> Option<usize>
     requires { AreNames tree.now.spots.items labels.now tree.now.nodes.items names.now }
     ensures { IfSome result (λ c. (d : Node) → IsNamed tree.now.spots.items labels.now (slice_index_or tree.now.nodes.items node d).low (slice_index_or tree.now.nodes.items node d).high c) }
 {
     let part = node_at(tree, node)?;
     if is_small(part.low, part.high) {
-        name_of_all(tree, labels, part.low, part.high)
+        name_of_all(tree, labels, skipped, part.low, part.high)
     } else {
         let twice = node.saturating_mul(2);
         name_of_both(
@@ -123,12 +138,13 @@ pub(crate) fn all_names(
     alloc: Global,
     tree: &Tree,
     labels: &[usize],
+    skipped: usize,
 ) -> Result<Vec<Option<usize>>, AllocError>
     ensures { IfOk result (λ v. AreNames tree.now.spots.items labels.now tree.now.nodes.items v.items) }
 {
     let mut names = vec![in alloc; None; tree.nodes.len()]?;
     for node in (0..tree.nodes.len()).rev() {
-        let name = name_of(tree, labels, &names, node);
+        let name = name_of(tree, labels, skipped, &names, node);
         names[node] = name;
     }
     Ok(names)
@@ -305,7 +321,7 @@ pub(crate) fn all_best(
     ensures len { IfOk result (λ v. length v.items ≡ length labels.now) }
     ensures best { IfOk result (λ v. AreBestTo tree.now.spots.items labels.now skipped (length tree.now.spots.items) v.items) }
 {
-    let names = all_names(alloc, tree, labels)?;
+    let names = all_names(alloc, tree, labels, skipped)?;
     let mut best = vec![in alloc; no_link(); labels.len()]?;
     seek(tree, labels, &names, skipped, &mut best);
     Ok(best)

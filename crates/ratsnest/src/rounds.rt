@@ -2,7 +2,7 @@
 //!
 //! Which link that is, is asked for each anchor of a tree of areas, which passes over what is too far or has the label.
 
-ghost use Rattle.std.specs.Prelude.{◌≡◌, ◌<◌, ◌^◌, ◌-◌, true, false, length, OnOk, IfOk, []};
+ghost use Rattle.std.specs.Prelude.{◌≡◌, ◌<◌, ◌≤◌, ◌^◌, ◌+◌, ◌-◌, true, false, length, OnOk, IfOk, []};
 ghost use Rattle.ratsnest.specs.declared.link.Link.{Link};
 ghost use Rattle.ratsnest.specs.NestOf.{group_count, AnchorsRise, GroupsOccur};
 ghost use Rattle.ratsnest.specs.Grow.{rank, AreChosen};
@@ -17,7 +17,15 @@ use crate::places::count_groups;
 use crate::tree::{Tree, tree_of};
 use std::alloc::{AllocError, Global};
 
-/// Takes the least link that leaves each label but the largest: those links join labels all the same. Answers whether there was one.
+/// Whether the links are too few to join so many labels.
+fn are_few(links: &[Link], labels: &[usize]) -> bool
+    ensures { result ≡ false → length labels.now ≤ length links.now + 1 }
+{
+    links.len().saturating_add(1) < labels.len()
+}
+
+/// Takes the least link that leaves each label but the largest: those links join labels all the same. Answers whether there was
+/// one, and more are wanted.
 fn take_round(
     alloc: Global,
     anchors: &[Anchor],
@@ -43,7 +51,7 @@ fn take_round(
     let skipped = largest(alloc, tree, labels)?;
     let best = all_best(alloc, tree, labels, skipped)?;
     join_all(alloc, anchors, &best, labels, members, links)?;
-    Ok(before < links.len())
+    Ok(before < links.len() && are_few(links, labels))
 }
 
 /// Takes rounds until all groups have one label.
