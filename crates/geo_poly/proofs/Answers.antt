@@ -100,8 +100,8 @@ poly_apart_code d hd cs ks =
     both (poly_apart_same cs ks d) (both (poly_apart_where d hd cs ks)
     (λ x. (no_either (λ k. x.1 (e.0 k)) (λ k. x.2 (f.0 k)), x.0), λ x. (x.1, (λ k. x.0 (inl (e.1 k))), (λ k. x.0 (inr (f.1 k))))))
 
-pub inside_code : (cs : List Point) (p : Point) → IsInside cs (spot_of p) ↔ (SomeEdge (λ e. IsReached e (edge p p) (pos 0)) (outline cs) ⊎ IsEnclosed cs (spot_of p))
-inside_code cs p = let e = on_where cs p in (either e.1 (λ x. x), either e.0 (λ x. x))
+pub inside_code : (cs : List Point) (p : Point) → IsInside cs (spot_of p) ↔ (IsEnclosed cs (spot_of p) ⊎ SomeEdge (λ e. IsReached e (edge p p) (pos 0)) (outline cs))
+inside_code cs p = let e = on_where cs p in (crossed e.1 (λ x. x), crossed (λ x. x) e.0)
 
 -- a point of the polygon is within 0 of it
 pub within_of_inside : (cs : List Point) (p : Point) → IsInside cs (spot_of p) → AreWithin (IsAt p) (IsInside cs) (pos 0)

@@ -9,17 +9,18 @@ use Rattle.geo_seg.specs.declared.points.Point.{Point}
 use Rattle.geo_seg.specs.declared.points.Seg.{Seg}
 use Rattle.geo_seg.specs.declared.boxes.Bounds.{Bounds}
 use Rattle.geo_seg.specs.Points.{Spot, IsOn, spot_of}
-use Rattle.geo_seg.specs.Boxes.{AreClear, IsLeastBox, FitsWithin}
+use Rattle.geo_seg.specs.Boxes.{IsInBox, AreClear, IsLeastBox, FitsWithin}
 use Rattle.geo_seg.specs.Inside.{path, last_of, outline, EachEdge, SomeEdge, is_low, passes, IsInside}
 use Rattle.geo_seg.specs.Runs.{AreEndsHeld, IsRunBox}
 use Rattle.geo_seg.proofs.Parity.{differ, is_odd, is_odd_of, odd_of_is_odd, some_passes}
 use Rattle.geo_seg.proofs.Enclosed.{path_parity, edge_with, how_passes, in_between, Between}
+use Rattle.geo_seg.proofs.Choices.{fails_by, either_way}
 use Rattle.geo_seg.proofs.BoxLemmas.{held_of_in_box, start_on, end_on}
 use Rattle.geo_seg.proofs.Passed.{passed}
 use Rattle.geo_seg.proofs.RunBoxes.{last_is, path_take, path_drop, path_length}
 use Rattle.geo_poly.specs.Outlines.{IsApart, IsReached, EachApart, SomeReached}
 use Rattle.geo_poly.specs.declared.runs.Part.{Part}
-use Rattle.geo_poly.specs.Runs.{between, LiesClear, PassOdd, IsMissed}
+use Rattle.geo_poly.specs.Runs.{between, LiesClear, PassOdd, IsMissed, IsBeside}
 use Rattle.geo_poly.specs.Parts.{edges_of}
 use Rattle.geo_seg.proofs.Distances.{apart_not_within}
 use Rattle.geo_poly.proofs.Covers.{Covers, covers_ends, covers_outline, edge_clear, both_clear, none_both_clear}
@@ -183,6 +184,34 @@ missed_even b p es m h e = clash m (edge_with (λ x i j. in_between b (spot_of p
         below : (t y : ℤ) → t <ℤ y → y ≤ℤ (pos 1 *ℤ t) → ⊥
         below t y m k = omega (arith, ints)
 
+-- a box beside one that holds p is missed by the ray
+pub missed_beside : (b near : Bounds) (d : ℤ) (p : Point) → pos 0 <ℤ d → IsInBox near (spot_of p) → IsBeside b near d → IsMissed b p
+unfolding spot_of
+missed_beside b near d p hd i (inl h) = inr (inr (after b.right near.left d p.x hd i.left h))
+  where
+    after : (u v d x : ℤ) → pos 0 <ℤ d → (pos 1 *ℤ v) ≤ℤ x → (u +ℤ d) ≤ℤ v → u <ℤ x
+    after u v d x hd i h = omega (arith, ints)
+missed_beside b near d p hd i (inr (inl h)) = inr (inl (after b.bottom near.top d p.y hd i.top h))
+  where
+    after : (u v d x : ℤ) → pos 0 <ℤ d → (pos 1 *ℤ v) ≤ℤ x → (u +ℤ d) ≤ℤ v → u <ℤ x
+    after u v d x hd i h = omega (arith, ints)
+missed_beside b near d p hd i (inr (inr h)) = inl (ahead near.bottom b.top d p.y hd i.bottom h)
+  where
+    ahead : (u v d x : ℤ) → pos 0 <ℤ d → x ≤ℤ (pos 1 *ℤ u) → (u +ℤ d) ≤ℤ v → x <ℤ v
+    ahead u v d x hd i h = omega (arith, ints)
+
+-- and one ahead lies to its right
+pub right_ahead : (b near : Bounds) (d : ℤ) (p : Point) → pos 0 <ℤ d → IsInBox near (spot_of p) → (near.right +ℤ d) ≤ℤ b.left → p.x <ℤ b.left
+unfolding spot_of
+right_ahead b near d p hd i h = ahead near.right b.left d p.x hd i.right h
+  where
+    ahead : (u v d x : ℤ) → pos 0 <ℤ d → x ≤ℤ (pos 1 *ℤ u) → (u +ℤ d) ≤ℤ v → x <ℤ v
+    ahead u v d x hd i h = omega (arith, ints)
+
+pub clear_beside : (b near : Bounds) (d : ℤ) → IsBeside b near d → AreClear b near d
+clear_beside b near d (inl h) = inl (inl h)
+clear_beside b near d (inr h) = inr h
+
 -- the two ends of a path to the right of p
 pub ends_parity : (b : Bounds) (p a x : Point) (part : List Point) → p.x <ℤ b.left → 0 < length part → x ≡ get_or part (length part - 1) x → EachEdge (AreEndsHeld b) (path a part) → is_odd (spot_of p) (path a part) ≡ differ (is_low (spot_of p) a) (is_low (spot_of p) x)
 unfolding spot_of
@@ -228,6 +257,17 @@ differ_beq false false = refl
 not_true : (b : Bool) → (b ≡ true → ⊥) → b ≡ false
 not_true true n = absurd (n refl)
 not_true false n = refl
+
+-- what a walk answers that saw no edge near
+pub not_and_known : {P Q : Type 0} (b : Bool) → (IsTrue b ↔ P) → Q → (IsTrue (not b) ↔ ((¬ P) × Q))
+not_and_known true e q = (λ t. absurd (no t), λ x. absurd (x.0 (e.0 refl)))
+  where
+    no : false ≡ true → ⊥
+    no h = cc
+not_and_known false e q = (λ t. (fails_by false e refl, q), λ x. refl)
+
+pub or_known : {P Q : Type 0} (b : Bool) → (IsTrue b ↔ P) → ¬ Q → (IsTrue b ↔ (P ⊎ Q))
+or_known b e n = (λ t. inl (e.0 t), either_way e.1 (λ q. absurd (n q)))
 
 pub missed_odd : (b : Bounds) (p : Point) (es : List Seg) → IsMissed b p → IsRunBox es b → (IsTrue false ↔ PassOdd (spot_of p) es)
 missed_odd b p es m h = odd_by (spot_of p) es false (not_true (is_odd (spot_of p) es) (missed_even b p es m h.holds))

@@ -1,5 +1,5 @@
 -- Runs of edges: what lies far from them, and how often they pass to the right of a point.
-use Rattle.std.specs.Prelude.{ℕ, ◌-◌, ℤ, ◌<ℤ◌, List, ◌⊎◌, take, drop, count_by}
+use Rattle.std.specs.Prelude.{ℕ, ◌-◌, ℤ, ◌+ℤ◌, ◌≤ℤ◌, ◌<ℤ◌, List, ◌⊎◌, take, drop, count_by}
 use Rattle.geo_seg.specs.declared.points.Point.{Point}
 use Rattle.geo_seg.specs.declared.points.Seg.{Seg}
 use Rattle.geo_seg.specs.declared.boxes.Bounds.{Bounds}
@@ -25,3 +25,7 @@ PassOdd p es = IsOdd (count_by (passes p) es)
 -- the box lies above the ray from p to the right, below it, or to the left of p
 abbrev pub IsMissed : Bounds → Point → Type 0
 IsMissed b p = p.y <ℤ b.top ⊎ b.bottom <ℤ p.y ⊎ b.right <ℤ p.x
+
+-- the box is at least d to the left of the other, above it or below it
+abbrev pub IsBeside : Bounds → Bounds → ℤ → Type 0
+IsBeside b near d = (b.right +ℤ d) ≤ℤ near.left ⊎ (b.bottom +ℤ d) ≤ℤ near.top ⊎ (near.bottom +ℤ d) ≤ℤ b.top

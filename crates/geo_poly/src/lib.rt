@@ -5,6 +5,7 @@
 //! Coordinates and distances are whole numbers of half nanometres.
 #![tactic(auto)]
 
+mod besides;
 mod edges;
 mod gaps;
 mod parity;

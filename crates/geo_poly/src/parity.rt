@@ -34,7 +34,7 @@ fn passes_right(p: Point, e: Seg) -> bool
 }
 
 /// Whether an odd number of the path's edges passes to the right of the point.
-fn path_odd(from: Point, part: &[Point], p: Point) -> bool
+pub(crate) fn path_odd(from: Point, part: &[Point], p: Point) -> bool
     ensures { IsTrue result ↔ PassOdd (spot_of p) (path from part.now) }
 {
     let mut at = from;
@@ -58,7 +58,7 @@ fn is_missed(b: Bounds, p: Point) -> bool
 
 /// Whether an odd number of edges from `low` up to `high` passes to the right of the point, where all
 /// lie to its right: then the two ends decide.
-fn ends_odd(corners: &[Point], low: usize, high: usize, p: Point) -> bool
+pub(crate) fn ends_odd(corners: &[Point], low: usize, high: usize, p: Point) -> bool
     requires low { low < high }
     requires high { high ≤ length corners.now }
     ensures { (b : Bounds) → p.x <ℤ b.left → IsRunBox (between low high (outline corners.now)) b → (IsTrue result ↔ PassOdd (spot_of p) (between low high (outline corners.now))) }
@@ -86,9 +86,9 @@ fn told_by(b: Bounds, corners: &[Point], low: usize, high: usize, p: Point) -> O
 
 /// The edges up to `high`, and whether an odd number of them passes.
 #[derive(Clone, Copy, Drop)]
-struct Step {
-    high: usize,
-    odd: bool,
+pub(crate) struct Step {
+    pub high: usize,
+    pub odd: bool,
 }
 
 /// What the box of the run of `size` edges from `low` on says, where one is kept.

@@ -7,17 +7,17 @@ ghost use Rattle.geo_seg.specs.Distances.{IsGap};
 ghost use Rattle.geo_seg.specs.Inside.{IsInside};
 ghost use Rattle.geo_poly.specs.Outlines.{EndsInside};
 
+use crate::besides::{is_beyond, is_reached};
 use crate::gaps::{outline_gap, outlines_gap};
 use crate::parity::is_enclosed;
 use crate::runs::{outlines_apart, outlines_within};
-use crate::walks::{outline_apart, outline_within};
 use geo_seg::{Point, Poly, Seg};
 
 /// `holds` for a point that may lie in the polygon's box.
 fn has_point(poly: &Poly, p: Point) -> bool
     ensures { IsTrue result ↔ IsInside poly.now (spot_of p) }
 {
-    outline_within(poly, Seg { a: p, b: p }, 0) || is_enclosed(poly, p)
+    is_reached(poly, Seg { a: p, b: p }, 0)
 }
 
 /// `poly_seg_apart` by the edges: where no edge is near, one end tells for the whole segment.
@@ -25,7 +25,7 @@ fn edges_apart(poly: &Poly, s: Seg, d: i64) -> bool
     requires { IsDistance d }
     ensures { IsTrue result ↔ AreApart (IsInside poly.now) (IsOn s) d }
 {
-    d == 0 || !is_enclosed(poly, s.a) && outline_apart(poly, s, d)
+    d == 0 || is_beyond(poly, s, d)
 }
 
 /// `poly_seg_within` by the edges.
@@ -33,7 +33,7 @@ fn edges_within(poly: &Poly, s: Seg, d: i64) -> bool
     requires { IsDistance d }
     ensures { IsTrue result ↔ AreWithin (IsInside poly.now) (IsOn s) d }
 {
-    is_enclosed(poly, s.a) || outline_within(poly, s, d)
+    is_reached(poly, s, d)
 }
 
 /// Whether the last corner of `a` is enclosed by the outline of `b`.

@@ -1,16 +1,16 @@
 // Walks along the outline of a polygon, which pass over runs of edges that lie far away: where the
 // polygon keeps the box of a run, and the box decides.
 
-ghost use Rattle.std.specs.Prelude.{◌≡◌, ◌<◌, ◌≤◌, List, pos, IsTrue, ◌↔◌, length, take, drop};
+ghost use Rattle.std.specs.Prelude.{◌≡◌, ◌<◌, ◌≤◌, List, pos, IsTrue, length, take, drop};
 ghost use Rattle.geo_seg.specs.Nearer.{IsUpTo, IsDistance};
 ghost use Rattle.geo_seg.specs.declared.points.Seg.{Seg};
 ghost use Rattle.geo_seg.specs.Points.{IsOn};
 ghost use Rattle.geo_seg.specs.Boxes.{IsLeastBox, FitsWithin};
-ghost use Rattle.geo_seg.specs.Inside.{outline, EachEdge, SomeEdge};
-ghost use Rattle.geo_poly.specs.Outlines.{IsApart, IsReached};
+ghost use Rattle.geo_seg.specs.Inside.{outline, EachEdge};
+ghost use Rattle.geo_poly.specs.Outlines.{IsApart};
 ghost use Rattle.geo_poly.specs.Runs.{between, LiesClear};
 
-use crate::edges::{before, path_apart, path_within};
+use crate::edges::{before, path_apart};
 use geo_seg::{Bounds, FIRST_RUN, FOURTH_RUN, Poly, SECOND_RUN, Seg, THIRD_RUN};
 
 /// Where the run of `size` edges from `low` on ends, of so many in all.
@@ -104,73 +104,4 @@ pub(crate) fn apart_until(poly: &Poly, low: usize, s: Seg, near: Bounds, d: i64)
     } else {
         low
     }
-}
-
-/// Whether each edge of the polygon is apart from the segment.
-pub(crate) fn outline_apart(poly: &Poly, s: Seg, d: i64) -> bool
-    requires { IsDistance d }
-    ensures { IsTrue result ↔ EachEdge (λ e. IsApart e s d) (outline poly.now) }
-{
-    let corners = poly.corners();
-    if poly.run_box(0, FIRST_RUN).is_none() {
-        return path_apart(before(corners, 0), corners, s, d);
-    }
-    let near = s.bounds();
-    let all = corners.len();
-    let mut low = 0;
-    'runs: while low < all {
-        let high = apart_until(poly, low, s, near, d);
-        if high == low {
-            return false;
-        }
-        low = high;
-    }
-    true
-}
-
-/// Where a run from `low` on ends of which no edge is within d of the segment, whose box is `near`; or
-/// `low` where some edge is.
-fn beyond_until(poly: &Poly, low: usize, s: Seg, near: Bounds, d: i64) -> usize
-    requires low { low < length poly.now }
-    requires near { IsLeastBox (IsOn s) near }
-    requires fits { FitsWithin (pos 1000000000) near }
-    requires range { IsDistance d }
-    ensures after { low ≤ result }
-    ensures within { result ≤ length poly.now }
-    ensures beyond { ¬ (SomeEdge (λ e. IsReached e s d) (between low result (outline poly.now))) }
-    ensures stuck { result ≡ low → SomeEdge (λ e. IsReached e s d) (outline poly.now) }
-{
-    let clear = clear_end(poly, low, near, d + 1);
-    if clear > low {
-        return clear;
-    }
-    let corners = poly.corners();
-    let high = end(low, FIRST_RUN, corners.len());
-    if path_within(before(corners, low), &corners[low..high], s, d) {
-        low
-    } else {
-        high
-    }
-}
-
-/// Whether some edge of the polygon is within d of the segment.
-pub(crate) fn outline_within(poly: &Poly, s: Seg, d: i64) -> bool
-    requires { IsDistance d }
-    ensures { IsTrue result ↔ SomeEdge (λ e. IsReached e s d) (outline poly.now) }
-{
-    let corners = poly.corners();
-    if poly.run_box(0, FIRST_RUN).is_none() {
-        return path_within(before(corners, 0), corners, s, d);
-    }
-    let near = s.bounds();
-    let all = corners.len();
-    let mut low = 0;
-    'runs: while low < all {
-        let high = beyond_until(poly, low, s, near, d);
-        if high == low {
-            return true;
-        }
-        low = high;
-    }
-    false
 }
