@@ -1,15 +1,20 @@
 -- What is too near on a layer, and on which layers anything is.
-use Rattle.std.proofs.Common.{◌≡◌, ◌⊎◌, inl, inr, refl, sym, subst, ◌∙◌, ℤ, pos, ◌≤ℤ◌, ◌<ℤ◌, true, List, [], All, arith}
+use Rattle.std.proofs.Common.{◌≡◌, ◌⊎◌, inl, inr, refl, sym, subst, ◌∙◌, ℤ, pos, ◌+ℤ◌, ◌*ℤ◌, ◌≤ℤ◌, ◌<ℤ◌, true, List, [], slice_index_or, All, arith}
 use Rattle.std.specs.List.{Any}
 use Rattle.std.proofs.lemmas.Int.{ints}
 use Rattle.plain_types.specs.Lengths.{IsLength}
 use Rattle.int_algebra.proofs.Scalars.{passed, passed_length}
 use Rattle.item_copper.proofs.Gaps.{gap_same}
-use Rattle.geo_seg.specs.Distances.{IsGap}
+use Rattle.geo_seg.specs.declared.shapes.Shape.{Shape}
+use Rattle.geo_seg.specs.Cores.{IsPointOf}
+use Rattle.geo_seg.specs.Distances.{Apart, Meet, IsGap}
+use Rattle.geo_seg.proofs.Distances.{apart_not_within}
 use Rattle.copper_layers.specs.declared.set.LayerSet.{LayerSet}
+use Rattle.board_items.specs.declared.parts.Part.{Part}
 use Rattle.board_items.specs.declared.item.Item.{Item}
 use Rattle.board_items.specs.Copper.{SomeMeet, Keeps}
 use Rattle.cond_lang.specs.declared.kind.Kind.{Kind}
+use Rattle.cond_lang.specs.declared.kind.Kind.TheVariants.{Short, Clearance}
 use Rattle.kind_subjects.specs.declared.subject.Faces.{Faces}
 use Rattle.kind_subjects.specs.declared.subject.Faces.TheVariants.{Coppers, HolesAndCopper, Holes, EdgesAndCopper, Yards, Areas}
 use Rattle.kind_subjects.specs.declared.subject.Subject.{Subject}
@@ -111,6 +116,42 @@ module _ (kind : Kind) (layer : RowLayer) (a b : Item) (v gap : ℤ) (is : IsGap
       by : (gap ≡ pos 0) ⊎ KeepAt kind layer a b gap → KeepAt kind layer a b v
       by (inl e) = kept_none kind layer a b v (sym (same v gap is.to le) ∙ e)
       by (inr k) = subst (λ (n : ℤ). KeepAt kind layer a b n) (same v gap is.to le) k
+
+-- ---- what keeps a distance does not meet
+
+apart_unmet : (s t : Shape) (c : ℤ) → pos 1 ≤ℤ c → Apart s t c → Meet s t → ⊥
+apart_unmet s t c h far meet =
+    apart_not_within (IsPointOf s.core) (IsPointOf t.core) (s.radius +ℤ t.radius) (s.radius +ℤ t.radius +ℤ c) (both s.radius t.radius s.radius_from t.radius_from) (more (s.radius +ℤ t.radius) c h) far meet
+  where
+    both : (x y : ℤ) → pos 0 ≤ℤ x → pos 0 ≤ℤ y → pos 0 ≤ℤ (x +ℤ y)
+    both x y p q = omega (arith, ints)
+
+    more : (x y : ℤ) → pos 1 ≤ℤ y → x <ℤ (x +ℤ y)
+    more x y p = omega (arith, ints)
+
+parts_unmet : (xs ys : List Part) (v : ℤ) → pos 1 ≤ℤ v → Keeps xs ys v → SomeMeet xs ys → ⊥
+parts_unmet xs ys v h (inl e) m = absurd (omega (arith, ints))
+parts_unmet xs ys v h (inr far) m =
+    let one = m.some in
+    let other = one.4 in
+    let first = one.1 in
+    let second = other.1 in
+    let there = far.each one.0 first one.2 other.0 second other.2 in
+    let apart = subst (λ (p : Part). Apart p.shape second.shape (pos 2 *ℤ v)) one.3 (subst (λ (q : Part). Apart (slice_index_or xs one.0 first).shape q.shape (pos 2 *ℤ v)) other.3 there) in
+    apart_unmet first.shape second.shape (pos 2 *ℤ v) (twice v h) apart other.4
+  where
+    twice : (n : ℤ) → pos 1 ≤ℤ n → pos 1 ≤ℤ (pos 2 *ℤ n)
+    twice n h = omega (arith, ints)
+
+pub kept_unmet : (kind : Kind) (layer : RowLayer) (a b : Item) (v : ℤ) → pos 1 ≤ℤ v → KeepAt kind layer a b v → MeetAt kind layer a b → ⊥
+kept_unmet kind layer a b v h keep m =
+    let f = m.1 in
+    parts_unmet f.own f.others v h (subst (λ (g : Facing). Keeps g.own g.others v) m.3 (keep m.0 f m.2)) m.4
+
+-- a short and a clearance look at the same parts
+pub short_as_clearance : (layer : RowLayer) (a b : Item) → MeetAt Short layer a b → MeetAt Clearance layer a b
+unfolding facings
+short_as_clearance layer a b m = m
 
 -- ---- a gap that was passed
 

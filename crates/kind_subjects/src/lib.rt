@@ -22,7 +22,7 @@ pub use layer::RowLayer;
 pub use lengths::{counted, length_of, length_once};
 pub use measure::{Faced, Facings, facings_at, may_face};
 pub use meeting::first_meeting;
-pub use near::{gap_if_near, may_not_meet};
+pub use near::{are_kept, gap_if_near, may_not_meet};
 pub use places::{Places, places_of_items, tried_at};
 pub use single_layers::{is_asked_at, is_measured_at, places_measured};
 pub use subject::{Faces, Measure, Subject, subject_of};

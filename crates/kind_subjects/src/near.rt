@@ -1,9 +1,9 @@
 //! How near two items are to each other.
 
-ghost use Rattle.std.specs.Prelude.{◌≡◌, MatchOption};
+ghost use Rattle.std.specs.Prelude.{◌≡◌, true, MatchOption};
 ghost use Rattle.plain_types.specs.Lengths.{IsLength};
 ghost use Rattle.geo_seg.specs.Distances.{IsGap};
-ghost use Rattle.kind_subjects.specs.Facing.{facings, apart_by, may_not_meet, KeepAt, TooNear};
+ghost use Rattle.kind_subjects.specs.Facing.{facings, apart_by, may_not_meet, KeepAt, MeetAt, TooNear};
 ghost use Rattle.kind_subjects.specs.Sides.{facings_of};
 
 use crate::layer::RowLayer;
@@ -65,4 +65,22 @@ pub fn gap_if_near(
     } else {
         None
     }
+}
+
+/// Whether the two keep `least` on the layer, which is more than nothing, so that they do not meet there either.
+#[inline(always)]
+pub fn are_kept(
+    faced: &Facings<'_>,
+    kind: Kind,
+    layer: RowLayer,
+    a: &Item,
+    b: &Item,
+    least: Nm,
+) -> bool
+    requires same { facings_of faced.now ≡ facings kind layer a.now b.now }
+    requires least { IsLength least }
+    ensures keep { result ≡ true → KeepAt kind layer a.now b.now least }
+    ensures meet { result ≡ true → ¬ (MeetAt kind layer a.now b.now) }
+{
+    least != 0 && gap_at(faced, kind, layer, a, b, least) >= least
 }

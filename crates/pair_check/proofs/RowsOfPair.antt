@@ -14,13 +14,13 @@ use Rattle.rule_pick.specs.FactsOf.{AreFactsOf}
 use Rattle.rule_pick.proofs.OneFacts.{one_facts}
 use Rattle.kind_subjects.specs.declared.layer.RowLayer.{RowLayer}
 use Rattle.pair_check.specs.PlainRow.{PlainRow, AreOrdered, IdsAreInOrder}
-use Rattle.kind_subjects.specs.Layers.{IsFirst}
+use Rattle.kind_subjects.specs.Layers.{IsFirst, HoldsNowhere}
 use Rattle.kind_subjects.specs.Compared.{is_compared}
 use Rattle.kind_subjects.specs.Facing.{MeetAt}
 use Rattle.pair_check.specs.Pairs.{Deciders, Pair, DoMeet, SaysMeeting, SaysNear, BreaksBy, Breaks}
 use Rattle.pair_check.specs.Asked.{AsksNothing}
 use Rattle.pair_check.specs.Rows.{Checked, deciders, Stands, IsRowOfTwo, AreRowsWhere, AreRowsOfPair}
-use Rattle.pair_check.specs.Stages.{IsOfPair, IsOfKind, IsBelow, AreRowsBelow}
+use Rattle.pair_check.specs.Stages.{IsNearOrMeets, IsOfPair, IsOfKind, IsBelow, AreRowsBelow}
 use Rattle.kind_subjects.proofs.TriedLayers.{none_of_no_first}
 use Rattle.pair_check.proofs.KindRows.{with_row, without_row, passes}
 use Rattle.pair_check.proofs.OneRow.{AreAlike, broken_once}
@@ -117,6 +117,21 @@ module _ (d : Deciders) (pair : Pair) (first second : ℕ) where
   pair_short rows row is r =
       let meet = do_meet row is in
       pair_without HoleClearance (rows ++ row ∷ []) (no_hole_clearance meet) (pair_without Clearance (rows ++ row ∷ []) (no_clearance meet) (pair_with Short rows row is r))
+
+  -- where the copper of the two neither meets nor is too near, a short has no row, and a clearance has none
+  pub pair_kept : (rows : List PlainRow) → HoldsNowhere d.copper (IsNearOrMeets d pair) → AreRowsBelow (IsOfPair d pair first second) 1 rows → AreRowsBelow (IsOfPair d pair first second) 3 rows
+  pair_kept rows nowhere r = pair_without Clearance rows no_clearance_row (pair_without Short rows no_short_row r)
+    where
+      no_short_row : (row : PlainRow) → ¬ (IsOfKind (IsOfPair d pair first second) Short row)
+      no_short_row row h = let says = short_says row h in nowhere.none row.layer says.where_first.tried (inr says.where_first.holds)
+
+      no_clearance_row : (row : PlainRow) → ¬ (IsOfKind (IsOfPair d pair first second) Clearance row)
+      no_clearance_row row h =
+          let says = says_near d pair Clearance row refl (subst (λ (l : Kind). Breaks d l pair row) h.kind_is h.is.broken) in
+          nowhere.none row.layer says.where_first.tried (inl says.where_first.holds)
+
+  pub kept_apart : HoldsNowhere d.copper (IsNearOrMeets d pair) → ¬ (DoMeet d Short pair)
+  kept_apart nowhere meet = nowhere.none meet.somewhere.layer meet.somewhere.tried (inr meet.somewhere.holds)
 
   -- without its row the pair does not meet
   pub not_meeting : ((row : PlainRow) → ¬ (IsOfKind (IsOfPair d pair first second) Short row)) → ¬ (DoMeet d Short pair)

@@ -1,8 +1,9 @@
 -- What the walks over layers find, and the lists of rows that grow kind by kind.
-use Rattle.std.specs.Prelude.{◌≡◌, ◌<◌, ℕ, ℤ, List}
+use Rattle.std.specs.Prelude.{◌≡◌, ◌<◌, ◌⊎◌, ℕ, ℤ, List}
 use Rattle.board_items.specs.declared.item.Item.{Item}
 use Rattle.geo_seg.specs.Distances.{IsGap}
 use Rattle.cond_lang.specs.declared.kind.Kind.{Kind}
+use Rattle.cond_lang.specs.declared.kind.Kind.TheVariants.{Short, Clearance}
 use Rattle.cond_lang.specs.Kinds.{kind_number}
 use Rattle.rule_pick.specs.declared.facts.Facts.{Facts}
 use Rattle.rule_pick.specs.Picks.{pick_of}
@@ -11,8 +12,9 @@ use Rattle.pair_check.specs.declared.found.Near.{Near}
 use Rattle.pair_check.specs.declared.found.Off.{Off}
 use Rattle.pair_check.specs.declared.found.Forbidden.{Forbidden}
 use Rattle.pair_check.specs.PlainRow.{PlainRow, Counts}
-use Rattle.kind_subjects.specs.Facing.{KeepAt, TooNear}
-use Rattle.pair_check.specs.Pairs.{Deciders, Pair, IsPickOf, Breaks}
+use Rattle.kind_subjects.specs.declared.layer.RowLayer.{RowLayer}
+use Rattle.kind_subjects.specs.Facing.{MeetAt, KeepAt, TooNear}
+use Rattle.pair_check.specs.Pairs.{Deciders, Pair, IsPickOf, IsNearAt, Breaks}
 use Rattle.pair_check.specs.Singles.{IsPickAlone, BreaksLimit, Forbids, BreaksAlone}
 use Rattle.pair_check.specs.Rows.{AreRowsWhere}
 
@@ -27,6 +29,10 @@ pub record IsNear (d : Deciders) (kind : Kind) (pair : Pair) (near : Near) : Typ
   pub counts : Counts near.picked.severity
   pub too_near : TooNear kind near.layer pair.a pair.b near.picked.least
   pub gap : IsGap (KeepAt kind near.layer pair.a pair.b) near.picked.least near.gap
+
+-- on this layer the copper of the two is nearer than what is picked for a clearance, or meets
+abbrev pub IsNearOrMeets : Deciders → Pair → RowLayer → Type 0
+IsNearOrMeets d pair layer = IsNearAt d Clearance pair layer ⊎ MeetAt Short layer pair.a pair.b
 
 -- on this layer the length breaks this limit of this pick
 pub record IsOff (d : Deciders) (kind : Kind) (facts : Facts) (n : ℤ) (off : Off) : Type 0 where

@@ -2,9 +2,10 @@
 //!
 //! The walks over layers are laid into their callers, which know the kind, and with it what faces what.
 
-ghost use Rattle.std.specs.Prelude.{◌≡◌, ◌+◌, ◌<◌, ◌≤◌, false, IsTrue, IsSome, [], length, MatchOption};
+ghost use Rattle.std.specs.Prelude.{◌≡◌, ◌+◌, ◌<◌, ◌≤◌, true, false, IsTrue, IsSome, [], length, MatchOption};
 ghost use Rattle.board_items.specs.Boards.{item_at};
 ghost use Rattle.cond_lang.specs.declared.kind.Family.{Family};
+ghost use Rattle.cond_lang.specs.declared.kind.Kind.TheVariants.{HoleClearance};
 ghost use Rattle.cond_lang.specs.Kinds.{family, kind_number};
 ghost use Rattle.pair_check.specs.PlainRow.{PlainRow};
 ghost use Rattle.kind_subjects.specs.Layers.{IsTried, IsFirst, HoldsNowhere};
@@ -13,20 +14,20 @@ ghost use Rattle.pair_check.specs.Pairs.{IsGivenPlace, IsNearAt};
 ghost use Rattle.pair_check.specs.Asked.{AsksNothing, IsNoteOf};
 ghost use Rattle.pair_check.specs.Rows.{Stands, AreRowsWhere, AreRowsOfPair};
 ghost use Rattle.pair_check.specs.Views.{checked_by, deciders_of, IsWholeView};
-ghost use Rattle.pair_check.specs.Stages.{pair_of, IsNear, IsOfPair, IsOfKind, AreRowsBelow};
+ghost use Rattle.pair_check.specs.Stages.{pair_of, IsNear, IsNearOrMeets, IsOfPair, IsOfKind, AreRowsBelow};
 
 use crate::asked::{ANYTHING, Asked};
 use crate::found::{Near, Pair, Single};
 use crate::pair_rows::PairRows;
-use crate::passed::{are_copper, have_holes};
+use crate::passed::{are_copper, have_holes, is_one_fill};
 use crate::row::{Row, counts};
 use crate::single::single_at;
 use crate::steps::Steps;
 use crate::view::CheckView;
 use cond_lang::{Kind, Severity};
 use kind_subjects::{
-    RowLayer, facings_at, first_meeting, gap_if_near, is_compared, may_face, places_between,
-    share_net, tried_at,
+    RowLayer, are_kept, facings_at, first_meeting, gap_if_near, is_compared, may_face,
+    places_between, share_net, tried_at,
 };
 use rule_pick::{Source, pick};
 use std::alloc::Global;
@@ -181,6 +182,77 @@ fn add_near(
     }
 }
 
+/// Whether the copper of the two keeps on the layer what is picked there for a clearance, so that it does not meet there either.
+/// Only a yes is sure.
+#[inline(always)]
+fn is_kept_at(view: &CheckView, pair: Pair<'_>, layer: RowLayer) -> bool
+    requires few { length view.now.rules.now < 4294967295 }
+    requires tried { IsTried view.now.board.now.copper layer }
+    ensures { result ≡ true → ¬ (IsNearOrMeets (deciders_of view.now) (pair_of pair.entry) layer) }
+{
+    let kind = Kind::Clearance;
+    let faced = facings_at(kind, layer, pair.a, pair.b);
+    if !may_face(&faced, kind, layer, pair.a, pair.b) {
+        return true;
+    }
+    let mins = view.classes.mins();
+    let picked = pick(
+        view.rules,
+        mins,
+        kind,
+        pair.facts_a,
+        Some(pair.facts_b),
+        layer.asked(),
+    );
+    are_kept(&faced, kind, layer, pair.a, pair.b, picked.least)
+}
+
+/// Whether it does on each layer. Most pairs do, and one walk over the layers and over what is there tells so of both kinds. Only a
+/// yes is sure.
+fn is_kept(view: &CheckView, pair: Pair<'_>) -> bool
+    requires few { length view.now.rules.now < 4294967295 }
+    ensures { result ≡ true → HoldsNowhere view.now.board.now.copper (IsNearOrMeets (deciders_of view.now) (pair_of pair.entry)) }
+{
+    let places = places_between(Kind::Clearance, pair.a, pair.b);
+    for place in places.from..places.to {
+        if let Some(layer) = tried_at(view.board.copper(), place) {
+            if !is_kept_at(view, pair, layer) {
+                return false;
+            }
+        }
+    }
+    true
+}
+
+/// Appends the row of the clearance of a hole, if anything is asked of it.
+fn add_of_hole(
+    view: &CheckView,
+    asked: Asked,
+    first: u32,
+    second: u32,
+    pair: Pair<'_>,
+    rows: &mut PairRows,
+)
+    requires few { length view.now.rules.now < 4294967295 }
+    requires asked { IsNoteOf (deciders_of view.now) asked }
+    requires place { IsGivenPlace (deciders_of view.now) HoleClearance (pair_of pair) }
+    requires ordered { first < second }
+    requires room { length rows.old < 8 }
+    requires below { AreRowsBelow (IsOfPair (deciders_of view.now) (pair_of pair) first second) 3 rows.old }
+    ensures rows { AreRowsBelow (IsOfPair (deciders_of view.now) (pair_of pair.entry) first second) 4 rows.new }
+    ensures count { length rows.new ≤ length rows.old + 1 }
+{
+    add_near(
+        view,
+        asked.hole_clearance,
+        Kind::HoleClearance,
+        first,
+        second,
+        pair,
+        rows,
+    );
+}
+
 /// Appends the row of a short, or those of a clearance and of that of a hole, whose place it takes. What is of one net may meet.
 fn add_of_nets(
     view: &CheckView,
@@ -201,19 +273,15 @@ fn add_of_nets(
     if share_net(pair.a, pair.b) {
         return;
     }
+    if is_one_fill(pair.a, pair.b) && is_kept(view, pair) {
+        add_of_hole(view, asked, first, second, pair, rows);
+        return;
+    }
     match meeting_row(view, Kind::Short, first, second, pair) {
         Some(row) => rows.push(row),
         None => {
             add_near(view, true, Kind::Clearance, first, second, pair, rows);
-            add_near(
-                view,
-                asked.hole_clearance,
-                Kind::HoleClearance,
-                first,
-                second,
-                pair,
-                rows,
-            );
+            add_of_hole(view, asked, first, second, pair, rows);
         }
     }
 }

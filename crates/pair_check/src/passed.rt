@@ -29,3 +29,8 @@ pub(crate) fn have_holes(a: &Item, b: &Item) -> bool
 {
     a.hole.is_some() && b.hole.is_some()
 }
+
+/// Whether one of them is a fill, whose outline may be long.
+pub(crate) fn is_one_fill(a: &Item, b: &Item) -> bool {
+    matches!(a.what, What::Fill) || matches!(b.what, What::Fill)
+}
