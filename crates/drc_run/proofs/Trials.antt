@@ -1,9 +1,9 @@
 -- Trials as they are written.
-use Rattle.std.proofs.Common.{◌≡◌, ◌∙◌, inl, inr, refl, sym, ap, subst, ℕ, zero, suc, ◌≤◌, Bool, true, false, List, [], ◌∷◌, ◌++◌, length, codes, append_assoc, append-nil, Option, Result, Ok, Err, MatchResult, All, arith}
-use Rattle.std.specs.List.{flat_map}
+use Rattle.std.proofs.Common.{◌≡◌, ◌∙◌, ◌⊎◌, ◌||◌, inl, inr, refl, sym, ap, subst, ℕ, zero, suc, Bool, true, false, List, [], ◌∷◌, ◌++◌, length, codes, append_assoc, append-nil, Option, Result, Ok, Err, OnOk, OnErr, MatchResult, All, arith}
+use Rattle.std.specs.List.{flat_map, AllZip}
+use Rattle.std.specs.Io.KnownBytes.{Keeps}
 use Rattle.std.proofs.KnownBytes.{Appends-trans}
 use Rattle.std.proofs.lemmas.List.Elements.{All-contains}
-use Rattle.drc_io.specs.Causes.{Rose}
 use Rattle.drc_io.specs.Sinks.{Writes}
 use Rattle.drc_io.specs.declared.Failed.{Failed}
 use Rattle.drc_io.proofs.Writing.{AppendsFront-after}
@@ -13,20 +13,23 @@ use Rattle.edit_script.specs.Commands.{PlainCommand}
 use Rattle.drc_rows.specs.Report.{number_line}
 use Rattle.drc_state.specs.declared.error.EditError.{EditError}
 use Rattle.drc_state.specs.States.{State, checked_in}
-use Rattle.drc_state.specs.Steps.{Answers}
+use Rattle.drc_session.specs.Sessions.{PlainSession}
 use Rattle.what_if.specs.declared.error.TrialError.{TrialError}
-use Rattle.what_if.specs.declared.error.TrialError.TheVariants.{Refused}
-use Rattle.what_if.specs.declared.outcome.Trial.{Trial}
-use Rattle.what_if.specs.Trials.{IsDifference, IsSurvey}
-use Rattle.what_if.specs.Tried.{IsTrialOf, IsRefusedAt}
+use Rattle.what_if.specs.declared.error.TrialError.TheVariants.{Refused, OutOfMemory as NoTrial}
+use Rattle.what_if.specs.Trials.{IsSurvey}
+use Rattle.what_if.specs.Tried.{IsRefusal, IsRefusedHere}
+use Rattle.what_if.proofs.Stopping.{Stops, stops, refused_alone}
+use Rattle.drc_run.specs.declared.outlook.Outlook.{Outlook}
 use Rattle.drc_run.specs.declared.status.Status.{Status}
 use Rattle.drc_run.specs.declared.status.Status.TheVariants.{WriteFault}
+use Rattle.drc_run.specs.declared.turns.Break.{Break}
+use Rattle.drc_run.specs.declared.turns.Break.TheVariants.{Unwritten}
 use Rattle.drc_run.specs.Reports.{refused_trial, why_edit}
 use Rattle.drc_run.specs.Turns.{marked_lines, IsTrialText, or_some, IsTrial, untried, tried}
 use Rattle.drc_run.specs.Output.{Output, status_if, AreTrialsTold}
-use Rattle.drc_run.specs.Running.{AreTaken, AreBroken, IsLeastWritten, AreTrialsToldSoFar, first_of_them, all_of_them}
-use Rattle.drc_run.specs.Endings.{Whole, Front, Ends, trials_status}
-use Rattle.drc_run.proofs.Turning.{rose_since}
+use Rattle.drc_run.specs.Outlooks.{IsOutlook, outlook_text}
+use Rattle.drc_run.specs.Running.{IsTurnTaken, IsBroken, AreTaken, IsLeastWritten, AreTrialsToldSoFar, all_of_them}
+use Rattle.drc_run.specs.Endings.{Whole, Ends, trials_status}
 
 -- ---- rows
 
@@ -48,37 +51,83 @@ one_alone f xs x e = ap (flat_map f) e ∙ append-nil (f x)
 
 -- ---- one trial
 
-module _ (n : ℕ) (s after : State) (gone come rows : List PlainRow) where
+-- the parts of its text
+module _ (n : ℕ) (s : State) (o : Outlook) where
   abbrev pub first_text : List ℕ
   first_text = number_line (codes "trial ") n []
 
   abbrev pub gone_text : List ℕ
-  gone_text = marked_lines (codes "- ") s gone
-
-  abbrev pub come_text : List ℕ
-  come_text = marked_lines (codes "+ ") after come
+  gone_text = marked_lines (codes "- ") s o.gone.items
 
   abbrev pub last_text : List ℕ
-  last_text = number_line (codes "rows ") (length rows) []
+  last_text = number_line (codes "rows ") o.count []
 
-  pub behind_first : first_text ++ gone_text ++ come_text ++ last_text ≡ first_text ++ (gone_text ++ come_text ++ last_text)
-  behind_first = by_parts first_text gone_text come_text last_text
+  pub behind_first : outlook_text n s o ≡ first_text ++ (gone_text ++ o.lines.items ++ last_text)
+  behind_first = by_parts first_text gone_text o.lines.items last_text
     where
       by_parts : (a b d e : List ℕ) → a ++ b ++ d ++ e ≡ a ++ (b ++ d ++ e)
       by_parts a b d e = simp append_assoc
 
-  pub trial_text : IsDifference s after come gone → AreRows (checked_in after) rows → IsTrialText n s after come (first_text ++ gone_text ++ come_text ++ last_text)
-  trial_text differ are = record { gone = gone; rows = rows; differ = differ; are_rows = are; text_is = refl }
+or_some_by : (comes : Bool) (come : List PlainRow) → or_some comes come ≡ comes || or_some false come
+or_some_by false come = refl
+or_some_by true [] = refl
+or_some_by true (row ∷ rows) = refl
 
--- what a command leads to is its trial
+-- a command alone that is refused
+pub alone_refused : (s : PlainSession) (command : PlainCommand) (commands : List PlainCommand) (e : TrialError) → commands ≡ command ∷ [] → IsRefusal s.state commands e → IsRefusedHere s s command e
+alone_refused s command commands e same by = by_error e (subst (λ (cs : List PlainCommand). IsRefusal s.state cs e) same by)
+  where
+    first : (place : ℕ) (why : EditError) → Stops s.state (command ∷ []) place why → place ≡ 0
+    first zero why h = refl
+    first (suc place) why h = absurd h.2
+
+    by_error : (x : TrialError) → IsRefusal s.state (command ∷ []) x → IsRefusedHere s s command x
+    by_error (Refused step inner) h = (first step inner (stops s.state (command ∷ []) step inner h.0), refused_alone s.state command step inner h.0, h.1, h.2, refl)
+    by_error NoTrial h = tt
+
 module _ (s : State) (command : PlainCommand) where
-  pub carried : (number : ℕ) (comes next : Bool) (trial : Trial) (text : List ℕ) → IsTrialOf s (command ∷ []) trial → IsTrialText number s trial.session.state trial.come.items text
-      → next ≡ or_some comes trial.come.items → IsTrial s number comes command next text
-  carried number comes next trial text by told e =
-      tried trial.session.state (subst (λ (x : State). Answers s command (Ok x)) (sym by.led.2) by.led.1) trial.come.items told e
+  pub carried : (n : ℕ) (comes next : Bool) (o : Outlook) → IsOutlook s command o → next ≡ comes || o.comes → IsTrial s n comes command next (outlook_text n s o)
+  carried n comes next o is e = tried is.after is.answer is.come text (e ∙ (ap (λ (b : Bool). comes || b) is.comes_is ∙ sym (or_some_by comes is.come)))
+    where
+      text : IsTrialText n s is.after is.come (outlook_text n s o)
+      text = record {
+        gone = o.gone.items;
+        rows = is.rows;
+        differ = is.differ;
+        are_rows = is.are_rows;
+        text_is =
+            ap (λ (lines : List ℕ). first_text n s o ++ gone_text n s o ++ lines ++ last_text n s o) is.lines_are
+            ∙ ap (λ (k : ℕ). first_text n s o ++ gone_text n s o ++ marked_lines (codes "+ ") is.after is.come ++ number_line (codes "rows ") k []) is.count_is;
+      }
 
-  pub not_carried : (number place : ℕ) (comes : Bool) (why : EditError) (e : TrialError) → e ≡ Refused place why → IsRefusedAt s command 0 e → IsTrial s number comes command comes (refused_trial number (why_edit why))
-  not_carried number place comes why e same by = untried why (subst (IsRefusedAt s command 0) same by).1 refl refl
+-- what is not carried out
+module _ (old new : PlainSession) (command : PlainCommand) (place : ℕ) (why : EditError) (e : TrialError) (same : e ≡ Refused place why) (by : IsRefusedHere old new command e) where
+  here : IsRefusedHere old new command (Refused place why)
+  here = subst (IsRefusedHere old new command) same by
+
+  pub not_carried : (n : ℕ) (comes : Bool) → IsTrial old.state n comes command comes (refused_trial n (why_edit why))
+  not_carried n comes = untried why here.1 refl refl
+
+-- ---- what became of a text, with a value beside it
+
+module _ {X : Type 0} (x : X) {S C : Type 0} (Turn : ℕ → S → C → S → List ℕ → Type 0) (number : ℕ) (s : S) (command : C) (next : S) (old new : Option (List ℕ)) (m n : ℕ) (text : List ℕ) (turn : Turn number s command next text) where
+  pub value_taken_by : (r : Result (Unit {0}) Failed) (b : Result X Break) → MatchResult r (λ _. b ≡ Ok x) (λ _. b ≡ Err Unwritten) → Writes {T = Unit {0}} {E = Failed} old new m n text r
+      → OnOk b (IsTurnTaken Turn number s command next old new)
+  value_taken_by (Ok u) b e w = subst (λ (y : Result X Break). OnOk y (IsTurnTaken Turn number s command next old new)) (sym e) (record { text = text; turn = turn; written = w.bytes })
+  value_taken_by (Err f) b e w = subst (λ (y : Result X Break). OnOk y (IsTurnTaken Turn number s command next old new)) (sym e) tt
+
+  pub value_broken_by : (r : Result (Unit {0}) Failed) (b : Result X Break) → MatchResult r (λ _. b ≡ Ok x) (λ _. b ≡ Err Unwritten) → Writes {T = Unit {0}} {E = Failed} old new m n text r
+      → OnErr b (Keeps old new ⊎ IsBroken Turn number s command old new)
+  value_broken_by (Ok u) b e w = subst (λ (y : Result X Break). OnErr y (Keeps old new ⊎ IsBroken Turn number s command old new)) (sym e) tt
+  value_broken_by (Err f) b e w = subst (λ (y : Result X Break). OnErr y (Keeps old new ⊎ IsBroken Turn number s command old new)) (sym e) (inr (record { next = next; text = text; turn = turn; written = w.bytes }))
+
+-- ---- counts
+
+pub zip_more : {A B : Type 0} (R : A → B → Type 0) (xs : List A) (ys : List B) (x : A) (y : B) → AllZip R xs ys → R x y → AllZip R (xs ++ x ∷ []) (ys ++ y ∷ [])
+zip_more R [] [] x y z h = (h, tt)
+zip_more R [] (b ∷ ys) x y z h = absurd z
+zip_more R (a ∷ xs) [] x y z h = absurd z
+zip_more R (a ∷ xs) (b ∷ ys) x y z h = (z.0, zip_more R xs ys x y z.1 h)
 
 -- ---- the end
 
@@ -88,10 +137,6 @@ module _ (opening : State) (commands : List PlainCommand) (old mid new : Option 
 
   abbrev told_so_far : List ℕ → Type 0
   told_so_far text = AreTrialsToldSoFar opening commands text
-
-  -- it broke off in some trial
-  pub trials_front : AreBroken (IsTrial opening) false commands old new → Front told_so_far old new
-  trials_front broken = inr (broken.text, first_of_them broken.turns, broken.written)
 
   by_status : (comes : Bool) → Whole told old new (status_if comes) → Ends told told_so_far (λ _. ⊥) old new (trials_status comes)
   by_status false w = w
@@ -122,13 +167,3 @@ module _ (opening : State) (commands : List PlainCommand) (old mid new : Option 
       by_result : (x : Result (Unit {0}) Failed) → Writes {T = Unit {0}} {E = Failed} mid new m n line.text x → MatchResult x (λ _. s ≡ trials_status comes) (λ _. s ≡ WriteFault) → Ends told told_so_far (λ _. ⊥) old new s
       by_result (Ok u) w f = subst (Ends told told_so_far (λ _. ⊥) old new) (sym f) (by_status comes (out, all, refl, Appends-trans old mid new taken.text line.text taken.written w.bytes))
       by_result (Err x) w f = subst (Ends told told_so_far (λ _. ⊥) old new) (sym f) (inl (inr (out.text, all_of_them out all refl, AppendsFront-after old mid new taken.text line.text taken.written w.bytes)))
-
-no_fault_of : (comes : Bool) → trials_status comes ≡ WriteFault → ⊥
-no_fault_of false e = cc
-no_fault_of true e = cc
-
--- a fault of the last line
-pub trials_fault : (comes : Bool) (mid new : Option (List ℕ)) (k m n : ℕ) (text : List ℕ) (r : Result (Unit {0}) Failed) (s : Status) → k ≤ m → Writes {T = Unit {0}} {E = Failed} mid new m n text r
-    → MatchResult r (λ _. s ≡ trials_status comes) (λ _. s ≡ WriteFault) → s ≡ WriteFault → Rose k n
-trials_fault comes mid new k m n text (Ok u) s early w e f = absurd (no_fault_of comes (sym e ∙ f))
-trials_fault comes mid new k m n text (Err x) s early w e f = rose_since k m n early w.failed

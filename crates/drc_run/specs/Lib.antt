@@ -3,4 +3,5 @@ pub mod Turns
 pub mod Output
 pub mod Endings
 pub mod Refusing
+pub mod Outlooks
 pub mod Running

@@ -12,13 +12,12 @@ use Rattle.undo_log.specs.declared.error.HistoryError.{HistoryError}
 use Rattle.undo_log.specs.declared.error.HistoryError.TheVariants.{OutOfMemory as NoMemoryForStep}
 use Rattle.undo_log.specs.Past.{Past}
 use Rattle.undo_log.specs.Ways.{PlainHistory, IsPastOf}
-use Rattle.pair_check.specs.PlainRow.{PlainRow}
 use Rattle.drc_state.specs.States.{State}
 use Rattle.edit_script.specs.Commands.{PlainCommand}
 use Rattle.drc_run.specs.declared.turns.Break.{Break}
 use Rattle.drc_run.specs.declared.turns.Break.TheVariants.{Unwritten, OutOfMemory}
 use Rattle.drc_run.specs.Reports.{AreFindings, report_text, refused_line, why_edit, why_step}
-use Rattle.drc_run.specs.Turns.{AreTurns, AreFirstTurns, IsStepTurn, IsTrialText}
+use Rattle.drc_run.specs.Turns.{AreTurns, AreFirstTurns, IsStepTurn}
 use Rattle.drc_run.specs.Output.{Output, IsLeastLine, AreTrialsTold, AreFirstTrials}
 
 -- the piece before the place of a refusal
@@ -110,12 +109,6 @@ pub record AreStepsSoFar (was : PlainHistory) (done : List PlainStep) (k number 
   pub taken : (past : Past) → IsPastOf was past → (at : Past) × IsPastOf now at × SoFar IsStepTurn past done k number at old new before faults
 
 -- ---- trials
-
--- what a command would do was written, or a front part of it
-pub record IsTrialWritten (number : ℕ) (s after : State) (come : List PlainRow) (old new : Option (List ℕ)) (before now : ℕ) (result : Result (Unit {0}) Failed) : Type 0 where
-  pub text : List ℕ
-  pub is : IsTrialText number s after come text
-  pub writes : Writes {T = Unit {0}} {E = Failed} old new before now text result
 
 -- the last line was written, or a front part of it
 pub record IsLeastWritten (counts : List (Option ℕ)) (least : Option ℕ) (old new : Option (List ℕ)) (before now : ℕ) (result : Result (Unit {0}) Failed) : Type 0 where

@@ -10,8 +10,11 @@ ghost use Rattle.drc_run.specs.Endings.{EndsFor, Promises};
 
 mod check;
 mod finish;
+mod kept;
 pub mod laws;
 mod lines;
+mod marked;
+mod outlook;
 mod reporting;
 mod rewriting;
 mod status;

@@ -1,179 +1,132 @@
 //! What each command of a script would do alone, and which of them leaves the fewest rows.
 
-ghost use Rattle.std.specs.Prelude.{◌≡◌, ◌≤◌, ◌<◌, ◌⊎◌, ◌++◌, ◌+◌, Option, Some, Err, codes, decimal, false, map, length, All, IfOk, IfErr, slice_get};
-ghost use Rattle.std.specs.List.{flat_map};
+ghost use Rattle.std.specs.Prelude.{◌≡◌, ◌≤◌, ◌<◌, ◌⊎◌, ◌++◌, ◌+◌, ◌||◌, List, [], Option, Some, Ok, Err, codes, decimal, false, map, length, vec_capacity, All, OnOk, OnErr, IfOk, IfErr, IfSome, MatchResult, slice_get};
+ghost use Rattle.std.specs.List.{AllZip};
 ghost use Rattle.std.specs.Io.KnownBytes.{Keeps};
 ghost use Rattle.drc_io.specs.Causes.{Rose};
 ghost use Rattle.drc_io.specs.Sinks.{Writes};
-ghost use Rattle.cond_lang.specs.Rules.{plain_rule};
-ghost use Rattle.edit_script.specs.Commands.{plain_command};
+ghost use Rattle.edit_script.specs.Commands.{PlainCommand, plain_command};
 ghost use Rattle.edit_script.specs.Fits.{Fits};
-ghost use Rattle.pair_check.specs.Rows.{IsRow, HasItems, HasSource};
-ghost use Rattle.drc_rows.specs.Report.{row_line};
-ghost use Rattle.drc_state.specs.States.{checked_in};
-ghost use Rattle.what_if.specs.Trials.{IsDifference, IsLeast};
+ghost use Rattle.pair_check.specs.Rows.{IsRow, AreRows};
+ghost use Rattle.drc_state.specs.States.{State, checked_in};
+ghost use Rattle.what_if.specs.Trials.{IsCount, IsLeast, IsSurvey};
 ghost use Rattle.run_words.specs.Calls.{try};
 ghost use Rattle.run_texts.specs.Views.{opened_in};
 ghost use Rattle.drc_run.specs.declared.status.Status.{Status};
 ghost use Rattle.drc_run.specs.declared.turns.Break.{Break};
-ghost use Rattle.drc_run.specs.Turns.{IsTrial, or_some, marked_lines};
+ghost use Rattle.drc_run.specs.Turns.{IsTrial};
 ghost use Rattle.drc_run.specs.Output.{AreTrialsTold};
-ghost use Rattle.drc_run.specs.Running.{IsTurnTaken, IsBroken, AreTaken, AreBroken, IsTrialWritten, IsLeastWritten, AreTrialsToldSoFar};
+ghost use Rattle.drc_run.specs.Outlooks.{IsGround, outlook_text};
+ghost use Rattle.drc_run.specs.Running.{IsTurnTaken, IsBroken, AreTaken, AreBroken, IsLeastWritten, AreTrialsToldSoFar};
 ghost use Rattle.drc_run.specs.Endings.{Ends, EndsFor, trials_status};
 
 use crate::finish::{after, write_stop};
 use crate::lines::write_refused_trial;
+use crate::marked::write_some;
+use crate::outlook::{Ground, Outlook, outlook_of};
 use crate::status::Status;
-use crate::turns::{Break, told};
+use crate::turns::Break;
 use drc_io::{Failed, Shelf, Sink, put_all};
-use drc_rows::{write_line, write_pieces, write_rows};
+use drc_rows::{write_line, write_pieces};
 use drc_session::Session;
 use edit_script::Command;
 use itoa::Buffer;
-use row_check::laws::{rows_have_items, rows_have_sources};
-use row_check::{CheckView, Row};
+use row_check::Row;
 use run_texts::{Texts, Which, scripted_texts, trials_in};
 use run_words::Scripted;
-use std::alloc::AllocGlobal;
-use std::slice::from_ref;
+use std::alloc::{AllocError, AllocGlobal, Global};
 use std::thread::Threads;
 use tile_pool::Gate;
-use what_if::{Desk, Survey, Trial, TrialError, survey};
-
-/// Writes the line of a row behind a mark.
-fn write_marked_row<W: Sink>(
-    mark: &[u8],
-    view: &CheckView<'_>,
-    row: &Row,
-    out: &mut W,
-) -> Result<(), Failed>
-    requires items { HasItems view.now.board.now row.now }
-    requires source { HasSource (map plain_rule view.now.rules.now) row.now }
-    ensures { Writes (W.written out.old) (W.written out.new) (W.faults out.old) (W.faults out.new) (mark.now ++ row_line view.now.board.now (map plain_rule view.now.rules.now) row.now) result }
-{
-    put_all(out, mark)?;
-    write_rows(view, from_ref(row), out)
-}
-
-/// Writes the lines of rows, each behind a mark.
-fn write_marked<W: Sink>(
-    mark: &[u8],
-    view: &CheckView<'_>,
-    rows: &[Row],
-    out: &mut W,
-) -> Result<(), Failed>
-    requires items { All (HasItems view.now.board.now) rows.now }
-    requires sources { All (HasSource (map plain_rule view.now.rules.now)) rows.now }
-    ensures { Writes (W.written out.old) (W.written out.new) (W.faults out.old) (W.faults out.new)
-        (flat_map (λ row. mark.now ++ row_line view.now.board.now (map plain_rule view.now.rules.now) row) rows.now) result }
-{
-    for row in rows {
-        write_marked_row(mark, view, row, out)?;
-    }
-    Ok(())
-}
-
-/// Writes the lines of some rows of a session that is not stopped, each behind a mark.
-fn write_some<W: Sink>(
-    mark: &[u8],
-    session: &Session,
-    rows: &[Row],
-    out: &mut W,
-) -> Result<(), Failed>
-    requires running { session.now.stopped ≡ false }
-    requires rows { All (IsRow (checked_in session.now.state)) rows.now }
-    ensures { Writes (W.written out.old) (W.written out.new) (W.faults out.old) (W.faults out.new) (marked_lines mark.now session.now.state rows.now) result }
-{
-    rows_have_items();
-    rows_have_sources();
-    let _ = session.rows();
-    write_marked(mark, &session.view(), rows, out)
-}
+use what_if::{Survey, TrialError, survey, survey_of};
 
 /// Writes what a command would do: the rows that would go, those that would come, and how many there would be.
-fn write_trial<W: Sink>(
+fn write_outlook<W: Sink>(
     number: u64,
     session: &Session,
-    trial: &Trial,
+    outlook: &Outlook,
     out: &mut W,
 ) -> Result<(), Failed>
     requires running { session.now.stopped ≡ false }
-    requires running_then { trial.now.session.stopped ≡ false }
-    requires differ { IsDifference session.now.state trial.now.session.state trial.now.come.items trial.now.gone.items }
-    ensures { IsTrialWritten number session.now.state trial.now.session.state trial.now.come.items (W.written out.old) (W.written out.new) (W.faults out.old) (W.faults out.new) result }
+    requires gone { All (IsRow (checked_in session.now.state)) outlook.now.gone.items }
+    ensures { Writes (W.written out.old) (W.written out.new) (W.faults out.old) (W.faults out.new) (outlook_text number session.now.state outlook.now) result }
 {
-    let rows = trial.session.rows();
-    let gone = trial.gone.as_slice();
-    let come = trial.come.as_slice();
+    let gone = outlook.gone.as_slice();
+    let lines = outlook.lines.as_slice();
     write_line(b"trial ", number, b"", out)?;
     write_some(b"- ", session, gone, out)?;
-    write_some(b"+ ", &trial.session, come, out)?;
-    write_line(b"rows ", rows.len() as u64, b"", out)
+    put_all(out, lines)?;
+    write_line(b"rows ", outlook.count, b"", out)
 }
 
-/// What commands are tried on, and by how many workers, from 1 to 8.
-#[derive(Drop)]
-struct Ground<'a> {
-    desk: Desk<'a>,
-    workers: u32,
-}
-
-/// Whether some row came so far, once these come.
-fn or_some(comes: bool, come: &[Row]) -> bool
-    ensures { result ≡ or_some comes come.now }
+/// Whether one of the two holds.
+fn either(before: bool, now: bool) -> bool
+    ensures { result ≡ before || now }
 {
-    match come {
-        [] => comes,
-        _ => true,
+    before || now
+}
+
+/// What became of the text of a trial, and how many rows there would be.
+fn counted(written: Result<(), Failed>, count: Option<u64>) -> Result<Option<u64>, Break>
+    ensures { MatchResult written (λ _. result ≡ Ok count) (λ _. result ≡ Err Break.Unwritten) }
+{
+    match written {
+        Ok(()) => Ok(count),
+        Err(Failed) => Err(Break::Unwritten),
     }
 }
 
 /// The turn of a command: it is tried alone, and what it would do is written, or it is refused and its line is written. Where memory runs
-/// out, nothing is. `comes` says whether a row would come by this command or by one before it.
+/// out, nothing is. It gives how many rows there would be, and `comes` says whether a row would come by this command or by one before it.
 fn turn<R: Threads + Sync + AllocGlobal, W: Sink, G: Gate>(
     rt: &R,
     gate: &G,
-    ground: &mut Ground<'_>,
+    ground: Ground<'_>,
     number: u64,
     command: &Command<'_>,
+    session: &mut Session,
     comes: &mut bool,
     out: &mut W,
-) -> Result<(), Break>
-    requires workers { (1 ≤ ground.old.workers) × (ground.old.workers ≤ 8) }
+) -> Result<Option<u64>, Break>
+    requires ground { IsGround session.old ground }
     requires fits { Fits (plain_command command.now) }
-    ensures same { (ground.new.desk ≡ ground.old.desk) × (ground.new.workers ≡ ground.old.workers) }
-    ensures taken { IfOk result (λ _. IsTurnTaken (IsTrial ground.old.desk.state) number comes.old (plain_command command.now) comes.new (W.written out.old) (W.written out.new)) }
-    ensures broken { IfErr result (λ _. Keeps (W.written out.old) (W.written out.new) ⊎ IsBroken (IsTrial ground.old.desk.state) number comes.old (plain_command command.now) (W.written out.old) (W.written out.new)) }
+    ensures ground { OnOk result (IsGround session.new ground.entry) }
+    ensures same { OnOk result (session.new.state ≡ session.old.state) }
+    ensures taken { OnOk result (IsTurnTaken (IsTrial session.old.state) number comes.old (plain_command command.now) comes.new (W.written out.old) (W.written out.new)) }
+    ensures count { IfOk result (IsCount session.old.state (plain_command command.now)) }
+    ensures broken { OnErr result (Keeps (W.written out.old) (W.written out.new) ⊎ IsBroken (IsTrial session.old.state) number comes.old (plain_command command.now) (W.written out.old) (W.written out.new)) }
     ensures fault { result ≡ Err Break.Unwritten → Rose (W.faults out.old) (W.faults out.new) }
     ensures later { W.faults out.old ≤ W.faults out.new }
 {
-    let session = ground.desk.lent();
-    match ground.desk.trial(rt, ground.workers, command, gate) {
-        Ok((tried, back)) => {
-            *comes = or_some(*comes, tried.come.as_slice());
-            let written = write_trial(number, session, &tried, out);
-            ground
-                .desk
-                .put_back(rt, ground.workers, command, tried, back);
-            told(written)
+    match outlook_of(rt, gate, ground, command, session) {
+        Ok(outlook) => {
+            *comes = either(*comes, outlook.comes);
+            let written = write_outlook(number, session, &outlook, out);
+            counted(written, Some(outlook.count))
         }
-        Err(TrialError::Refused { inner, .. }) => told(write_refused_trial(number, &inner, out)),
+        Err(TrialError::Refused { inner, .. }) => {
+            counted(write_refused_trial(number, &inner, out), None)
+        }
         Err(TrialError::OutOfMemory) => Err(Break::OutOfMemory),
     }
 }
 
-/// The turns of all commands, numbered from 1, and whether a row would come by one of them.
+/// The turns of all commands, numbered from 1, whether a row would come by one of them, and how many rows there would be after each.
 fn turns<R: Threads + Sync + AllocGlobal, W: Sink, G: Gate>(
     rt: &R,
     gate: &G,
-    ground: &mut Ground<'_>,
+    ground: Ground<'_>,
     commands: &[Command<'_>],
+    session: &mut Session,
+    counts: &mut Vec<Option<u64>>,
     out: &mut W,
 ) -> Result<bool, Break>
-    requires workers { (1 ≤ ground.old.workers) × (ground.old.workers ≤ 8) }
+    requires ground { IsGround session.old ground }
     requires fit { All Fits (map plain_command commands.now) }
-    ensures taken { IfOk result (λ comes. AreTaken (IsTrial ground.old.desk.state) false (map plain_command commands.now) comes (W.written out.old) (W.written out.new)) }
-    ensures broken { IfErr result (λ _. AreBroken (IsTrial ground.old.desk.state) false (map plain_command commands.now) (W.written out.old) (W.written out.new)) }
+    requires none { counts.old.items ≡ [] }
+    requires room { length commands.now ≤ vec_capacity counts.old }
+    ensures taken { IfOk result (λ comes. AreTaken (IsTrial session.old.state) false (map plain_command commands.now) comes (W.written out.old) (W.written out.new)) }
+    ensures counts { OnOk result (AllZip (IsCount session.old.state) (map plain_command commands.now) counts.new.items) }
+    ensures broken { OnErr result (AreBroken (IsTrial session.old.state) false (map plain_command commands.now) (W.written out.old) (W.written out.new)) }
     ensures fault { result ≡ Err Break.Unwritten → Rose (W.faults out.old) (W.faults out.new) }
     ensures later { W.faults out.old ≤ W.faults out.new }
 {
@@ -181,9 +134,42 @@ fn turns<R: Threads + Sync + AllocGlobal, W: Sink, G: Gate>(
     let mut comes = false;
     for command in commands {
         number += 1;
-        turn(rt, gate, ground, number, command, &mut comes, out)?;
+        let count = turn(rt, gate, ground, number, command, session, &mut comes, out)?;
+        counts.push_reserved(count);
     }
     Ok(comes)
+}
+
+/// The survey of the commands by workers, each on a copy of its own. One worker has none: the trials that are written tell it the counts.
+fn surveyed<R: Threads + Sync + AllocGlobal, G: Gate>(
+    rt: &R,
+    gate: &G,
+    session: &Session,
+    workers: u32,
+    commands: &[Command<'_>],
+) -> Result<Option<Survey>, AllocError>
+    requires workers { (1 ≤ workers) × (workers ≤ 8) }
+    requires running { session.now.stopped ≡ false }
+    requires few { length commands.now ≤ 15_625 }
+    requires fit { All Fits (map plain_command commands.now) }
+    ensures { IfOk result (λ found. IfSome found (λ s. IsSurvey session.now.state (map plain_command commands.now) s.counts.items s.least)) }
+{
+    if workers == 1 {
+        return Ok(None);
+    }
+    let found = survey(session, rt, workers, commands, gate)?;
+    Ok(Some(found))
+}
+
+/// The survey of the workers, or else that of the counts.
+fn survey_by(found: Option<Survey>, counts: Vec<Option<u64>>) -> Survey
+    requires { length counts.items ≤ 15_625 }
+    ensures { (s : State) (commands : List PlainCommand) → IfSome found (λ x. IsSurvey s commands x.counts.items x.least) → AllZip (IsCount s) commands counts.items → IsSurvey s commands result.counts.items result.least }
+{
+    match found {
+        Some(found) => found,
+        None => survey_of(counts),
+    }
 }
 
 /// The count of the place, which has one.
@@ -237,31 +223,41 @@ fn status_of(comes: bool) -> Status
 fn go_through<R: Threads + Sync + AllocGlobal, W: Sink, G: Gate>(
     rt: &R,
     gate: &G,
-    session: &Session,
-    workers: u32,
+    ground: Ground<'_>,
+    session: &mut Session,
     commands: &[Command<'_>],
     out: &mut W,
 ) -> Status
-    requires workers { (1 ≤ workers) × (workers ≤ 8) }
-    requires running { session.now.stopped ≡ false }
+    requires ground { IsGround session.old ground }
     requires fit { All Fits (map plain_command commands.now) }
     requires few { length commands.now ≤ 15_625 }
-    ensures ends { Ends (AreTrialsTold session.now.state (map plain_command commands.now)) (AreTrialsToldSoFar session.now.state (map plain_command commands.now)) (λ _. ⊥) (W.written out.old) (W.written out.new) result }
+    ensures ends { Ends (AreTrialsTold session.old.state (map plain_command commands.now)) (AreTrialsToldSoFar session.old.state (map plain_command commands.now)) (λ _. ⊥) (W.written out.old) (W.written out.new) result }
     ensures fault { result ≡ Status.WriteFault → Rose (W.faults out.old) (W.faults out.new) }
 {
-    let survey = match survey(session, rt, workers, commands, gate) {
-        Ok(survey) => survey,
+    let found = match surveyed(rt, gate, session, ground.workers, commands) {
+        Ok(found) => found,
         Err(_) => return Status::OutOfMemory,
     };
-    let mut ground = Ground {
-        desk: Desk::new(session),
-        workers,
+    let mut counts = match Vec::with_capacity(rt.alloc(), commands.len()) {
+        Ok(counts) => counts,
+        Err(_) => return Status::OutOfMemory,
     };
-    match turns(rt, gate, &mut ground, commands, out) {
-        Ok(comes) => after(write_least(&survey, out), status_of(comes)),
+    match turns(rt, gate, ground, commands, session, &mut counts, out) {
+        Ok(comes) => after(
+            write_least(&survey_by(found, counts), out),
+            status_of(comes),
+        ),
         Err(Break::Unwritten) => Status::WriteFault,
         Err(Break::OutOfMemory) => Status::OutOfMemory,
     }
+}
+
+/// The rows of a session that is not stopped, to be kept while it is edited.
+fn kept_rows(alloc: Global, session: &Session) -> Result<Vec<Row>, AllocError>
+    requires { session.now.stopped ≡ false }
+    ensures { IfOk result (λ rows. AreRows (checked_in session.now.state) rows.items) }
+{
+    Vec::from_slice(alloc, session.rows())
 }
 
 /// Checks the board of the texts, tries each command on it, and writes what they would do.
@@ -280,10 +276,26 @@ fn report<R: Threads + Sync + AllocGlobal, W: Sink, G: Gate>(
     ensures ends { Ends (AreTrialsTold (opened_in texts) (map plain_command commands.now)) (AreTrialsToldSoFar (opened_in texts) (map plain_command commands.now)) (λ _. ⊥) (W.written out.old) (W.written out.new) result }
     ensures fault { result ≡ Status.WriteFault → Rose (W.faults out.old) (W.faults out.new) }
 {
-    match Session::begin(rt, workers, texts.board, texts.classes, texts.rules, gate) {
-        Ok((session, _)) => go_through(rt, gate, &session, workers, commands, out),
-        Err(_) => Status::OutOfMemory,
-    }
+    let mut session = match Session::begin(
+        rt,
+        workers,
+        texts.board,
+        texts.classes,
+        texts.rules,
+        gate,
+    ) {
+        Ok((session, _)) => session,
+        Err(_) => return Status::OutOfMemory,
+    };
+    let before = match kept_rows(rt.alloc(), &session) {
+        Ok(rows) => rows,
+        Err(_) => return Status::OutOfMemory,
+    };
+    let ground = Ground {
+        before: &before,
+        workers,
+    };
+    go_through(rt, gate, ground, &mut session, commands, out)
 }
 
 /// Fetches and reads the board and the script, and tries each of its commands alone, by so many workers, from 1 to 8.

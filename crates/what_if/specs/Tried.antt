@@ -1,13 +1,15 @@
 -- What a trial gives, and why there is none.
-use Rattle.std.specs.Prelude.{◌≡◌, ◌≢◌, ℕ, false, List, Err}
+use Rattle.std.specs.Prelude.{◌≡◌, ◌≢◌, ℕ, false, List, Ok, Err}
 use Rattle.edit_script.specs.Commands.{PlainCommand}
 use Rattle.drc_state.specs.declared.error.EditError.TheVariants.{Stopped, OutOfMemory as NoMemory}
 use Rattle.drc_state.specs.States.{State}
 use Rattle.drc_state.specs.Steps.{Answers}
-use Rattle.drc_session.specs.Sessions.{IsChecked}
+use Rattle.drc_state.specs.Changes.{plain_change, LeadsBack}
+use Rattle.drc_session.specs.Sessions.{PlainSession, IsChecked}
 use Rattle.what_if.specs.declared.error.TrialError.{TrialError}
 use Rattle.what_if.specs.declared.error.TrialError.TheVariants.{Refused, OutOfMemory}
 use Rattle.what_if.specs.declared.outcome.Trial.{Trial}
+use Rattle.what_if.specs.declared.outcome.Taken.{Taken}
 use Rattle.what_if.specs.Trials.{LeadTo, StopsAt, IsDifference}
 
 -- the session of the trial took the commands: it runs, its rows and nets are those of its state, and beside it stand those that come
@@ -27,3 +29,16 @@ IsRefusal s commands OutOfMemory = Unit {0}
 abbrev pub IsRefusedAt : State → PlainCommand → ℕ → TrialError → Type 0
 IsRefusedAt s command place (Refused step inner) = (step ≡ place) × Answers s command (Err inner) × (inner ≢ Stopped) × (inner ≢ NoMemory)
 IsRefusedAt s command place OutOfMemory = Unit {0}
+
+-- ---- on the session itself
+
+-- the session took the command: beside it stand the rows that come and go, and the change that leads back
+pub record IsTaken (before : State) (command : PlainCommand) (after : State) (taken : Taken) : Type 0 where
+  pub answer : Answers before command (Ok after)
+  pub differ : IsDifference before after taken.come.items taken.gone.items
+  pub back : LeadsBack (plain_change taken.back) after before
+
+-- it did not: the command is refused, by the rules of what is edited, and all is as it was, or memory ran out
+abbrev pub IsRefusedHere : PlainSession → PlainSession → PlainCommand → TrialError → Type 0
+IsRefusedHere old new command (Refused step inner) = (step ≡ 0) × Answers old.state command (Err inner) × (inner ≢ Stopped) × (inner ≢ NoMemory) × (new ≡ old)
+IsRefusedHere old new command OutOfMemory = Unit {0}

@@ -1,18 +1,16 @@
 //! A copy of a session on which commands are tried one after another, each turned back before the next.
 
-ghost use Rattle.std.specs.Prelude.{◌≡◌, ◌<◌, ◌≤◌, ◌∷◌, [], true, false, Ok, IfOk, IfErr};
+ghost use Rattle.std.specs.Prelude.{◌≡◌, ◌<◌, ◌≤◌, false, Ok, IfOk, IfErr};
 ghost use Rattle.edit_script.specs.Commands.{plain_command};
 ghost use Rattle.edit_script.specs.Fits.{Fits};
 ghost use Rattle.drc_state.specs.Steps.{Answers};
 ghost use Rattle.drc_state.specs.Changes.{plain_change, LeadsBack};
 ghost use Rattle.what_if.specs.Trials.{IsCount};
-ghost use Rattle.what_if.specs.Tried.{IsTrialOf, IsRefusedAt};
-ghost use Rattle.what_if.specs.Desks.{adds};
+ghost use Rattle.what_if.specs.Tried.{IsRefusedAt};
 
 use crate::error::TrialError;
+use crate::here::is_turned_back;
 use crate::laws::turned_back;
-use crate::outcome::Trial;
-use crate::trying::{difference, is_checked};
 use drc_session::Session;
 use drc_state::{Change, EditError};
 use edit_script::Command;
@@ -24,7 +22,7 @@ use tile_pool::{Gate, NoGate};
 /// A session that is lent and stays as it is, and a copy of it, made where there is need of one and kept from command to command: so many
 /// commands cost as many edits, and not as many copies. Contracts see the session that is lent.
 #[derive(Drop)]
-pub struct Desk<'a> {
+pub(crate) struct Desk<'a> {
     session: &'a Session,
     copy: Option<Session>,
 }
@@ -44,20 +42,9 @@ impl<'a> Model for Desk<'a> {
     ghost invariant = { λ d. IsDesk d.session.now d.copy };
 }
 
-/// Whether a copy that took the command is turned back. After a list that is added it cannot be, since the numbers that come next do not go
-/// back; and to check the whole board again under the rules from before takes longer than a copy.
-fn is_turned_back(command: &Command<'_>) -> bool
-    ensures { result ≡ true → adds (plain_command command.now) ≡ false }
-{
-    match command {
-        Command::Delete { .. } | Command::Move { .. } | Command::Again { .. } => true,
-        Command::Add { .. } | Command::Rules { .. } => false,
-    }
-}
-
 impl<'a> Desk<'a> {
     /// A desk for a session that is not stopped. It takes no memory.
-    pub fn new(session: &'a Session) -> Desk<'a>
+    pub(crate) fn new(session: &'a Session) -> Desk<'a>
         requires { session.now.stopped ≡ false }
         ensures { result ≡ session.now }
     {
@@ -65,14 +52,6 @@ impl<'a> Desk<'a> {
             session,
             copy: None,
         }
-    }
-
-    /// The session that is lent. It is not stopped.
-    pub fn lent(&self) -> &'a Session
-        ensures same { result.now ≡ self.now }
-        ensures running { result.now.stopped ≡ false }
-    {
-        self.session
     }
 
     /// The copy, which is kept no more, or a new one.
@@ -155,51 +134,5 @@ impl<'a> Desk<'a> {
             Err(TrialError::Refused { .. }) => Ok(None),
             Err(TrialError::OutOfMemory) => Err(AllocError),
         }
-    }
-
-    /// The trial of the command alone, with so many workers, from 1 to 64, and the change that leads back: the session of the trial is the
-    /// copy, which goes back by `put_back`. `Refused` says exactly that the command is refused.
-    pub fn trial<R: Threads + Sync + AllocGlobal, G: Gate>(
-        &mut self,
-        rt: &R,
-        workers: u32,
-        command: &Command<'_>,
-        gate: &G,
-    ) -> Result<(Trial, Change), TrialError>
-        requires workers { (0 < workers) × (workers ≤ 64) }
-        requires fits { Fits (plain_command command.now) }
-        ensures same { self.new ≡ self.old }
-        ensures tried { IfOk result (λ r. IsTrialOf self.old.state (plain_command command.now ∷ []) r.0) }
-        ensures back { IfOk result (λ r. LeadsBack (plain_change r.1) r.0.session.state self.old.state) }
-        ensures refused { IfErr result (IsRefusedAt self.old.state (plain_command command.now) 0) }
-    {
-        let (copy, back) = self.take(rt, workers, command, gate)?;
-        is_checked(&copy);
-        let (come, gone) = difference(rt.alloc(), self.session, &copy)?;
-        let tried = Trial {
-            session: copy,
-            come,
-            gone,
-        };
-        Ok((tried, back))
-    }
-
-    /// Turns the session of a trial of the command back and keeps it for the next one, but for a command that adds a list or replaces the
-    /// rules. It answers nothing: where the session is not kept, or memory runs out, the next trial makes a copy.
-    pub fn put_back<R: Threads + Sync + AllocGlobal>(
-        &mut self,
-        rt: &R,
-        workers: u32,
-        command: &Command<'_>,
-        trial: Trial,
-        back: Change,
-    )
-        requires workers { (0 < workers) × (workers ≤ 64) }
-        requires tried { IsTrialOf self.old.state (plain_command command.now ∷ []) trial }
-        requires back { LeadsBack (plain_change back) trial.session.state self.old.state }
-        ensures same { self.new ≡ self.old }
-    {
-        let Trial { session, .. } = trial;
-        self.turn_back(rt, workers, command, session, back);
     }
 }

@@ -1,6 +1,7 @@
 //! What a trial and a survey give.
 
 use drc_session::Session;
+use drc_state::Change;
 use row_check::Row;
 
 /// A session that took the commands, and which rows come and which go by them. Rows are told apart by all that their readers give.
@@ -12,6 +13,18 @@ pub struct Trial {
     pub come: Vec<Row>,
     /// The rows that the lent session has and it has not, in order.
     pub gone: Vec<Row>,
+}
+
+/// What a command did to a session: which rows came and which went by it, and the change that leads back. Rows are told apart by all that
+/// their readers give.
+#[derive(Drop)]
+pub struct Taken {
+    /// The rows that the session has and had not before, in order.
+    pub come: Vec<Row>,
+    /// The rows that it had before and has no more, in order.
+    pub gone: Vec<Row>,
+    /// It leads back to the state from before, but for the numbers that come next.
+    pub back: Change,
 }
 
 /// What each of the commands would leave if it were the only one.

@@ -4,7 +4,7 @@ ghost use Rattle.std.specs.Prelude.{◌≡◌, ◌<◌, ◌≤◌, false, All, m
 ghost use Rattle.std.specs.List.{AllZip};
 ghost use Rattle.edit_script.specs.Commands.{plain_command};
 ghost use Rattle.edit_script.specs.Fits.{Fits};
-ghost use Rattle.what_if.specs.Trials.{IsCount, IsSurvey};
+ghost use Rattle.what_if.specs.Trials.{IsCount, IsLeast, IsSurvey};
 
 use crate::least::first_least;
 use crate::outcome::Survey;
@@ -42,6 +42,16 @@ fn counts_of<R: Threads + Sync + AllocGlobal, G: Gate>(
     in_order(rt.alloc(), session, commands, &runs)
 }
 
+/// The survey that counts make, at most 2^32 of them.
+pub fn survey_of(counts: Vec<Option<u64>>) -> Survey
+    requires { length counts.items ≤ 4294967296 }
+    ensures counts { result.counts.items ≡ counts.items }
+    ensures least { IsLeast counts.items result.least }
+{
+    let least = first_least(&counts);
+    Survey { counts, least }
+}
+
 /// Tries each of at most 15,625 commands alone, on a copy of the session. They are dealt to so many workers, from 1 to 64, and the gate
 /// is called before and after each command with its place. A worker turns its copy back after each command, and makes another after
 /// one that adds a list or replaces the rules. The session that is lent must not be stopped, and it stays as it is. Only want of
@@ -60,6 +70,5 @@ pub fn survey<R: Threads + Sync + AllocGlobal, G: Gate>(
     ensures { IfOk result (λ s. IsSurvey session.now.state (map plain_command commands.now) s.counts.items s.least) }
 {
     let counts = counts_of(session, rt, workers, commands, gate)?;
-    let least = first_least(&counts);
-    Ok(Survey { counts, least })
+    Ok(survey_of(counts))
 }

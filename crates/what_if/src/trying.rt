@@ -1,8 +1,11 @@
 //! Commands that are tried one after another.
 
 ghost use Rattle.std.specs.Prelude.{◌≡◌, ◌<◌, ◌≤◌, false, Ok, Err, All, map, length, OnOk, IfOk, IfErr};
+ghost use Rattle.std.specs.List.{AllPairs};
 ghost use Rattle.edit_script.specs.Commands.{plain_command};
 ghost use Rattle.edit_script.specs.Fits.{Fits};
+ghost use Rattle.pair_check.specs.Rows.{Before, AreRows};
+ghost use Rattle.drc_state.specs.States.{State, checked_in};
 ghost use Rattle.drc_state.specs.Steps.{Answers};
 ghost use Rattle.drc_session.specs.Sessions.{IsChecked};
 ghost use Rattle.what_if.specs.Trials.{LeadTo, IsDifference};
@@ -64,18 +67,18 @@ fn take_all<R: Threads + Sync + AllocGlobal, G: Gate>(
     Ok(())
 }
 
-/// Which rows come, and which go.
+/// Which rows come, and which go, since a state had these rows.
 pub(crate) fn difference(
     alloc: Global,
-    before: &Session,
+    before: &[Row],
     after: &Session,
 ) -> Result<(Vec<Row>, Vec<Row>), AllocError>
-    requires before { before.now.stopped ≡ false }
+    requires before { AllPairs Before before.now }
     requires after { after.now.stopped ≡ false }
-    ensures { IfOk result (λ r. IsDifference before.now.state after.now.state r.0.items r.1.items) }
+    ensures { (s : State) → AreRows (checked_in s) before.now → IfOk result (λ r. IsDifference s after.now.state r.0.items r.1.items) }
 {
-    let come = rows_missing(alloc, before.rows(), after.rows())?;
-    let gone = rows_missing(alloc, after.rows(), before.rows())?;
+    let come = rows_missing(alloc, before, after.rows())?;
+    let gone = rows_missing(alloc, after.rows(), before)?;
     Ok((come, gone))
 }
 
@@ -128,7 +131,7 @@ pub fn trial<R: Threads + Sync + AllocGlobal, G: Gate>(
 {
     let tried = taken(session, rt, workers, commands, gate)?;
     is_checked(&tried);
-    let (come, gone) = difference(rt.alloc(), session, &tried)?;
+    let (come, gone) = difference(rt.alloc(), session.rows(), &tried)?;
     Ok(Trial {
         session: tried,
         come,

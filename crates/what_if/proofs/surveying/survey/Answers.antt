@@ -1,9 +1,9 @@
-use Rattle.std.proofs.Common.{length, arith, ap}
+use Rattle.std.proofs.Common.{arith}
 use Rattle.what_if.specs.Trials.{IsCount}
 use Rattle.what_if.proofs.Each.{as_many}
 use Rattle.what_if.proofs.surveying.survey.Goals as goal
 
-pub first_least-least-requires : goal.first_least-least-requires
-first_least-least-requires g c =
+pub survey_of-requires : goal.survey_of-requires
+survey_of-requires g c =
     let many = as_many (IsCount c.args.session.now.state) c.args.commands.now c.in_ok-counts.counts.items c.in_ok-counts.ensures in
-    omega (arith, many, c.requires.few, ap length c.deref.ensures.value)
+    omega (arith, many, c.requires.few)

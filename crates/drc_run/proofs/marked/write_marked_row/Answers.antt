@@ -5,7 +5,7 @@ use Rattle.cond_lang.specs.Rules.{plain_rule}
 use Rattle.pair_check.specs.Rows.{HasItems, HasSource}
 use Rattle.drc_rows.specs.Report.{row_line}
 use Rattle.drc_run.proofs.Trials.{all_one, one_alone}
-use Rattle.drc_run.proofs.trying.write_marked_row.Goals as goal
+use Rattle.drc_run.proofs.marked.write_marked_row.Goals as goal
 
 pub write_rows-requires-clause-items : goal.write_rows-requires-clause-items
 write_rows-requires-clause-items g c =

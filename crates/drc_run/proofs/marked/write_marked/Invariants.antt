@@ -5,7 +5,7 @@ use Rattle.drc_io.specs.Sinks.{Writes}
 use Rattle.cond_lang.specs.Rules.{plain_rule}
 use Rattle.pair_check.specs.PlainRow.{PlainRow}
 use Rattle.drc_rows.specs.Report.{row_line}
-use Rattle.drc_run.proofs.trying.write_marked.Given as goal
+use Rattle.drc_run.proofs.marked.write_marked.Given as goal
 
 -- the lines of the rows that have been passed are written
 abbrev pub invariant-loop-row : goal.invariant-loop-row

@@ -6,7 +6,7 @@ use Rattle.pair_check.specs.PlainRow.{PlainRow}
 use Rattle.pair_check.specs.Rows.{HasItems, HasSource}
 use Rattle.drc_rows.specs.Report.{row_line}
 use Rattle.drc_rows.proofs.Lines.{flat_more_at, flat_rest_at, Writes-cut}
-use Rattle.drc_run.proofs.trying.write_marked.Goals as goal
+use Rattle.drc_run.proofs.marked.write_marked.Goals as goal
 
 pub write_marked_row-requires-clause-items : goal.write_marked_row-requires-clause-items
 write_marked_row-requires-clause-items g c =

@@ -6,7 +6,7 @@ use Rattle.pair_check.specs.Rows.{Checked, HasItems, HasSource}
 use Rattle.drc_rows.specs.Report.{row_line}
 use Rattle.drc_state.specs.States.{checked_in}
 use Rattle.drc_run.proofs.Trials.{each_row}
-use Rattle.drc_run.proofs.trying.write_some.Goals as goal
+use Rattle.drc_run.proofs.marked.write_some.Goals as goal
 
 pub write_marked-requires-clause-items : goal.write_marked-requires-clause-items
 write_marked-requires-clause-items g c =
