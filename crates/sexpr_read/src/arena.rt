@@ -61,6 +61,20 @@ impl Arena {
         self.innermost == 0
     }
 
+    /// Appends a cell. Mostly there is room for it, and then it goes right where it will stand.
+    #[inline(always)]
+    fn push(&mut self, cell: Cell) -> Result<(), AllocError>
+        ensures cells { OnOk result (self.new.cells.items ≡ self.old.cells.items ++ cell ∷ []) }
+        ensures innermost { self.new.innermost ≡ self.old.innermost }
+    {
+        if self.cells.len() == self.cells.capacity() {
+            self.cells.reserve(1)?;
+        }
+        self.cells.push_reserved(cell);
+        Ok(())
+    }
+
+    #[inline(always)]
     pub fn add_atom(&mut self, at: usize, end: usize) -> Result<(), AllocError>
         requires at { at < 2 ^ 32 }
         requires end { end < 2 ^ 32 }
@@ -68,15 +82,14 @@ impl Arena {
             ≡ self.old.cells.items ++ record { at = at; end = end; inside = 0 } ∷ []) }
         ensures innermost { self.new.innermost ≡ self.old.innermost }
     {
-        let cell = Cell {
+        self.push(Cell {
             at: at as u32,
             end: end as u32,
             inside: 0,
-        };
-        self.cells.push(cell)?;
-        Ok(())
+        })
     }
 
+    #[inline(always)]
     pub fn open_list(&mut self, at: usize) -> Result<(), AllocError>
         requires at { at < 2 ^ 32 }
         requires room { vec_len self.old.cells + 1 < 2 ^ 32 }
@@ -84,12 +97,11 @@ impl Arena {
             ≡ self.old.cells.items ++ record { at = at; end = 0; inside = self.old.innermost } ∷ []) }
         ensures innermost { OnOk result (self.new.innermost ≡ vec_len self.old.cells + 1) }
     {
-        let opened = Cell {
+        self.push(Cell {
             at: at as u32,
             end: 0,
             inside: self.innermost,
-        };
-        self.cells.push(opened)?;
+        })?;
         self.innermost = self.cells.len() as u32;
         Ok(())
     }
