@@ -6,6 +6,7 @@ ghost use Rattle.board_index.specs.Holding.{IsIndexOfItems};
 ghost use Rattle.cond_lang.specs.Rules.{plain_rule};
 ghost use Rattle.rule_pick.specs.AllFacts.{HasFacts};
 ghost use Rattle.rule_pick.specs.Reach.{IsReach};
+ghost use Rattle.net_groups.specs.NetParts.{AreParts};
 ghost use Rattle.rule_text.specs.Views.{plain_rules};
 ghost use Rattle.drc_session.specs.Sessions.{IsOpened, IsDealt};
 ghost use Rattle.drc_session.specs.Holding.{state_of, IsKept};
@@ -20,7 +21,7 @@ use box_index::TileIndex;
 use cond_lang::Rule;
 use item_facts::reach;
 use kept_facts::all_facts_by;
-use kept_nets::all_parts;
+use kept_nets::{NetPart, all_parts};
 use net_class::Classes;
 use row_check::CheckView;
 use rule_pick::FactsById;
@@ -46,8 +47,8 @@ fn reach_and_index(
     Ok((reach, index))
 }
 
-/// The facts of all items, and beside them, where there are several workers, the reach and the index.
-fn facts_and_index(
+/// The facts of all items, and beside them the reach and the index.
+fn facts_beside_index(
     rt: &(impl Threads + Sync),
     alloc: Global,
     workers: u32,
@@ -61,11 +62,6 @@ fn facts_and_index(
     ensures items { IfOk result (λ r. IsIndexOfItems board.now r.1.1) }
     ensures reach { IfOk result (λ r. r.1.1.reach ≡ r.1.0) }
 {
-    if workers == 1 {
-        let facts = all_facts_by(rt, alloc, workers, board, classes)?;
-        let found = reach_and_index(alloc, board, classes, rules)?;
-        return Ok((facts, found));
-    }
     let (facts, found) = join(
         rt,
         || -> Result<FactsById, AllocError>
@@ -79,6 +75,35 @@ fn facts_and_index(
         { reach_and_index(alloc, board, classes, rules) },
     );
     Ok((facts?, found?))
+}
+
+/// The facts of all items, the reach and the index, and the nets. By one worker the nets come before the facts, which stay: a large
+/// net takes room for a while, more than its facts take. By several the facts and the index are found beside each other, and the nets
+/// behind both.
+fn find(
+    rt: &(impl Threads + Sync),
+    alloc: Global,
+    workers: u32,
+    board: &Board,
+    classes: &Classes,
+    rules: &[Rule],
+) -> Result<(FactsById, (Nm, TileIndex), Vec<NetPart>), AllocError>
+    ensures facts { IfOk result (λ r. HasFacts board.now classes.now r.0) }
+    ensures value { IfOk result (λ r. IsReach board.now classes.now (map plain_rule rules.now) r.1.0) }
+    ensures in_range { IfOk result (λ r. IsLength r.1.0) }
+    ensures items { IfOk result (λ r. IsIndexOfItems board.now r.1.1) }
+    ensures reach { IfOk result (λ r. r.1.1.reach ≡ r.1.0) }
+    ensures nets { IfOk result (λ r. AreParts board.now r.2.items) }
+{
+    if workers == 1 {
+        let found = reach_and_index(alloc, board, classes, rules)?;
+        let nets = all_parts(rt, alloc, workers, board, &found.1)?;
+        let facts = all_facts_by(rt, alloc, workers, board, classes)?;
+        return Ok((facts, found, nets));
+    }
+    let (facts, found) = facts_beside_index(rt, alloc, workers, board, classes, rules)?;
+    let nets = all_parts(rt, alloc, workers, board, &found.1)?;
+    Ok((facts, found, nets))
 }
 
 /// All that is found of the board.
@@ -97,7 +122,7 @@ fn open<R: Threads + Sync, G: Gate>(
     ensures state { IfOk result (λ r. state_of r.0 ≡ record { board = board; classes = classes; rules = plain_rules rules }) }
     ensures applied { IfOk result (λ r. IsOpened (state_of r.0) r.1 × IsDealt workers r.1) }
 {
-    let (facts, (reach, index)) = facts_and_index(
+    let (facts, (reach, index), nets) = find(
         rt,
         alloc,
         workers,
@@ -105,7 +130,6 @@ fn open<R: Threads + Sync, G: Gate>(
         &classes,
         rules.rules.as_slice(),
     )?;
-    let nets = all_parts(rt, alloc, workers, &board, &index)?;
     let view = CheckView {
         board: &board,
         facts: &facts,

@@ -21,7 +21,7 @@ returns-clause-kept g c =
       reach = sym (found.reach ∙ passed);
       in_range = subst (λ (z : ℤ). IsLength z) passed found.in_range;
       rows = opened_rows c.args.board c.args.classes c.as_slice-2.result.now c.args.rules.rules c.as_slice-2.ensures c.in_ok-rows.rows.items c.in_ok-rows.ensures.rows;
-      nets = c.in_ok-nets.ensures;
+      nets = found.nets;
       few = c.requires.few;
     }
 
