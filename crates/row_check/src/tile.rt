@@ -1,6 +1,6 @@
 //! The rows of a tile.
 
-ghost use Rattle.std.specs.Prelude.{◌≡◌, ◌+◌, ◌<◌, ◌≤◌, ◌∷◌, pos, Bool, All, length, filter, IfOk, OnOk};
+ghost use Rattle.std.specs.Prelude.{◌≡◌, ◌+◌, ◌<◌, ◌≤◌, ◌∷◌, ◌++◌, pos, Bool, All, length, filter, IfOk, OnOk};
 ghost use Rattle.std.specs.List.Sorted.{IsStrictlyIncreasing};
 ghost use Rattle.geo_seg.specs.Boxes.{FitsWithin, widened};
 ghost use Rattle.board_index.specs.Holding.{IsEntryOf};
@@ -111,6 +111,17 @@ fn partners<'a>(
     }
 }
 
+/// Appends these rows. Of most pairs there are none.
+#[inline(always)]
+fn push_any(rows: &mut Vec<Row>, more: &[Row]) -> Result<(), AllocError>
+    ensures { OnOk result (rows.new.items ≡ rows.old.items ++ more.now) }
+{
+    if more.is_empty() {
+        return Ok(());
+    }
+    rows.extend_from_slice(more)
+}
+
 /// Appends the rows of a pair, the items of these two entries.
 fn push_pair<L: Ledger>(
     tested: &Tested<'_, '_>,
@@ -149,8 +160,7 @@ fn push_pair<L: Ledger>(
         other.single,
         &mut sheet.pair,
     );
-    sheet.rows.extend_from_slice(sheet.pair.as_slice())?;
-    Ok(())
+    push_any(&mut sheet.rows, sheet.pair.as_slice())
 }
 
 /// The others from the first for which the tile answers. Blocks that are far are passed over whole.
