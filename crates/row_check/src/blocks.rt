@@ -83,15 +83,11 @@ pub(crate) fn is_far(wide: Bounds, size: usize, boxes: &[Bounds], count: usize) 
     requires { 0 < size }
     ensures { result ≡ true → IsFar wide size boxes.now count }
 {
-    if count < size {
-        return false;
-    }
-    let behind = count - size;
     // only whole blocks have boxes
-    if behind % size != 0 {
+    if count % size != 0 || count < size {
         return false;
     }
-    match boxes.get(behind / size) {
+    match boxes.get(count / size - 1) {
         Some(bounds) => !do_boxes_meet(wide, *bounds),
         None => false,
     }
