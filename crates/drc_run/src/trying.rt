@@ -75,28 +75,35 @@ fn counted(written: Result<(), Failed>, count: Option<u64>) -> Result<Option<u64
     }
 }
 
+/// A command and its number, from 1.
+#[derive(Clone, Copy)]
+struct Numbered<'a> {
+    number: u64,
+    command: &'a Command<'a>,
+}
+
 /// The turn of a command: it is tried alone, and what it would do is written, or it is refused and its line is written. Where memory runs
 /// out, nothing is. It gives how many rows there would be, and `comes` says whether a row would come by this command or by one before it.
 fn turn<R: Threads + Sync + AllocGlobal, W: Sink, G: Gate>(
     rt: &R,
     gate: &G,
     ground: Ground<'_>,
-    number: u64,
-    command: &Command<'_>,
+    numbered: Numbered<'_>,
     session: &mut Session,
     comes: &mut bool,
     out: &mut W,
 ) -> Result<Option<u64>, Break>
     requires ground { IsGround session.old ground }
-    requires fits { Fits (plain_command command.now) }
+    requires fits { Fits (plain_command numbered.command.now) }
     ensures ground { OnOk result (IsGround session.new ground.entry) }
     ensures same { OnOk result (session.new.state ≡ session.old.state) }
-    ensures taken { OnOk result (IsTurnTaken (IsTrial session.old.state) number comes.old (plain_command command.now) comes.new (W.written out.old) (W.written out.new)) }
-    ensures count { IfOk result (IsCount session.old.state (plain_command command.now)) }
-    ensures broken { OnErr result (Keeps (W.written out.old) (W.written out.new) ⊎ IsBroken (IsTrial session.old.state) number comes.old (plain_command command.now) (W.written out.old) (W.written out.new)) }
+    ensures taken { OnOk result (IsTurnTaken (IsTrial session.old.state) numbered.entry.number comes.old (plain_command numbered.entry.command.now) comes.new (W.written out.old) (W.written out.new)) }
+    ensures count { IfOk result (IsCount session.old.state (plain_command numbered.entry.command.now)) }
+    ensures broken { OnErr result (Keeps (W.written out.old) (W.written out.new) ⊎ IsBroken (IsTrial session.old.state) numbered.entry.number comes.old (plain_command numbered.entry.command.now) (W.written out.old) (W.written out.new)) }
     ensures fault { result ≡ Err Break.Unwritten → Rose (W.faults out.old) (W.faults out.new) }
     ensures later { W.faults out.old ≤ W.faults out.new }
 {
+    let Numbered { number, command } = numbered;
     match outlook_of(rt, gate, ground, command, session) {
         Ok(outlook) => {
             *comes = either(*comes, outlook.comes);
@@ -134,7 +141,15 @@ fn turns<R: Threads + Sync + AllocGlobal, W: Sink, G: Gate>(
     let mut comes = false;
     for command in commands {
         number += 1;
-        let count = turn(rt, gate, ground, number, command, session, &mut comes, out)?;
+        let count = turn(
+            rt,
+            gate,
+            ground,
+            Numbered { number, command },
+            session,
+            &mut comes,
+            out,
+        )?;
         counts.push_reserved(count);
     }
     Ok(comes)

@@ -11,8 +11,8 @@ use Rattle.drc_run.proofs.trying.turn.Goals as goal
 pub returns-in-Ok-clause-taken : goal.returns-in-Ok-clause-taken
 returns-in-Ok-clause-taken g c =
     let s = c.args.session.now.state in
-    let n = c.args.number in
-    let command = plain_command c.args.command.now in
+    let n = c.args.numbered.number in
+    let command = plain_command c.args.numbered.command.now in
     let came = c.args.comes.now in
     let o = c.in-Ok.outlook in
     let turn = carried s command n came c.either.result o c.in-Ok.ensures.outlook c.either.ensures in
@@ -22,8 +22,8 @@ returns-in-Ok-clause-taken g c =
 pub returns-in-Ok-clause-broken : goal.returns-in-Ok-clause-broken
 returns-in-Ok-clause-broken g c =
     let s = c.args.session.now.state in
-    let n = c.args.number in
-    let command = plain_command c.args.command.now in
+    let n = c.args.numbered.number in
+    let command = plain_command c.args.numbered.command.now in
     let came = c.args.comes.now in
     let o = c.in-Ok.outlook in
     let turn = carried s command n came c.either.result o c.in-Ok.ensures.outlook c.either.ensures in
@@ -33,8 +33,8 @@ returns-in-Ok-clause-broken g c =
 pub returns-in-Err-Refused-clause-taken : goal.returns-in-Err-Refused-clause-taken
 returns-in-Err-Refused-clause-taken g c =
     let was = c.args.session.now in
-    let n = c.args.number in
-    let command = plain_command c.args.command.now in
+    let n = c.args.numbered.number in
+    let command = plain_command c.args.numbered.command.now in
     let came = c.args.comes.now in
     let why = c.in-Err-Refused.inner in
     let turn = not_carried was c.outlook_of.new.session command c.in-Err-Refused.field-0-0 why c.in-Err-Refused.field-0 c.in-Err-Refused.field-0-is c.in-Err-Refused.ensures.refused n came in
@@ -43,8 +43,8 @@ returns-in-Err-Refused-clause-taken g c =
 pub returns-in-Err-Refused-clause-broken : goal.returns-in-Err-Refused-clause-broken
 returns-in-Err-Refused-clause-broken g c =
     let was = c.args.session.now in
-    let n = c.args.number in
-    let command = plain_command c.args.command.now in
+    let n = c.args.numbered.number in
+    let command = plain_command c.args.numbered.command.now in
     let came = c.args.comes.now in
     let why = c.in-Err-Refused.inner in
     let turn = not_carried was c.outlook_of.new.session command c.in-Err-Refused.field-0-0 why c.in-Err-Refused.field-0 c.in-Err-Refused.field-0-is c.in-Err-Refused.ensures.refused n came in
