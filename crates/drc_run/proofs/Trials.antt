@@ -1,5 +1,5 @@
 -- Trials as they are written.
-use Rattle.std.proofs.Common.{◌≡◌, ◌∙◌, ◌⊎◌, ◌||◌, inl, inr, refl, sym, ap, subst, ℕ, zero, suc, Bool, true, false, List, [], ◌∷◌, ◌++◌, length, codes, append_assoc, append-nil, Option, Result, Ok, Err, OnOk, OnErr, MatchResult, All, arith}
+use Rattle.std.proofs.Common.{◌≡◌, ◌∙◌, ◌⊎◌, ◌||◌, inl, inr, refl, sym, ap, subst, ℕ, zero, suc, Bool, true, false, List, [], ◌∷◌, ◌++◌, codes, append_assoc, append-nil, Option, Result, Ok, Err, OnOk, OnErr, MatchResult, All, arith}
 use Rattle.std.specs.List.{flat_map, AllZip}
 use Rattle.std.specs.Io.KnownBytes.{Keeps}
 use Rattle.std.proofs.KnownBytes.{Appends-trans}
@@ -12,7 +12,7 @@ use Rattle.pair_check.specs.Rows.{Checked, IsRow, AreRows}
 use Rattle.edit_script.specs.Commands.{PlainCommand}
 use Rattle.drc_rows.specs.Report.{number_line}
 use Rattle.drc_state.specs.declared.error.EditError.{EditError}
-use Rattle.drc_state.specs.States.{State, checked_in}
+use Rattle.drc_state.specs.States.{State}
 use Rattle.drc_session.specs.Sessions.{PlainSession}
 use Rattle.what_if.specs.declared.error.TrialError.{TrialError}
 use Rattle.what_if.specs.declared.error.TrialError.TheVariants.{Refused, OutOfMemory as NoTrial}

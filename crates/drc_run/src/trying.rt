@@ -1,6 +1,6 @@
 //! What each command of a script would do alone, and which of them leaves the fewest rows.
 
-ghost use Rattle.std.specs.Prelude.{◌≡◌, ◌≤◌, ◌<◌, ◌⊎◌, ◌++◌, ◌+◌, ◌||◌, List, [], Option, Some, Ok, Err, codes, decimal, false, map, length, vec_capacity, All, OnOk, OnErr, IfOk, IfErr, IfSome, MatchResult, slice_get};
+ghost use Rattle.std.specs.Prelude.{◌≡◌, ◌≤◌, ◌<◌, ◌⊎◌, ◌++◌, ◌+◌, ◌||◌, List, [], Option, Some, Ok, Err, codes, decimal, false, map, length, vec_capacity, All, OnOk, OnErr, IfOk, IfSome, MatchResult, slice_get};
 ghost use Rattle.std.specs.List.{AllZip};
 ghost use Rattle.std.specs.Io.KnownBytes.{Keeps};
 ghost use Rattle.drc_io.specs.Causes.{Rose};

@@ -1,4 +1,4 @@
-use Rattle.std.proofs.Common.{◌≡◌, MatchResult, length, map, subst, arith}
+use Rattle.std.proofs.Common.{◌≡◌, MatchResult, map, subst, arith}
 use Rattle.edit_script.specs.Commands.{plain_command}
 use Rattle.what_if.specs.Trials.{IsCount}
 use Rattle.what_if.proofs.Each.{as_many}

@@ -1,4 +1,4 @@
-use Rattle.std.proofs.Common.{◌+◌, ◌⊎◌, ◌∙◌, List, Option, map, take, length, false, refl, sym, subst, arith, length-append, [], ◌∷◌, ◌++◌, ℕ}
+use Rattle.std.proofs.Common.{◌+◌, ◌⊎◌, ◌∙◌, List, Option, map, take, false, refl, sym, subst, arith, length-append, [], ◌∷◌, ◌++◌, ℕ}
 use Rattle.std.specs.List.{AllZip}
 use Rattle.std.specs.Io.KnownBytes.{Keeps}
 use Rattle.std.proofs.lemmas.Result.{err_from_is_err_and}
