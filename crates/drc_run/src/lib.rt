@@ -33,7 +33,6 @@ use crate::stealing::steal;
 use crate::trying::try_each;
 use crate::undoing::undo;
 use drc_io::{Shelf, Sink};
-pub use run_texts::Which;
 use run_words::{Call, call_of, check_call};
 use std::thread::Threads;
 use tile_pool::Gate;
