@@ -4,7 +4,7 @@
     tools/fits.py BOARD
 
 Writes a line FILE:LINE:COLUMN: NAME (NUMBER): WHAT for each, in the order in which drc would come upon them, by the names of
-docs/FORMATS.md, and last how many. The status is 0 where nothing was found and 1 otherwise.
+docs/FORMATS.md, and last how many. The status is 0 where nothing was found, 1 where something was, and 2 where the file was not read.
 
 It is a second reading, kept simple, and no part of what is proved: whether a board is read is for drc to say. Of a text that is no
 list it tells the first fault alone, and it does not look whether the copper of a pad or the lines of a courtyard leave the board.
@@ -14,6 +14,7 @@ import re
 import sys
 from sexpr import LENGTH, Lines, Node, forms, nanometres
 from boards import COPPER
+from ends import status_of
 
 NUMBERS = {'Text.NotUtf8': '1.1', 'Text.CloseWithoutOpen': '1.2', 'Text.EndInside': '1.3', 'Text.TooDeep': '1.4', 'Text.ExtraText': '1.5',
            'Text.EmptyText': '1.6', 'TooLong': '0', 'NotABoard': '2', 'Version': '3', 'Missing': '4', 'BadNumber': '5', 'OutOfBoard': '6', 'Arc': '7',
@@ -474,4 +475,4 @@ def main():
 
 
 if __name__ == '__main__':
-    sys.exit(main())
+    sys.exit(status_of(main))

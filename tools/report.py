@@ -11,11 +11,12 @@ of a project, a rule file or a script is found where the option names the file. 
 
 A report of a script has several states. Told is the last one, that of --state N, or with --all each one, and JSON has all.
 Nothing is decided here: what is told is the report's, and its place the board's. The status is 0 where the last report has no
-row, 1 where it has one, 2 where there is no whole report, and 3 where a text was refused.
+row, 1 where it has one, 2 where there is no whole report or a file was not read, and 3 where a text was refused.
 """
 import argparse
 import json
 import sys
+from ends import status_of, text_of
 from reports import Placed, Places, Report
 
 
@@ -162,12 +163,7 @@ def without_states(report, places, words):
 def main():
     words = read_words()
     places = Places({'board': words.board, 'project': words.project, 'rules': words.rules, 'script': words.script})
-    if words.report == '-':
-        text = sys.stdin.buffer.read()
-    else:
-        with open(words.report, 'rb') as file:
-            text = file.read()
-    report = Report(text.decode('utf-8', 'replace'))
+    report = Report(text_of(words.report))
     if not report.states:
         return without_states(report, places, words)
     placed = Placed(places.text('board'), places.text('script') if words.script else None)
@@ -190,4 +186,4 @@ def main():
 
 
 if __name__ == '__main__':
-    sys.exit(main())
+    sys.exit(status_of(main))

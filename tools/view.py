@@ -8,7 +8,7 @@ goes to PAGE, or to standard output. A report of a script has one state after an
 and without it the board stays as its file has it.
 
 Nothing is decided here: rows, values, open nets and notes are the report's. The picture is drawn from the board's text for the eye;
-what is measured is not measured on it.
+what is measured is not measured on it. The status is 2 where there is no report, or a file was not read or written.
 """
 import argparse
 import html
@@ -16,6 +16,7 @@ import json
 import os
 import sys
 from boards import COPPER, number
+from ends import status_of, text_of
 from report import noted
 from reports import Placed, Report
 from sexpr import Lines
@@ -209,12 +210,7 @@ def main():
     words = read_words()
     with open(words.board, 'rb') as file:
         board_text = file.read()
-    if words.report == '-':
-        text = sys.stdin.buffer.read()
-    else:
-        with open(words.report, 'rb') as file:
-            text = file.read()
-    report = Report(text.decode('utf-8', 'replace'))
+    report = Report(text_of(words.report))
     if not report.states:
         print('view.py: no report: %s' % (report.refusal.group() if report.refusal else report.fault or 'nothing was written'), file=sys.stderr)
         return 2
@@ -223,10 +219,13 @@ def main():
         with open(words.script, 'rb') as file:
             script_text = file.read()
     page = page_of(os.path.basename(words.board), board_text, report, script_text)
-    with open(words.out, 'w', encoding='utf-8') if words.out else sys.stdout as out:
-        out.write(page)
+    if words.out:
+        with open(words.out, 'w', encoding='utf-8') as out:
+            out.write(page)
+    else:
+        print(page, end='')
     return 0
 
 
 if __name__ == '__main__':
-    sys.exit(main())
+    sys.exit(status_of(main))
