@@ -10,13 +10,14 @@ use Rattle.geo_seg.specs.declared.points.Seg.{Seg}
 use Rattle.geo_seg.specs.declared.boxes.Bounds.{Bounds}
 use Rattle.geo_seg.specs.Points.{Spot, IsOn, spot_of}
 use Rattle.geo_seg.specs.Boxes.{IsInBox, AreClear, IsLeastBox, FitsWithin}
+use Rattle.geo_seg.specs.Nearer.{IsUpTo}
 use Rattle.geo_seg.specs.Inside.{path, last_of, outline, EachEdge, SomeEdge, is_low, passes, IsInside}
 use Rattle.geo_seg.specs.Runs.{AreEndsHeld, IsRunBox}
 use Rattle.geo_seg.proofs.Parity.{differ, is_odd, is_odd_of, odd_of_is_odd, some_passes}
 use Rattle.geo_seg.proofs.Enclosed.{path_parity, edge_with, how_passes, in_between, Between}
 use Rattle.geo_seg.proofs.Choices.{fails_by, either_way}
 use Rattle.geo_seg.proofs.BoxLemmas.{held_of_in_box, start_on, end_on}
-use Rattle.geo_seg.proofs.Passed.{passed}
+use Rattle.geo_seg.proofs.Passed.{passed, before_is as before_says, left_in_range, right_in_range, top_in_range, bottom_in_range}
 use Rattle.geo_seg.proofs.RunBoxes.{last_is, path_take, path_drop, path_length}
 use Rattle.geo_poly.specs.Outlines.{IsApart, IsReached, EachApart, SomeReached}
 use Rattle.geo_poly.specs.declared.runs.Part.{Part}
@@ -227,6 +228,16 @@ d_reach d h k = omega (arith, ints)
 
 pub d_more : (d : ℤ) → pos 0 ≤ℤ d → d ≤ℤ pos 2000000000 → passed (passed d +ℤ pos 1) ≡ d +ℤ pos 1
 d_more d h k = omega (arith, ints)
+
+-- tests of two sides, at the numbers that were passed
+before_kept : (high low d : ℤ) (t : Bool) → unsigned_abs high ≤ 1000000000 → unsigned_abs low ≤ 1000000000 → IsUpTo (pos 2000000001) d → (IsTrue t ↔ (passed high +ℤ passed d) ≤ℤ passed low) → (IsTrue t ↔ (high +ℤ d) ≤ℤ low)
+before_kept high low d t h k r e = before_says high low d t (omega arith) (omega arith) r.from r.to e
+
+pub left_of : (b c : Bounds) (d : ℤ) (t : Bool) → FitsWithin (pos 1000000000) b → FitsWithin (pos 1000000000) c → IsUpTo (pos 2000000001) d → (IsTrue t ↔ (passed b.right +ℤ passed d) ≤ℤ passed c.left) → (IsTrue t ↔ (b.right +ℤ d) ≤ℤ c.left)
+left_of b c d t f g r e = before_kept b.right c.left d t (right_in_range 1000000000 b f) (left_in_range 1000000000 c g) r e
+
+pub above : (b c : Bounds) (d : ℤ) (t : Bool) → FitsWithin (pos 1000000000) b → FitsWithin (pos 1000000000) c → IsUpTo (pos 2000000001) d → (IsTrue t ↔ (passed b.bottom +ℤ passed d) ≤ℤ passed c.top) → (IsTrue t ↔ (b.bottom +ℤ d) ≤ℤ c.top)
+above b c d t f g r e = before_kept b.bottom c.top d t (bottom_in_range 1000000000 b f) (top_in_range 1000000000 c g) r e
 
 -- a part of the corners that the polygon gave
 pub piece : (a : Point) (cs ks : List Point) (low high : ℕ) → cs ≡ ks → drop low (outline cs) ≡ path a (drop low cs) → between low high (outline ks) ≡ path a (take (high - low) (drop low cs))

@@ -1,6 +1,6 @@
 // A segment beside an outline. One walk finds whether some edge is near it, and whether it begins inside.
 
-ghost use Rattle.std.specs.Prelude.{◌<◌, ◌≤◌, ◌<ℤ◌, ◌≤ℤ◌, ◌+ℤ◌, pos, IsTrue, IfSome, IfNone, ◌↔◌, ◌⊎◌, length};
+ghost use Rattle.std.specs.Prelude.{◌<◌, ◌≤◌, ◌<ℤ◌, ◌≤ℤ◌, ◌+ℤ◌, pos, unsigned_abs, IsTrue, IfSome, IfNone, ◌↔◌, ◌⊎◌, length};
 ghost use Rattle.geo_seg.specs.Nearer.{IsUpTo, IsDistance};
 ghost use Rattle.geo_seg.specs.Points.{IsOn, spot_of};
 ghost use Rattle.geo_seg.specs.Boxes.{IsLeastBox, FitsWithin};
@@ -15,48 +15,14 @@ use crate::parity::{Step, ends_odd, path_odd};
 use crate::walks::end;
 use geo_seg::{Bounds, FIRST_RUN, FOURTH_RUN, Point, Poly, SECOND_RUN, Seg, THIRD_RUN};
 
-/// Whether the box is at least `d` to the left of the other.
+/// Whether `high` is at least `d` below `low`.
 #[inline(always)]
-fn is_behind(b: Bounds, near: Bounds, d: i64) -> bool
-    requires first { FitsWithin (pos 1000000000) b }
-    requires second { FitsWithin (pos 1000000000) near }
+fn is_before(high: i64, low: i64, d: i64) -> bool
+    requires high { unsigned_abs high ≤ 1000000000 }
     requires range { IsUpTo (pos 2000000001) d }
-    ensures { IsTrue result → (b.right +ℤ d) ≤ℤ near.left }
+    ensures { IsTrue result ↔ (high +ℤ d) ≤ℤ low }
 {
-    b.right <= near.left - d
-}
-
-/// Whether the box is at least `d` above the other.
-#[inline(always)]
-fn is_above(b: Bounds, near: Bounds, d: i64) -> bool
-    requires first { FitsWithin (pos 1000000000) b }
-    requires second { FitsWithin (pos 1000000000) near }
-    requires range { IsUpTo (pos 2000000001) d }
-    ensures { IsTrue result → (b.bottom +ℤ d) ≤ℤ near.top }
-{
-    b.bottom <= near.top - d
-}
-
-/// Whether the box is at least `d` below the other.
-#[inline(always)]
-fn is_below(b: Bounds, near: Bounds, d: i64) -> bool
-    requires first { FitsWithin (pos 1000000000) b }
-    requires second { FitsWithin (pos 1000000000) near }
-    requires range { IsUpTo (pos 2000000001) d }
-    ensures { IsTrue result → (near.bottom +ℤ d) ≤ℤ b.top }
-{
-    near.bottom + d <= b.top
-}
-
-/// Whether the box is at least `d` above the other or below it.
-#[inline(always)]
-fn is_off(b: Bounds, near: Bounds, d: i64) -> bool
-    requires first { FitsWithin (pos 1000000000) b }
-    requires second { FitsWithin (pos 1000000000) near }
-    requires range { IsUpTo (pos 2000000001) d }
-    ensures { IsTrue result → (b.bottom +ℤ d) ≤ℤ near.top ⊎ (near.bottom +ℤ d) ≤ℤ b.top }
-{
-    is_above(b, near, d) || is_below(b, near, d)
+    high + d <= low
 }
 
 /// Whether the box is at least `d` to the left of the other, above it or below it.
@@ -65,20 +31,10 @@ fn is_beside(b: Bounds, near: Bounds, d: i64) -> bool
     requires first { FitsWithin (pos 1000000000) b }
     requires second { FitsWithin (pos 1000000000) near }
     requires range { IsUpTo (pos 2000000001) d }
-    ensures { IsTrue result → IsBeside b near d }
+    ensures { IsTrue result ↔ IsBeside b near d }
 {
-    is_behind(b, near, d) || is_off(b, near, d)
-}
-
-/// Whether the box is at least `d` to the right of the other.
-#[inline(always)]
-fn is_ahead(b: Bounds, near: Bounds, d: i64) -> bool
-    requires first { FitsWithin (pos 1000000000) b }
-    requires second { FitsWithin (pos 1000000000) near }
-    requires range { IsUpTo (pos 2000000001) d }
-    ensures { IsTrue result → (near.right +ℤ d) ≤ℤ b.left }
-{
-    near.right + d <= b.left
+    is_before(b.right, near.left, d)
+        || (is_before(b.bottom, near.top, d) || is_before(near.bottom, b.top, d))
 }
 
 /// What the box says of the edges from `low` up to `high`, which it holds, where it is clear of `near`:
@@ -105,7 +61,7 @@ fn told_clear(
 {
     if is_beside(b, near, d) {
         Some(false)
-    } else if is_ahead(b, near, d) {
+    } else if is_before(near.right, b.left, d) {
         Some(ends_odd(corners, low, high, s.a))
     } else {
         None

@@ -1,8 +1,21 @@
-use Rattle.std.proofs.Common.{ℤ, ◌+ℤ◌, ◌≤ℤ◌, ◌⊎◌, subst, inr}
-use Rattle.geo_poly.proofs.RunLemmas.{d_reach}
+use Rattle.std.proofs.Common.{refl}
+use Rattle.geo_seg.proofs.Choices.{or_first, or_second}
+use Rattle.geo_poly.proofs.RunLemmas.{left_of, above}
 use Rattle.geo_poly.proofs.besides.is_beside.Goals as goal
 
-pub returns-else-is_behind : goal.returns-else-is_behind
-returns-else-is_behind c = λ t.
-    let b = c.args.b in let near = c.args.near in let d = c.args.d in
-    inr (subst (λ (z : ℤ). (b.bottom +ℤ z) ≤ℤ near.top ⊎ (near.bottom +ℤ z) ≤ℤ b.top) (d_reach d c.requires.range.from c.requires.range.to) (c.is_off.ensures t))
+pub returns-then-is_before : goal.returns-then-is_before
+returns-then-is_before c =
+    or_first _ _ (left_of c.args.b c.args.near c.args.d _ c.requires.first c.requires.second c.requires.range c.is_before.ensures) c.if-is_before.true refl
+
+pub returns-then-is_before-2 : goal.returns-then-is_before-2
+returns-then-is_before-2 c =
+    or_second _ _ _ (left_of c.args.b c.args.near c.args.d _ c.requires.first c.requires.second c.requires.range c.is_before.ensures)
+    (or_first _ _ (above c.args.b c.args.near c.args.d _ c.requires.first c.requires.second c.requires.range c.is_before-else-is_before.ensures) c.if-is_before-2.true refl)
+    c.if-is_before.false refl
+
+pub returns-else-is_before-2 : goal.returns-else-is_before-2
+returns-else-is_before-2 c =
+    or_second _ _ _ (left_of c.args.b c.args.near c.args.d _ c.requires.first c.requires.second c.requires.range c.is_before.ensures)
+    (or_second _ _ _ (above c.args.b c.args.near c.args.d _ c.requires.first c.requires.second c.requires.range c.is_before-else-is_before.ensures)
+    (above c.args.near c.args.b c.args.d _ c.requires.second c.requires.first c.requires.range c.is_before-else-is_before-2.ensures) c.if-is_before-2.false refl)
+    c.if-is_before.false refl

@@ -1,10 +1,10 @@
-use Rattle.std.proofs.Common.{ℤ, ◌+ℤ◌, ◌≤ℤ◌, subst, inl, inr}
-use Rattle.geo_seg.specs.declared.boxes.Bounds.{Bounds}
+use Rattle.std.proofs.Common.{inl, inr}
 use Rattle.geo_seg.specs.Points.{spot_of}
 use Rattle.geo_seg.specs.Inside.{outline}
 use Rattle.geo_seg.proofs.BoxLemmas.{start_on}
+use Rattle.geo_seg.proofs.Passed.{at_reach}
 use Rattle.geo_poly.specs.Runs.{between, IsBeside}
-use Rattle.geo_poly.proofs.RunLemmas.{d_reach, missed_beside, missed_odd, right_ahead, clear_beside, clear_held}
+use Rattle.geo_poly.proofs.RunLemmas.{left_of, missed_beside, missed_odd, right_ahead, clear_beside, clear_held}
 use Rattle.geo_poly.proofs.besides.told_clear.Goals as goal
 
 pub returns-then-is_beside-clause-odd : goal.returns-then-is_beside-clause-odd
@@ -12,27 +12,27 @@ returns-then-is_beside-clause-odd c =
     let b = c.args.b in let near = c.args.near in let d = c.args.d in let s = c.args.s in
     missed_odd b s.a (between c.args.low c.args.high (outline c.args.corners.now))
     (missed_beside b near d s.a c.requires.positive (c.requires.near.holds (spot_of s.a) (start_on s))
-    (subst (λ (z : ℤ). IsBeside b near z) (d_reach d c.requires.range.from c.requires.range.to) (c.is_beside.ensures c.if-is_beside.true)))
+    ((at_reach (IsBeside b near) d _ c.requires.range.from c.requires.range.to c.is_beside.ensures).0 c.if-is_beside.true))
     c.requires.hull
 
 pub returns-then-is_beside-clause-clear : goal.returns-then-is_beside-clause-clear
 returns-then-is_beside-clause-clear c =
     let b = c.args.b in let near = c.args.near in let d = c.args.d in
     clear_held b near d (between c.args.low c.args.high (outline c.args.corners.now))
-    (clear_beside b near d (subst (λ (z : ℤ). IsBeside b near z) (d_reach d c.requires.range.from c.requires.range.to) (c.is_beside.ensures c.if-is_beside.true)))
+    (clear_beside b near d ((at_reach (IsBeside b near) d _ c.requires.range.from c.requires.range.to c.is_beside.ensures).0 c.if-is_beside.true))
     c.requires.hull.holds
 
-pub returns-then-is_ahead-clause-odd : goal.returns-then-is_ahead-clause-odd
-returns-then-is_ahead-clause-odd c =
+pub returns-then-is_before-clause-odd : goal.returns-then-is_before-clause-odd
+returns-then-is_before-clause-odd c =
     let b = c.args.b in let near = c.args.near in let d = c.args.d in let s = c.args.s in
     c.ends_odd.ensures b
     (right_ahead b near d s.a c.requires.positive (c.requires.near.holds (spot_of s.a) (start_on s))
-    (subst (λ (z : ℤ). (near.right +ℤ z) ≤ℤ b.left) (d_reach d c.requires.range.from c.requires.range.to) (c.is_ahead.ensures c.if-is_ahead.true)))
+    ((left_of near b d _ c.requires.fits c.requires.hull.fits c.requires.range c.is_before.ensures).0 c.if-is_before.true))
     c.requires.hull
 
-pub returns-then-is_ahead-clause-clear : goal.returns-then-is_ahead-clause-clear
-returns-then-is_ahead-clause-clear c =
+pub returns-then-is_before-clause-clear : goal.returns-then-is_before-clause-clear
+returns-then-is_before-clause-clear c =
     let b = c.args.b in let near = c.args.near in let d = c.args.d in
     clear_held b near d (between c.args.low c.args.high (outline c.args.corners.now))
-    (inl (inr (subst (λ (z : ℤ). (near.right +ℤ z) ≤ℤ b.left) (d_reach d c.requires.range.from c.requires.range.to) (c.is_ahead.ensures c.if-is_ahead.true))))
+    (inl (inr ((left_of near b d _ c.requires.fits c.requires.hull.fits c.requires.range c.is_before.ensures).0 c.if-is_before.true)))
     c.requires.hull.holds
