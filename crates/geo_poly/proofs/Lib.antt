@@ -10,4 +10,5 @@ pub mod Covers
 pub mod Outline
 pub mod Answers
 pub mod RunLemmas
+pub mod StepLemmas
 pub mod Falls

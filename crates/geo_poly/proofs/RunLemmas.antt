@@ -65,16 +65,24 @@ pub each_weaker : {P Q : Seg → Type 0} → ((e : Seg) → P e → Q e) → (es
 each_weaker f [] h = tt
 each_weaker f (e ∷ es) h = (f e h.0, each_weaker f es h.1)
 
--- a walk goes on
+-- a walk goes on: what holds of the edges behind it and of those that it passes holds of all of them
+abbrev pub Joins : (List Seg → Type 0) → Type 0
+Joins Q = (X Y : List Seg) → Q X → Q Y → Q (X ++ Y)
+
+pub joined_on : (Q : List Seg → Type 0) → Joins Q → (low mid high : ℕ) (es : List Seg) → low ≤ mid → mid ≤ high → Q (between low mid es) → Q (between mid high es) → Q (between low high es)
+joined_on Q j low mid high es h k x y = subst Q (sym (between_cut low mid high es h k)) (j (between low mid es) (between mid high es) x y)
+
+pub each_joins : (P : Seg → Type 0) → Joins (EachEdge P)
+each_joins P X Y x y = (each_append P X Y).1 (x, y)
+
+pub none_joins : (P : Seg → Type 0) → Joins (λ es. ¬ (SomeEdge P es))
+none_joins P X Y x y z = either_way x y (some_in P X Y z)
+
 pub each_on : (P : Seg → Type 0) (low mid high : ℕ) (es : List Seg) → low ≤ mid → mid ≤ high → EachEdge P (between low mid es) → EachEdge P (between mid high es) → EachEdge P (between low high es)
-each_on P low mid high es h k x y = subst (EachEdge P) (sym (between_cut low mid high es h k)) ((each_append P (between low mid es) (between mid high es)).1 (x, y))
+each_on P low mid high es h k x y = joined_on (EachEdge P) (each_joins P) low mid high es h k x y
 
 pub none_on : (P : Seg → Type 0) (low mid high : ℕ) (es : List Seg) → low ≤ mid → mid ≤ high → ¬ (SomeEdge P (between low mid es)) → ¬ (SomeEdge P (between mid high es)) → ¬ (SomeEdge P (between low high es))
-none_on P low mid high es h k x y z = decide (some_in P (between low mid es) (between mid high es) (subst (SomeEdge P) (between_cut low mid high es h k) z))
-  where
-    decide : SomeEdge P (between low mid es) ⊎ SomeEdge P (between mid high es) → ⊥
-    decide (inl q) = x q
-    decide (inr q) = y q
+none_on P low mid high es h k x y = joined_on (λ us. ¬ (SomeEdge P us)) (none_joins P) low mid high es h k x y
 
 -- what holds of each edge holds of each of a part
 pub each_part : (P : Seg → Type 0) (from low high to : ℕ) (es : List Seg) → from ≤ low → low ≤ high → high ≤ to → EachEdge P (between from to es) → EachEdge P (between low high es)
@@ -91,7 +99,7 @@ some_part P from low high to es h k l x =
 
 -- the same of a second outline
 pub apart_on : (d : ℤ) (us : List Seg) (low mid high : ℕ) (es : List Seg) → low ≤ mid → mid ≤ high → EachApart d us (between low mid es) → EachApart d us (between mid high es) → EachApart d us (between low high es)
-apart_on d us low mid high es h k x y = subst (EachApart d us) (sym (between_cut low mid high es h k)) ((apart_append d us (between low mid es) (between mid high es)).1 (x, y))
+apart_on d us low mid high es h k x y = joined_on (EachApart d us) (λ X Y u v. (apart_append d us X Y).1 (u, v)) low mid high es h k x y
 
 pub apart_part : (d : ℤ) (us : List Seg) (from low high to : ℕ) (es : List Seg) → from ≤ low → low ≤ high → high ≤ to → EachApart d us (between from to es) → EachApart d us (between low high es)
 apart_part d us from low high to es h k l x =
@@ -100,11 +108,7 @@ apart_part d us from low high to es h k l x =
     ((apart_append d us (between low high es) (between high to es)).0 (subst (EachApart d us) (between_cut low high to es k l) y)).0
 
 pub beyond_on : (d : ℤ) (us : List Seg) (low mid high : ℕ) (es : List Seg) → low ≤ mid → mid ≤ high → ¬ (SomeReached d us (between low mid es)) → ¬ (SomeReached d us (between mid high es)) → ¬ (SomeReached d us (between low high es))
-beyond_on d us low mid high es h k x y z = decide (reached_in d us (between low mid es) (between mid high es) (subst (SomeReached d us) (between_cut low mid high es h k) z))
-  where
-    decide : SomeReached d us (between low mid es) ⊎ SomeReached d us (between mid high es) → ⊥
-    decide (inl q) = x q
-    decide (inr q) = y q
+beyond_on d us low mid high es h k x y = joined_on (λ vs. ¬ (SomeReached d us vs)) (λ X Y u v z. either_way u v (reached_in d us X Y z)) low mid high es h k x y
 
 pub reached_part : (d : ℤ) (us : List Seg) (from low high to : ℕ) (es : List Seg) → from ≤ low → low ≤ high → high ≤ to → SomeReached d us (between low high es) → SomeReached d us (between from to es)
 reached_part d us from low high to es h k l x =

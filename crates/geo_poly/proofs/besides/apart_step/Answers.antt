@@ -1,25 +1,20 @@
-use Rattle.std.proofs.Common.{ℤ, IfSome, IfNone, subst}
+use Rattle.std.proofs.Common.{ℤ, IfSome, IfNone}
 use Rattle.geo_seg.specs.Points.{spot_of}
 use Rattle.geo_seg.specs.Inside.{outline, EachEdge}
-use Rattle.geo_seg.proofs.Passed.{d_kept}
-use Rattle.geo_poly.specs.Outlines.{IsApart}
-use Rattle.geo_poly.specs.Runs.{between, LiesClear}
+use Rattle.geo_poly.specs.Runs.{LiesClear}
 use Rattle.geo_poly.specs.Steps.{IsPast}
 use Rattle.geo_poly.proofs.RunLemmas.{each_apart}
+use Rattle.geo_poly.proofs.StepLemmas.{AllApart, kept, past_by}
 use Rattle.geo_poly.proofs.besides.apart_step.Goals as goal
 
 pub returns-in-Some-clause-past : goal.returns-in-Some-clause-past
 returns-in-Some-clause-past c =
-    let near = c.args.near in let d = c.args.d in let es = between c.args.low c.in-Some.step.high (outline c.args.poly.now) in
-    record {
-      counted = c.in-Some.ensures.counted;
-      past = each_apart near d c.args.s es c.requires.range.from c.requires.near.holds (subst (λ (z : ℤ). EachEdge (LiesClear near z) es) (d_kept d c.requires.range.from c.requires.range.to) c.in-Some.ensures.past);
-    }
+    let near = c.args.near in let s = c.args.s in let d = c.args.d in
+    past_by _ (AllApart s d) _ _ _ _ (λ es x. each_apart near d s es c.requires.range.from c.requires.near.holds (kept (λ (z : ℤ). EachEdge (LiesClear near z) es) d c.requires.range x)) c.in-Some.ensures
 
 pub returns-in_default-clause-past : goal.returns-in_default-clause-past
 returns-in_default-clause-past c =
-    subst (λ (z : ℤ). IfSome c.near_step.result (IsPast (EachEdge (λ e. IsApart e c.args.s z)) c.args.poly.now (spot_of c.args.s.a) c.args.low)) (d_kept c.args.d c.requires.range.from c.requires.range.to) c.near_step.ensures.past
+    kept (λ (z : ℤ). IfSome c.near_step.result (IsPast (AllApart c.args.s z) c.args.poly.now (spot_of c.args.s.a) c.args.low)) c.args.d c.requires.range c.near_step.ensures.past
 
 pub returns-in_default-clause-stuck : goal.returns-in_default-clause-stuck
-returns-in_default-clause-stuck c =
-    subst (λ (z : ℤ). IfNone c.near_step.result (¬ (EachEdge (λ e. IsApart e c.args.s z) (outline c.args.poly.now)))) (d_kept c.args.d c.requires.range.from c.requires.range.to) c.near_step.ensures.stuck
+returns-in_default-clause-stuck c = kept (λ (z : ℤ). IfNone c.near_step.result (¬ (AllApart c.args.s z (outline c.args.poly.now)))) c.args.d c.requires.range c.near_step.ensures.stuck

@@ -1,4 +1,4 @@
-use Rattle.std.proofs.Common.{ℤ, refl, subst, sym, eq-eqb}
+use Rattle.std.proofs.Common.{ℤ, subst, sym, eq-eqb}
 use Rattle.geo_seg.specs.Points.{IsOn, spot_of}
 use Rattle.geo_seg.specs.Nearer.{AreApart}
 use Rattle.geo_seg.specs.Inside.{EachEdge, outline, IsInside}

@@ -1,11 +1,12 @@
-use Rattle.std.proofs.Common.{◌≤◌, ◌-◌, ℤ, length, take, drop, subst, sym, arith}
+use Rattle.std.proofs.Common.{◌-◌, ℤ, take, drop, subst, sym, arith}
 use Rattle.geo_seg.specs.declared.points.Seg.{Seg}
 use Rattle.geo_seg.specs.Inside.{path, outline, EachEdge}
 use Rattle.geo_seg.proofs.Choices.{fails_by}
 use Rattle.geo_seg.proofs.Passed.{d_kept, at_d}
 use Rattle.geo_poly.specs.Outlines.{IsApart}
 use Rattle.geo_poly.specs.Runs.{between, LiesClear}
-use Rattle.geo_poly.proofs.RunLemmas.{each_apart, each_of_none, each_part, all_edges, piece}
+use Rattle.geo_poly.proofs.RunLemmas.{each_apart, each_of_none, piece}
+use Rattle.geo_poly.proofs.StepLemmas.{each_there}
 use Rattle.geo_poly.proofs.walks.apart_until.Goals as goal
 
 abbrev P : Seg → ℤ → Seg → Type 0
@@ -29,10 +30,5 @@ returns-else-path_apart-clause-apart c = each_of_none (P c.args.s c.args.d) c.ar
 pub returns-else-path_apart-clause-stuck : goal.returns-else-path_apart-clause-stuck
 returns-else-path_apart-clause-stuck c = λ _ x.
     let cs = c.corners-corners.result.now in let ks = c.args.poly.now in let low = c.args.low in let high = c.end-high.result in let a = c.before-2.result in
-    let n = length cs in
-    let after : low ≤ high = omega (arith, c.end-high.ensures.after) in
-    let first : 0 ≤ low = omega arith in
-    let all : length cs ≤ n = omega arith in
     fails_by _ (at_d (λ (z : ℤ). EachEdge (P c.args.s z) (path a (take (high - low) (drop low cs)))) c.args.d _ c.requires.range.from c.requires.range.to c.path_apart.ensures) c.if-path_apart.false
-    (subst (EachEdge (P c.args.s c.args.d)) (piece a cs ks low high c.corners-corners.ensures.same c.before-2.ensures)
-    (each_part (P c.args.s c.args.d) 0 low high n (outline ks) first after c.end-high.ensures.within (subst (EachEdge (P c.args.s c.args.d)) (sym (all_edges cs ks n c.corners-corners.ensures.same all)) x)))
+    (each_there (P c.args.s c.args.d) a cs ks low high c.corners-corners.ensures.same c.before-2.ensures c.end-high.ensures.after c.end-high.ensures.within x)
