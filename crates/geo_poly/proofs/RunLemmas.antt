@@ -1,5 +1,5 @@
 -- Runs of edges of an outline: what a walk knows of those behind it, and what boxes tell of them.
-use Rattle.std.proofs.Common.{◌≡◌, ℕ, ◌+◌, ◌-◌, ◌<◌, ◌≤◌, ◌⊎◌, ◌↔◌, ℤ, pos, ◌+ℤ◌, ◌*ℤ◌, ◌≤ℤ◌, ◌<ℤ◌, unsigned_abs, Bool, true, false, not, IsTrue, List, [], ◌∷◌, ◌++◌, length, take, drop, get_or, refl, sym, ap, ◌∙◌, subst, inl, inr, arith, drop-drop, length-drop}
+use Rattle.std.proofs.Common.{◌≡◌, ℕ, ◌+◌, ◌-◌, ◌<◌, ◌≤◌, ◌⊎◌, ◌↔◌, ℤ, pos, ◌+ℤ◌, ◌-ℤ◌, ◌*ℤ◌, ◌≤ℤ◌, ◌<ℤ◌, unsigned_abs, Bool, true, false, not, IsTrue, List, [], ◌∷◌, ◌++◌, length, take, drop, get_or, refl, sym, ap, ◌∙◌, subst, inl, inr, arith, drop-drop, length-drop}
 use Rattle.std.proofs.lemmas.Int.{ints}
 use Rattle.std.proofs.lemmas.List.{take_all, get_or-take, length-take-le}
 use Rattle.std.proofs.Math.Seq.{take-add}
@@ -17,7 +17,7 @@ use Rattle.geo_seg.proofs.Parity.{differ, is_odd, is_odd_of, odd_of_is_odd, some
 use Rattle.geo_seg.proofs.Enclosed.{path_parity, edge_with, how_passes, in_between, Between}
 use Rattle.geo_seg.proofs.Choices.{fails_by, either_way}
 use Rattle.geo_seg.proofs.BoxLemmas.{held_of_in_box, start_on, end_on}
-use Rattle.geo_seg.proofs.Passed.{passed, before_is as before_says, left_in_range, right_in_range, top_in_range, bottom_in_range}
+use Rattle.geo_seg.proofs.Passed.{passed, left_in_range, right_in_range, top_in_range, bottom_in_range}
 use Rattle.geo_seg.proofs.RunBoxes.{last_is, path_take, path_drop, path_length}
 use Rattle.geo_poly.specs.Outlines.{IsApart, IsReached, EachApart, SomeReached}
 use Rattle.geo_poly.specs.declared.runs.Part.{Part}
@@ -233,15 +233,25 @@ d_reach d h k = omega (arith, ints)
 pub d_more : (d : ℤ) → pos 0 ≤ℤ d → d ≤ℤ pos 2000000000 → passed (passed d +ℤ pos 1) ≡ d +ℤ pos 1
 d_more d h k = omega (arith, ints)
 
--- tests of two sides, at the numbers that were passed
-before_kept : (high low d : ℤ) (t : Bool) → unsigned_abs high ≤ 1000000000 → unsigned_abs low ≤ 1000000000 → IsUpTo (pos 2000000001) d → (IsTrue t ↔ (passed high +ℤ passed d) ≤ℤ passed low) → (IsTrue t ↔ (high +ℤ d) ≤ℤ low)
-before_kept high low d t h k r e = before_says high low d t (omega arith) (omega arith) r.from r.to e
+-- tests of a side against one that is moved by d
+before_less : (x y d : ℤ) → unsigned_abs x ≤ 1000000000 → unsigned_abs y ≤ 1000000000 → pos 0 ≤ℤ d → d ≤ℤ pos 2000000001 → (IsTrue (le_z (passed x) (passed (passed y -ℤ passed d))) ↔ (x +ℤ d) ≤ℤ y)
+before_less x y d h k l m = (λ t. omega (arith, ints), λ t. let e : true ≡ le_z (passed x) (passed (passed y -ℤ passed d)) = omega (arith, ints) in sym e)
 
-pub left_of : (b c : Bounds) (d : ℤ) (t : Bool) → FitsWithin (pos 1000000000) b → FitsWithin (pos 1000000000) c → IsUpTo (pos 2000000001) d → (IsTrue t ↔ (passed b.right +ℤ passed d) ≤ℤ passed c.left) → (IsTrue t ↔ (b.right +ℤ d) ≤ℤ c.left)
-left_of b c d t f g r e = before_kept b.right c.left d t (right_in_range 1000000000 b f) (left_in_range 1000000000 c g) r e
+before_more : (x y d : ℤ) → unsigned_abs x ≤ 1000000000 → unsigned_abs y ≤ 1000000000 → pos 0 ≤ℤ d → d ≤ℤ pos 2000000001 → (IsTrue (le_z (passed (passed x +ℤ passed d)) (passed y)) ↔ (x +ℤ d) ≤ℤ y)
+before_more x y d h k l m = (λ t. omega (arith, ints), λ t. let e : true ≡ le_z (passed (passed x +ℤ passed d)) (passed y) = omega (arith, ints) in sym e)
 
-pub above : (b c : Bounds) (d : ℤ) (t : Bool) → FitsWithin (pos 1000000000) b → FitsWithin (pos 1000000000) c → IsUpTo (pos 2000000001) d → (IsTrue t ↔ (passed b.bottom +ℤ passed d) ≤ℤ passed c.top) → (IsTrue t ↔ (b.bottom +ℤ d) ≤ℤ c.top)
-above b c d t f g r e = before_kept b.bottom c.top d t (bottom_in_range 1000000000 b f) (top_in_range 1000000000 c g) r e
+module _ (b near : Bounds) (d : ℤ) (first : FitsWithin (pos 1000000000) b) (second : FitsWithin (pos 1000000000) near) (range : IsUpTo (pos 2000000001) d) where
+  pub is_left_of : IsTrue (le_z (passed b.right) (passed (passed near.left -ℤ passed d))) ↔ (b.right +ℤ d) ≤ℤ near.left
+  is_left_of = before_less b.right near.left d (right_in_range 1000000000 b first) (left_in_range 1000000000 near second) range.from range.to
+
+  pub is_above : IsTrue (le_z (passed b.bottom) (passed (passed near.top -ℤ passed d))) ↔ (b.bottom +ℤ d) ≤ℤ near.top
+  is_above = before_less b.bottom near.top d (bottom_in_range 1000000000 b first) (top_in_range 1000000000 near second) range.from range.to
+
+  pub is_below : IsTrue (le_z (passed (passed near.bottom +ℤ passed d)) (passed b.top)) ↔ (near.bottom +ℤ d) ≤ℤ b.top
+  is_below = before_more near.bottom b.top d (bottom_in_range 1000000000 near second) (top_in_range 1000000000 b first) range.from range.to
+
+  pub is_right_of : IsTrue (le_z (passed (passed near.right +ℤ passed d)) (passed b.left)) ↔ (near.right +ℤ d) ≤ℤ b.left
+  is_right_of = before_more near.right b.left d (right_in_range 1000000000 near second) (left_in_range 1000000000 b first) range.from range.to
 
 -- a part of the corners that the polygon gave
 pub piece : (a : Point) (cs ks : List Point) (low high : ℕ) → cs ≡ ks → drop low (outline cs) ≡ path a (drop low cs) → between low high (outline ks) ≡ path a (take (high - low) (drop low cs))

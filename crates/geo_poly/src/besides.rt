@@ -1,6 +1,6 @@
 // A segment beside an outline. One walk finds whether some edge is near it, and whether it begins inside.
 
-ghost use Rattle.std.specs.Prelude.{◌<◌, ◌≤◌, ◌<ℤ◌, ◌≤ℤ◌, ◌+ℤ◌, pos, unsigned_abs, IsTrue, IfSome, IfNone, ◌↔◌, ◌⊎◌, length};
+ghost use Rattle.std.specs.Prelude.{◌<◌, ◌≤◌, ◌<ℤ◌, ◌≤ℤ◌, ◌+ℤ◌, pos, IsTrue, IfSome, IfNone, ◌↔◌, ◌⊎◌, length};
 ghost use Rattle.geo_seg.specs.Nearer.{IsUpTo, IsDistance};
 ghost use Rattle.geo_seg.specs.Points.{IsOn, spot_of};
 ghost use Rattle.geo_seg.specs.Boxes.{IsLeastBox, FitsWithin};
@@ -15,16 +15,6 @@ use crate::parity::{Step, ends_odd, path_odd};
 use crate::walks::end;
 use geo_seg::{Bounds, FIRST_RUN, FOURTH_RUN, Point, Poly, SECOND_RUN, Seg, THIRD_RUN};
 
-/// Whether `high` is at least `d` below `low`.
-#[inline(always)]
-fn is_before(high: i64, low: i64, d: i64) -> bool
-    requires high { unsigned_abs high ≤ 1000000000 }
-    requires range { IsUpTo (pos 2000000001) d }
-    ensures { IsTrue result ↔ (high +ℤ d) ≤ℤ low }
-{
-    high + d <= low
-}
-
 /// Whether the box is at least `d` to the left of the other, above it or below it.
 #[inline(always)]
 fn is_beside(b: Bounds, near: Bounds, d: i64) -> bool
@@ -33,8 +23,8 @@ fn is_beside(b: Bounds, near: Bounds, d: i64) -> bool
     requires range { IsUpTo (pos 2000000001) d }
     ensures { IsTrue result ↔ IsBeside b near d }
 {
-    is_before(b.right, near.left, d)
-        || (is_before(b.bottom, near.top, d) || is_before(near.bottom, b.top, d))
+    // what is moved by d stays the same along a walk
+    b.right <= near.left - d || (b.bottom <= near.top - d || near.bottom + d <= b.top)
 }
 
 /// What the box says of the edges from `low` up to `high`, which it holds, where it is clear of `near`:
@@ -61,7 +51,7 @@ fn told_clear(
 {
     if is_beside(b, near, d) {
         Some(false)
-    } else if is_before(near.right, b.left, d) {
+    } else if near.right + d <= b.left {
         Some(ends_odd(corners, low, high, s.a))
     } else {
         None

@@ -4,7 +4,7 @@ use Rattle.geo_seg.specs.Inside.{outline}
 use Rattle.geo_seg.proofs.BoxLemmas.{start_on}
 use Rattle.geo_seg.proofs.Passed.{at_reach}
 use Rattle.geo_poly.specs.Runs.{between, IsBeside}
-use Rattle.geo_poly.proofs.RunLemmas.{left_of, missed_beside, missed_odd, right_ahead, clear_beside, clear_held}
+use Rattle.geo_poly.proofs.RunLemmas.{is_right_of, missed_beside, missed_odd, right_ahead, clear_beside, clear_held}
 use Rattle.geo_poly.proofs.besides.told_clear.Goals as goal
 
 pub returns-then-is_beside-clause-odd : goal.returns-then-is_beside-clause-odd
@@ -22,17 +22,17 @@ returns-then-is_beside-clause-clear c =
     (clear_beside b near d ((at_reach (IsBeside b near) d _ c.requires.range.from c.requires.range.to c.is_beside.ensures).0 c.if-is_beside.true))
     c.requires.hull.holds
 
-pub returns-then-is_before-clause-odd : goal.returns-then-is_before-clause-odd
-returns-then-is_before-clause-odd c =
+pub returns-then-near-d-clause-odd : goal.returns-then-near-d-clause-odd
+returns-then-near-d-clause-odd c =
     let b = c.args.b in let near = c.args.near in let d = c.args.d in let s = c.args.s in
     c.ends_odd.ensures b
     (right_ahead b near d s.a c.requires.positive (c.requires.near.holds (spot_of s.a) (start_on s))
-    ((left_of near b d _ c.requires.fits c.requires.hull.fits c.requires.range c.is_before.ensures).0 c.if-is_before.true))
+    ((is_right_of b near d c.requires.hull.fits c.requires.fits c.requires.range).0 c.if-near-d.true))
     c.requires.hull
 
-pub returns-then-is_before-clause-clear : goal.returns-then-is_before-clause-clear
-returns-then-is_before-clause-clear c =
+pub returns-then-near-d-clause-clear : goal.returns-then-near-d-clause-clear
+returns-then-near-d-clause-clear c =
     let b = c.args.b in let near = c.args.near in let d = c.args.d in
     clear_held b near d (between c.args.low c.args.high (outline c.args.corners.now))
-    (inl (inr ((left_of near b d _ c.requires.fits c.requires.hull.fits c.requires.range c.is_before.ensures).0 c.if-is_before.true)))
+    (inl (inr ((is_right_of b near d c.requires.hull.fits c.requires.fits c.requires.range).0 c.if-near-d.true)))
     c.requires.hull.holds
