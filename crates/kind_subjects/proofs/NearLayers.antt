@@ -95,14 +95,17 @@ kept_none kind layer a b v e = subst (λ (n : ℤ). KeepAt kind layer a b n) (sy
 -- ---- what the gap tells
 
 module _ (kind : Kind) (layer : RowLayer) (a b : Item) (v gap : ℤ) (is : IsGap (KeepAt kind layer a b) v gap) where
+  pub gap_reaches : pos 1 ≤ℤ v → KeepAt kind layer a b v → v ≤ℤ gap
+  gap_reaches some k = is.greatest v some (same v) k
+    where
+      same : (n : ℤ) → n ≤ℤ n
+      same n = omega (arith, ints)
+
   pub gap_near : gap <ℤ v → TooNear kind layer a b v
-  gap_near lt = near_of kind layer a b v (λ k. too_great (is.greatest v (above v gap is.from lt) (same v) k))
+  gap_near lt = near_of kind layer a b v (λ k. too_great (gap_reaches (above v gap is.from lt) k))
     where
       above : (n g : ℤ) → pos 0 ≤ℤ g → g <ℤ n → pos 1 ≤ℤ n
       above n g h l = omega (arith, ints)
-
-      same : (n : ℤ) → n ≤ℤ n
-      same n = omega (arith, ints)
 
       too_great : v ≤ℤ gap → ⊥
       too_great le = omega (arith, ints, lt)

@@ -1,6 +1,6 @@
 //! How near two items are to each other.
 
-ghost use Rattle.std.specs.Prelude.{◌≡◌, true, MatchOption};
+ghost use Rattle.std.specs.Prelude.{◌≡◌, ◌<ℤ◌, pos, true, IsTrue, ◌↔◌, MatchOption};
 ghost use Rattle.plain_types.specs.Lengths.{IsLength};
 ghost use Rattle.geo_seg.specs.Distances.{IsGap};
 ghost use Rattle.kind_subjects.specs.Facing.{facings, apart_by, may_not_meet, KeepAt, MeetAt, TooNear};
@@ -67,7 +67,7 @@ pub fn gap_if_near(
     }
 }
 
-/// Whether the two keep `least` on the layer, which is more than nothing, so that they do not meet there either.
+/// Whether `least` is more than nothing and the two keep it on the layer, so that they do not meet there either.
 #[inline(always)]
 pub fn are_kept(
     faced: &Facings<'_>,
@@ -79,7 +79,7 @@ pub fn are_kept(
 ) -> bool
     requires same { facings_of faced.now ≡ facings kind layer a.now b.now }
     requires least { IsLength least }
-    ensures keep { result ≡ true → KeepAt kind layer a.now b.now least }
+    ensures keep { IsTrue result ↔ ((pos 0 <ℤ least) × KeepAt kind layer a.now b.now least) }
     ensures meet { result ≡ true → ¬ (MeetAt kind layer a.now b.now) }
 {
     least != 0 && gap_at(faced, kind, layer, a, b, least) >= least
