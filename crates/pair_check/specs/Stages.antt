@@ -34,6 +34,11 @@ pub record IsNear (d : Deciders) (kind : Kind) (pair : Pair) (near : Near) : Typ
 abbrev pub IsNearOrMeets : Deciders → Pair → RowLayer → Type 0
 IsNearOrMeets d pair layer = IsNearAt d Clearance pair layer ⊎ MeetAt Short layer pair.a pair.b
 
+-- nothing of the two faces each other on this layer, so that they keep any distance there and do not meet
+pub record AreUnfaced (kind : Kind) (pair : Pair) (layer : RowLayer) : Type 0 where
+  pub keep : (v : ℤ) → KeepAt kind layer pair.a pair.b v
+  pub unmet : ¬ (MeetAt kind layer pair.a pair.b)
+
 -- on this layer the length breaks this limit of this pick
 pub record IsOff (d : Deciders) (kind : Kind) (facts : Facts) (n : ℤ) (off : Off) : Type 0 where
   pub picked : IsPickAlone d kind facts off.layer (pick_of off.picked)

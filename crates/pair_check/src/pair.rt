@@ -10,11 +10,14 @@ ghost use Rattle.cond_lang.specs.Kinds.{family, kind_number};
 ghost use Rattle.pair_check.specs.PlainRow.{PlainRow};
 ghost use Rattle.kind_subjects.specs.Layers.{IsTried, IsFirst, HoldsNowhere};
 ghost use Rattle.kind_subjects.specs.Compared.{is_compared};
-ghost use Rattle.pair_check.specs.Pairs.{IsGivenPlace, IsNearAt};
+ghost use Rattle.kind_subjects.specs.Facing.{facings};
+ghost use Rattle.kind_subjects.specs.Sides.{facings_of};
+ghost use Rattle.rule_pick.specs.Picks.{pick_of};
+ghost use Rattle.pair_check.specs.Pairs.{IsPickOf, IsGivenPlace, IsNearAt};
 ghost use Rattle.pair_check.specs.Asked.{AsksNothing, IsNoteOf};
 ghost use Rattle.pair_check.specs.Rows.{Stands, AreRowsWhere, AreRowsOfPair};
 ghost use Rattle.pair_check.specs.Views.{checked_by, deciders_of, IsWholeView};
-ghost use Rattle.pair_check.specs.Stages.{pair_of, IsNear, IsNearOrMeets, IsOfPair, IsOfKind, AreRowsBelow};
+ghost use Rattle.pair_check.specs.Stages.{pair_of, AreUnfaced, IsNear, IsNearOrMeets, IsOfPair, IsOfKind, AreRowsBelow};
 
 use crate::asked::{ANYTHING, Asked};
 use crate::found::{Near, Pair, Single};
@@ -26,12 +29,41 @@ use crate::steps::Steps;
 use crate::view::CheckView;
 use cond_lang::{Kind, Severity};
 use kind_subjects::{
-    RowLayer, are_kept, facings_at, first_meeting, gap_if_near, is_compared, may_face,
+    Facings, RowLayer, are_kept, facings_at, first_meeting, gap_if_near, is_compared, may_face,
     places_between, share_net, tried_at,
 };
-use rule_pick::{Source, pick};
+use rule_pick::{Picked, Source, pick};
 use std::alloc::Global;
 use std::sync::ledger::Ledger;
+
+/// What is picked on the layer for what faces each other there. Where nothing does, nothing is picked.
+#[inline(always)]
+fn picked_at(
+    view: &CheckView,
+    kind: Kind,
+    pair: Pair<'_>,
+    layer: RowLayer,
+    faced: &Facings<'_>,
+) -> Option<Picked>
+    requires few { length view.now.rules.now < 4294967295 }
+    requires measured { family kind ≡ Family.Keeps }
+    requires same { facings_of faced.now ≡ facings kind layer pair.a.now pair.b.now }
+    ensures { MatchOption result (AreUnfaced kind (pair_of pair.entry) layer)
+        (λ picked. IsPickOf (deciders_of view.now) kind (pair_of pair.entry) layer (pick_of picked)) }
+{
+    if !may_face(faced, kind, layer, pair.a, pair.b) {
+        return None;
+    }
+    let mins = view.classes.mins();
+    Some(pick(
+        view.rules,
+        mins,
+        kind,
+        pair.facts_a,
+        Some(pair.facts_b),
+        layer.asked(),
+    ))
+}
 
 /// What is broken on the layer, if anything is.
 #[inline(always)]
@@ -43,18 +75,7 @@ fn near_at(view: &CheckView, kind: Kind, pair: Pair<'_>, layer: RowLayer) -> Opt
         (λ near. (near.layer ≡ layer) × IsNear (deciders_of view.now) kind (pair_of pair.entry) near) }
 {
     let faced = facings_at(kind, layer, pair.a, pair.b);
-    if !may_face(&faced, kind, layer, pair.a, pair.b) {
-        return None;
-    }
-    let mins = view.classes.mins();
-    let picked = pick(
-        view.rules,
-        mins,
-        kind,
-        pair.facts_a,
-        Some(pair.facts_b),
-        layer.asked(),
-    );
+    let picked = picked_at(view, kind, pair, layer, &faced)?;
     if !counts(picked.severity) {
         return None;
     }
@@ -192,19 +213,10 @@ fn is_kept_at(view: &CheckView, pair: Pair<'_>, layer: RowLayer) -> bool
 {
     let kind = Kind::Clearance;
     let faced = facings_at(kind, layer, pair.a, pair.b);
-    if !may_face(&faced, kind, layer, pair.a, pair.b) {
-        return true;
+    match picked_at(view, kind, pair, layer, &faced) {
+        Some(picked) => are_kept(&faced, kind, layer, pair.a, pair.b, picked.least),
+        None => true,
     }
-    let mins = view.classes.mins();
-    let picked = pick(
-        view.rules,
-        mins,
-        kind,
-        pair.facts_a,
-        Some(pair.facts_b),
-        layer.asked(),
-    );
-    are_kept(&faced, kind, layer, pair.a, pair.b, picked.least)
 }
 
 /// Whether it does on each layer. Most pairs do, and one walk over the layers and over what is there tells so of both kinds. Only a

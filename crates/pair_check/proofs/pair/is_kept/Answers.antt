@@ -9,7 +9,7 @@ use Rattle.pair_check.specs.Views.{checked_by}
 use Rattle.pair_check.specs.Stages.{pair_of, IsNearOrMeets}
 use Rattle.kind_subjects.proofs.NearLayers.{short_as_clearance}
 use Rattle.kind_subjects.proofs.Unfaced.{meet_within, near_within}
-use Rattle.kind_subjects.proofs.TriedLayers.{HoldsWithin, none_at_start, none_in_none, none_here, none_untried, tried_in, untried_in}
+use Rattle.kind_subjects.proofs.TriedLayers.{none_at_start, none_in_none, none_here, none_untried, tried_in, untried_in}
 use Rattle.pair_check.proofs.pair.is_kept.Goals.{in-Some+else-not-is_kept_at, in_default}
 use Rattle.pair_check.proofs.pair.is_kept.Goals as goal
 
