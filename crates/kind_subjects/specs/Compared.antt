@@ -11,6 +11,7 @@ use Rattle.board_items.specs.declared.item.Bans.{Bans}
 use Rattle.board_items.specs.declared.item.What.{What}
 use Rattle.board_items.specs.declared.item.What.TheVariants.{Track, Via, Pad, Graphic, Edge, Area, Body}
 use Rattle.board_items.specs.declared.item.Item.{Item}
+use Rattle.board_items.specs.Units.{is_body}
 use Rattle.cond_lang.specs.declared.kind.Kind.{Kind}
 use Rattle.cond_lang.specs.declared.kind.Kind.TheVariants.{Short, Clearance, HoleClearance, HoleToHole, EdgeClearance, CourtyardClearance, Keepout, TrackWidth, ViaDiameter, HoleSize, AnnularWidth, Disallow, PhysicalClearance, PhysicalHoleClearance, Assertion}
 
@@ -101,15 +102,11 @@ abbrev pub keeps_out : What → What → Bool
 keeps_out (Area title bans shape) what = does_ban bans what
 keeps_out _ what = false
 
--- ---- edges and bodies
+-- ---- edges
 
 abbrev pub is_edge : What → Bool
 is_edge (Edge lines) = true
 is_edge _ = false
-
-abbrev pub is_body : What → Bool
-is_body (Body reference front back on_back) = true
-is_body _ = false
 
 -- ---- the table
 

@@ -2,6 +2,7 @@
 use Rattle.std.proofs.Common.{◌≡◌, ◌⊎◌, inl, inr, refl, ap, subst, ℕ, Bool, true, false, ◌&&◌, ◌||◌, not, ◌∙◌, Option, None, Some, List, [], arith}
 use Rattle.board_items.specs.declared.item.Hole.{Hole}
 use Rattle.board_items.specs.declared.item.What.{What}
+use Rattle.board_items.specs.Units.{is_body}
 use Rattle.board_items.specs.declared.item.What.TheVariants.{Track, Via, Pad, Graphic, Fill, Edge, Area, Body, Note}
 use Rattle.cond_lang.specs.declared.kind.Kind.{Kind}
 use Rattle.cond_lang.specs.declared.kind.Kind.TheVariants.{Short, Clearance, HoleClearance, HoleToHole, EdgeClearance, CourtyardClearance, Keepout, PhysicalClearance, PhysicalHoleClearance}
@@ -10,7 +11,7 @@ use Rattle.kind_subjects.specs.declared.layer.RowLayer.{RowLayer}
 use Rattle.kind_subjects.specs.declared.subject.Faces.TheVariants.{EdgesAndCopper}
 use Rattle.kind_subjects.specs.declared.subject.Subject.TheVariants.{Sides}
 use Rattle.pair_check.specs.PlainRow.{PlainRow}
-use Rattle.kind_subjects.specs.Compared.{share_net, is_body, keeps_out, are_round_holes, is_compared}
+use Rattle.kind_subjects.specs.Compared.{share_net, keeps_out, are_round_holes, is_compared}
 use Rattle.kind_subjects.specs.Facing.{lines_of}
 use Rattle.pair_check.specs.Pairs.{Deciders, Pair, IsNearAt, Breaks}
 use Rattle.pair_check.specs.Asked.{IsNoteOf}
