@@ -16,11 +16,11 @@ use crate::applied::Applied;
 use box_index::TileIndex;
 use geo_seg::Bounds;
 use kept_rows::{renew_rows, rows_anew};
-use row_check::{CheckView, Row};
+use row_check::{CheckView, Row, ids_of};
 use std::alloc::{AllocError, Global};
 use std::thread::Threads;
 use tile_pool::Gate;
-use tile_rows::{Tiles, ids_of, test_tiles};
+use tile_rows::{Tiles, test_tiles};
 
 /// All rows of what is checked: all tiles that hold an item are gone through.
 pub(crate) fn check_all<R: Threads + Sync, G: Gate>(

@@ -16,4 +16,4 @@ mod whole;
 pub use kind_subjects::RowLayer;
 pub use pair_check::{CheckView, PairRows, Row, Steps, test_item, test_pair};
 pub use tile::test_tile;
-pub use whole::{push_singles, rows_of, rows_of_changed};
+pub use whole::{ids_of, push_singles, rows_of, rows_of_changed};

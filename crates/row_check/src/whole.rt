@@ -20,8 +20,8 @@ use std::alloc::{AllocError, Global};
 use std::marker::Brand;
 use std::sync::ledger::{Blank, Ledger};
 
-/// The ids of all items, which rise.
-fn ids_of(alloc: Global, board: &Board) -> Result<Vec<u32>, AllocError>
+/// The ids of all items of the board, which rise. Only want of memory refuses it.
+pub fn ids_of(alloc: Global, board: &Board) -> Result<Vec<u32>, AllocError>
     ensures ids { IfOk result (λ ids. ids.items ≡ ids_of board.now) }
     ensures rise { IfOk result (λ ids. IsStrictlyIncreasing ids.items) }
 {

@@ -13,11 +13,11 @@ use box_index::TileIndex;
 use item_facts::{all_facts, reach};
 use kept_rows::rows_anew;
 use net_class::Classes;
-use row_check::{CheckView, Row};
+use row_check::{CheckView, Row, ids_of};
 use std::alloc::{AllocError, Global};
 use std::thread::Threads;
 use tile_pool::Gate;
-use tile_rows::{Tiles, ids_of};
+use tile_rows::Tiles;
 
 /// All rows of what is checked: all tiles that hold an item are gone through.
 fn steal_all<R: Threads + Sync, G: Gate>(

@@ -1,11 +1,9 @@
 //! The tiles of a board as the work of workers: what each of them gives is its rows.
 #![tactic(auto)]
 
-mod ids;
 pub mod laws;
 mod testing;
 mod work;
 
-pub use ids::ids_of;
 pub use testing::test_tiles;
 pub use work::Tiles;
