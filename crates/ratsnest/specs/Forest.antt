@@ -1,5 +1,5 @@
 -- Words of the search that joins groups by rounds.
-use Rattle.std.specs.Prelude.{◌≡◌, ◌≢◌, Contains, ℕ, ℤ, ◌+◌, ◌-◌, ◌≤◌, ◌<◌, ◌≤ℤ◌, min, max, ◌⊎◌, Bool, true, List, length, slice_index_or, count_by, Option, Some, None}
+use Rattle.std.specs.Prelude.{◌≡◌, ◌≢◌, Contains, ℕ, ℤ, ◌+◌, ◌-◌, ◌≤◌, ◌<◌, ◌≤ℤ◌, ◌⊎◌, Bool, true, List, length, slice_index_or, count_by, Option, Some, None}
 use Rattle.ratsnest.specs.declared.anchor.Anchor.{Anchor}
 use Rattle.ratsnest.specs.declared.link.Link.{Link}
 use Rattle.ratsnest.specs.declared.spot.Spot.{Spot}
@@ -9,12 +9,12 @@ use Rattle.ratsnest.specs.declared.tree.Part.{Part}
 use Rattle.ratsnest.specs.declared.tree.Node.{Node}
 use Rattle.ratsnest.specs.declared.joins.Members.{Members}
 use Rattle.ratsnest.specs.Mem.{Mem, Climbs}
-use Rattle.ratsnest.specs.Grow.{rank}
-use Rattle.ratsnest.specs.NestOf.{nowhere, anchor_at, group_at, group_count, square_of, InNest}
+use Rattle.ratsnest.specs.Grow.{rank, link_with_places}
+use Rattle.ratsnest.specs.NestOf.{nowhere, anchor_at, group_at, group_count, InNest}
 
 -- the link of two anchors
 unfoldable pub link_between : Spot → Spot → Link
-link_between s t = record { square = square_of s.anchor t.anchor; first = min s.place t.place; second = max s.place t.place }
+link_between s t = link_with_places s.anchor s.place t.anchor t.place
 
 -- what stands past the end of a list
 abbrev pub no_spot : Spot

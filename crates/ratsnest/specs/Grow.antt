@@ -18,9 +18,13 @@ link_at anchors i j =
 abbrev pub rank_at : List Anchor → ℕ → ℕ → ℕ
 rank_at anchors i j = rank (link_at anchors i j)
 
+-- the link of two anchors, each given with its place
+abbrev pub link_with_places : Anchor → ℕ → Anchor → ℕ → Link
+link_with_places a i b j = record { square = square_of a b; first = min i j; second = max i j }
+
 -- the link of two anchors
 unfoldable pub link_between : Waiting → Waiting → Link
-link_between m w = record { square = square_of m.anchor w.anchor; first = min m.place w.place; second = max m.place w.place }
+link_between m w = link_with_places m.anchor m.place w.anchor w.place
 
 -- an anchor waits with its link from the first one
 pub record IsFromFirst (anchors : List Anchor) (j : ℕ) (w : Waiting) : Type 0 where

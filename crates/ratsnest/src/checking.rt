@@ -1,5 +1,5 @@
 //! The check of a nest: by the definition, all links in order, each kept where no chain of smaller ones joins its ends.
-//! Nothing of it stands in the search that grows the nest but reading an anchor and measuring a link.
+//! Nothing of it stands in the search that grows the nest but reading an anchor, measuring a link and giving each group a label.
 
 ghost use Rattle.std.specs.Prelude.{◌≡◌, ◌<◌, ◌^◌, ◌↔◌, ℕ, IsTrue, length, OnOk, slice_index, IfOk, [], if◌then◌else◌, ◌==◌};
 ghost use Rattle.ratsnest.specs.declared.link.Link.{Link};
@@ -8,6 +8,7 @@ ghost use Rattle.ratsnest.specs.Grow.{rank, AreAllLinks, AreOwnLabels};
 ghost use Rattle.ratsnest.specs.Mem.{Mem, Climbs};
 
 use crate::anchor::Anchor;
+use crate::labels::own_labels;
 use crate::link::Link;
 use crate::links::Nest;
 use crate::places::{count_groups, group_of, link_of};
@@ -76,17 +77,6 @@ fn join(
         }
     }
     Ok(())
-}
-
-fn own_labels(alloc: Global, count: usize) -> Result<Vec<usize>, AllocError>
-    ensures count { IfOk result (λ v. length v.items ≡ count) }
-    ensures own { IfOk result (λ v. (g : ℕ) → g < length v.items → slice_index v.items g ≡ g) }
-{
-    let mut labels = Vec::new(alloc);
-    for g in 0..count {
-        labels.push(g)?;
-    }
-    Ok(labels)
 }
 
 fn by_chains(alloc: Global, anchors: &[Anchor]) -> Result<Vec<Link>, AllocError>

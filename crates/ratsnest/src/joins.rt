@@ -135,18 +135,6 @@ pub(crate) fn join_all(
     Ok(())
 }
 
-/// Each group has a label of its own.
-pub(crate) fn own_labels(alloc: Global, count: usize) -> Result<Vec<usize>, AllocError>
-    ensures count { IfOk result (λ v. length v.items ≡ count) }
-    ensures own { IfOk result (λ v. (g : ℕ) → g < length v.items → slice_index_or v.items g 0 ≡ g) }
-{
-    let mut labels = Vec::new(alloc);
-    for g in 0..count {
-        labels.push(g)?;
-    }
-    Ok(labels)
-}
-
 fn only_member(alloc: Global, group: usize) -> Result<Members, AllocError>
     ensures { IfOk result (λ m. m.groups.items ≡ group ∷ []) }
 {

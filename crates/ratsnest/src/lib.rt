@@ -8,6 +8,7 @@ mod area;
 mod checking;
 mod growing;
 mod joins;
+mod labels;
 mod laws;
 mod link;
 mod links;

@@ -3,7 +3,7 @@
 ghost use Rattle.std.specs.Prelude.{◌≡◌, ◌<◌, ◌^◌, ◌↔◌, IsTrue, length, ◌≤◌, unsigned_abs, ◌-ℤ◌, ◌*◌};
 ghost use Rattle.ratsnest.specs.Reach.{IsInReach};
 ghost use Rattle.ratsnest.specs.NestOf.{group_at, group_count, square_of, square_between};
-ghost use Rattle.ratsnest.specs.Grow.{rank, link_at};
+ghost use Rattle.ratsnest.specs.Grow.{rank, link_at, link_with_places};
 
 use crate::anchor::Anchor;
 use crate::link::Link;
@@ -57,6 +57,17 @@ pub(crate) fn link_of(anchors: &[Anchor], i: usize, j: usize) -> Link
         square: square_at(anchors, first, second),
         first: first as u32,
         second: second as u32,
+    }
+}
+
+/// The link of two anchors, each given with its place.
+pub(crate) fn link_with_places(a: Anchor, i: u32, b: Anchor, j: u32) -> Link
+    ensures { result ≡ link_with_places a i b j }
+{
+    Link {
+        square: square(a, b),
+        first: i.min(j),
+        second: i.max(j),
     }
 }
 

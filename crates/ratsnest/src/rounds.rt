@@ -10,7 +10,8 @@ ghost use Rattle.ratsnest.specs.Forest.{AreSpots, AreNodes, AreKept, IsForest, A
 ghost use Rattle.ratsnest.specs.Mem.{Mem, Climbs};
 
 use crate::anchor::Anchor;
-use crate::joins::{Members, join_all, own_labels, own_members};
+use crate::joins::{Members, join_all, own_members};
+use crate::labels::own_labels;
 use crate::link::Link;
 use crate::nearest::{all_best, largest};
 use crate::places::count_groups;

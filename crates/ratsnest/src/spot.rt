@@ -7,7 +7,7 @@ ghost use Rattle.ratsnest.specs.Forest.{link_between, spot_at, IsSpotOf, IsDrawn
 
 use crate::anchor::Anchor;
 use crate::link::Link;
-use crate::places::{is_below, precedes, square};
+use crate::places::{is_below, link_with_places, precedes, square};
 use std::alloc::{AllocError, Global};
 
 /// An anchor, and its place in the list of anchors.
@@ -15,18 +15,6 @@ use std::alloc::{AllocError, Global};
 pub(crate) struct Spot {
     pub(crate) anchor: Anchor,
     pub(crate) place: u32,
-}
-
-/// The link of two anchors.
-#[tactic(auto, unfolding(crate::specs::Forest::link_between))]
-fn link_between(from: &Spot, to: &Spot) -> Link
-    ensures { result ≡ link_between from.now to.now }
-{
-    Link {
-        square: square(from.anchor, to.anchor),
-        first: from.place.min(to.place),
-        second: from.place.max(to.place),
-    }
 }
 
 /// Whether the distance alone says that the link is no less than the one that is kept.
@@ -37,13 +25,14 @@ fn is_farther(best: Link, from: &Spot, to: &Spot) -> bool
 }
 
 /// Keeps the link of the two if it is less.
+#[tactic(auto, unfolding(crate::specs::Forest::link_between))]
 pub(crate) fn draw(best: &mut Link, from: &Spot, to: &Spot)
     ensures { IsDrawn from.now to.now best.old best.new }
 {
     if is_farther(*best, from, to) {
         return;
     }
-    let link = link_between(from, to);
+    let link = link_with_places(from.anchor, from.place, to.anchor, to.place);
     if precedes(link, *best) {
         *best = link;
     }

@@ -7,7 +7,7 @@ ghost use Rattle.ratsnest.specs.Grow.{rank, link_between, IsDrawn, IsDrawnToAll,
 
 use crate::anchor::Anchor;
 use crate::link::Link;
-use crate::places::{is_below, link_of, precedes, square};
+use crate::places::{is_below, link_of, link_with_places, precedes, square};
 use std::alloc::{AllocError, Global};
 
 /// Among so many that wait an anchor is looked for at the spot of the next: an end of a track mostly stands at one of the last before it.
@@ -21,18 +21,6 @@ pub(crate) struct Waiting {
     pub(crate) link: Link,
 }
 
-/// The link of two anchors.
-#[tactic(auto, unfolding(crate::specs::Grow::link_between))]
-fn link_between(from: &Waiting, to: &Waiting) -> Link
-    ensures { result ≡ link_between from.now to.now }
-{
-    Link {
-        square: square(from.anchor, to.anchor),
-        first: from.place.min(to.place),
-        second: from.place.max(to.place),
-    }
-}
-
 /// Whether the distance alone says that the link is no less than the one that is kept.
 fn is_farther(held: &Waiting, from: &Waiting) -> bool
     ensures { IsTrue result → rank held.now.link ≤ rank (link_between from.now held.now) }
@@ -41,13 +29,14 @@ fn is_farther(held: &Waiting, from: &Waiting) -> bool
 }
 
 /// Keeps the link from this anchor if it is less.
+#[tactic(auto, unfolding(crate::specs::Grow::link_between))]
 fn draw(held: &mut Waiting, from: &Waiting)
     ensures { IsDrawn from.now held.old held.new }
 {
     if is_farther(held, from) {
         return;
     }
-    let link = link_between(from, held);
+    let link = link_with_places(from.anchor, from.place, held.anchor, held.place);
     if precedes(link, held.link) {
         held.link = link;
     }

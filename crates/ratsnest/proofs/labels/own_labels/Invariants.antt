@@ -1,5 +1,5 @@
 use Rattle.std.proofs.Common.{◌≡◌, ◌<◌, ℕ, length, slice_index_or}
-use Rattle.ratsnest.proofs.joins.own_labels.Given as goal
+use Rattle.ratsnest.proofs.labels.own_labels.Given as goal
 
 abbrev pub invariant-loop-g : goal.invariant-loop-g
 invariant-loop-g l = record {
