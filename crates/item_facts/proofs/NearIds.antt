@@ -1,56 +1,15 @@
--- Ids that are gathered from the entries of tiles, and ids that rise.
-use Rattle.std.proofs.Common.{◌≡◌, ap, sym, subst, ◌∙◌, inl, inr, ℕ, suc, ◌+◌, ◌<◌, ◌≤◌, pos, true, false, Bool, cond, nat_eq, List, [], ◌∷◌, ◌++◌, length, get_or, take, map, filter, Contains, Some, refl, arith}
+-- Ids that rise.
+use Rattle.std.proofs.Common.{◌≡◌, ap, sym, subst, ◌∙◌, ℕ, suc, ◌+◌, ◌<◌, ◌≤◌, true, false, Bool, cond, nat_eq, List, [], ◌∷◌, map, filter, Contains, Some, refl, arith}
 use Rattle.std.specs.List.{AllPairs}
 use Rattle.std.specs.List.Sorted.{IsStrictlyIncreasing}
 use Rattle.std.proofs.lemmas.Bool.{eqb-true}
-use Rattle.std.proofs.lemmas.List.{take_more, get_or_default}
-use Rattle.std.proofs.lemmas.List.Elements.{Contains-append_left, Contains-push, Contains-push_cases}
 use Rattle.std.proofs.lemmas.List.Kept.{AllPairs-from_increasing}
-use Rattle.geo_seg.specs.declared.boxes.Bounds.{Bounds}
-use Rattle.geo_seg.specs.Boxes.{do_boxes_meet}
 use Rattle.board_items.specs.declared.item.Item.{Item}
 use Rattle.board_items.specs.Boards.{Rise, item_at, ids_where}
-use Rattle.box_index.specs.declared.entry.Entry.{Entry}
-use Rattle.item_facts.specs.Near.{DoRise, HasMet}
+use Rattle.item_facts.specs.Near.{DoRise}
 
 pub both_ways : (b : Bool) → b ≡ true → b ≡ false → ⊥
 both_ways b e f = cc
-
--- ---- the entries of a tile
-
-pub met_none : (box : Bounds) (old : List ℕ) → HasMet box [] old old
-met_none box old = record { kept = λ id c. c; met = λ e c m. let lt = c.1 in absurd (omega arith) }
-
-module _ (box : Bounds) (es : List Entry) (i : ℕ) (one : Entry) (lt : i < length es) (is : one ≡ get_or es i one) (old now : List ℕ) (so_far : HasMet box (take i es) old now) where
-  seen : take (i + 1) es ≡ take i es ++ one ∷ []
-  seen = take_more es i one lt ∙ ap (λ (e : Entry). take i es ++ e ∷ []) (sym is)
-
-  -- its box meets this one
-  pub met_more : HasMet box (take (i + 1) es) old (now ++ one.id ∷ [])
-  met_more = subst (λ (l : List Entry). HasMet box l old (now ++ one.id ∷ [])) (sym seen) (record { kept = λ id c. Contains-append_left now (one.id ∷ []) id (so_far.kept id c); met = met })
-    where
-      met : (e : Entry) → Contains (take i es ++ one ∷ []) e → do_boxes_meet box e.bounds ≡ true → Contains (now ++ one.id ∷ []) e.id
-      met e c m = elim (Contains-push_cases (take i es) one e c) [
-        | inl before ↦ Contains-append_left now (one.id ∷ []) e.id (so_far.met e before m)
-        | inr same ↦ subst (λ (x : Entry). Contains (now ++ one.id ∷ []) x.id) same (Contains-push now one.id)
-      ]
-
-  -- it does not
-  pub met_skip : do_boxes_meet box one.bounds ≡ false → HasMet box (take (i + 1) es) old now
-  met_skip apart = subst (λ (l : List Entry). HasMet box l old now) (sym seen) (record { kept = so_far.kept; met = met })
-    where
-      met : (e : Entry) → Contains (take i es ++ one ∷ []) e → do_boxes_meet box e.bounds ≡ true → Contains now e.id
-      met e c m = elim (Contains-push_cases (take i es) one e c) [
-        | inl before ↦ so_far.met e before m
-        | inr same ↦ absurd (both_ways (do_boxes_meet box e.bounds) m (subst (λ (x : Entry). do_boxes_meet box x.bounds ≡ false) same apart))
-      ]
-
--- what is read past a list of entries
-abbrev pub no_entry : Entry
-no_entry = record { id = 0; bounds = record { left = pos 0; top = pos 0; right = pos 0; bottom = pos 0 } }
-
-pub itself : (es : List Entry) (i : ℕ) → i < length es → get_or es i no_entry ≡ get_or es i (get_or es i no_entry)
-itself es i lt = get_or_default es i no_entry (get_or es i no_entry) lt
 
 -- ---- ids that rise
 

@@ -1,15 +1,13 @@
 -- The areas and bodies near an item, as an index finds them.
-use Rattle.std.specs.Prelude.{◌≡◌, ◌≢◌, ℕ, ◌+◌, ◌<◌, ◌≤◌, ◌⊎◌, Bool, true, false, List, [], ◌∷◌, filter, Contains, Option, None, Some}
+use Rattle.std.specs.Prelude.{◌≡◌, ◌≢◌, ℕ, ◌+◌, ◌≤◌, ◌⊎◌, Bool, true, false, List, [], ◌∷◌, filter, Contains, Option, None, Some}
 use Rattle.geo_seg.specs.declared.boxes.Bounds.{Bounds}
-use Rattle.geo_seg.specs.Boxes.{BoxesMeet, do_boxes_meet}
+use Rattle.geo_seg.specs.Boxes.{BoxesMeet}
 use Rattle.board_items.specs.declared.item.Item.{Item}
 use Rattle.board_items.specs.Boards.{item_at, is_mark}
 use Rattle.board_items.specs.Parts.{parts_of}
 use Rattle.board_items.specs.Extents.{AreBoundsOf}
-use Rattle.box_index.specs.declared.area.Area.{Area}
 use Rattle.box_index.specs.declared.entry.Entry.{Entry}
-use Rattle.box_index.specs.Areas.{has_tile, end_of}
-use Rattle.box_index.specs.Tiles.{PlainIndex, near_of}
+use Rattle.box_index.specs.Tiles.{PlainIndex}
 use Rattle.rule_pick.specs.FactsOf.{MeetsArea, MeetsCourtyard}
 
 -- ---- ids
@@ -18,24 +16,6 @@ use Rattle.rule_pick.specs.FactsOf.{MeetsArea, MeetsCourtyard}
 abbrev pub DoRise : ℕ → List ℕ → Type 0
 DoRise low [] = Unit {0}
 DoRise low (id ∷ ids) = (low ≤ id) × DoRise (id + 1) ids
-
--- none is gone, and among them is the id of each of these entries whose box meets this one
-pub record HasMet (box : Bounds) (entries : List Entry) (old new : List ℕ) : Type 0 where
-  pub kept : (id : ℕ) → Contains old id → Contains new id
-  pub met : (e : Entry) → Contains entries e → do_boxes_meet box e.bounds ≡ true → Contains new e.id
-
--- the same of boxes that meet, however it is tested
-pub record HasReached (box : Bounds) (entries : List Entry) (old new : List ℕ) : Type 0 where
-  pub kept : (id : ℕ) → Contains old id → Contains new id
-  pub met : (e : Entry) → Contains entries e → BoxesMeet box e.bounds → Contains new e.id
-
--- ---- tiles
-
--- what holds when the tiles of an area before this one were asked
-pub record IsWalked (index : PlainIndex) (area : Area) (box : Bounds) (old ids : List ℕ) (here : ℕ) : Type 0 where
-  pub next : here < end_of area → has_tile area here ≡ true
-  pub kept : (id : ℕ) → Contains old id → Contains ids id
-  pub met : (tile : ℕ) → tile < here → has_tile area tile ≡ true → (e : Entry) → Contains (near_of index tile) e → do_boxes_meet box e.bounds ≡ true → Contains ids e.id
 
 -- ---- items
 

@@ -1,16 +1,15 @@
 //! The areas and bodies near an item. An index of boxes tells them, so that an item is not asked against all of them.
 
-ghost use Rattle.std.specs.Prelude.{◌≡◌, ℕ, pos, [], Contains, filter, IfOk, OnOk, IfSome};
-ghost use Rattle.std.specs.List.Sorted.{IsStrictlyIncreasing};
+ghost use Rattle.std.specs.Prelude.{◌≡◌, pos, [], filter, IfOk, OnOk, IfSome};
 ghost use Rattle.geo_seg.specs.Boxes.{FitsWithin};
 ghost use Rattle.board_items.specs.Boards.{IsSound, is_mark, marks_of};
 ghost use Rattle.board_items.specs.Parts.{parts_of};
 ghost use Rattle.board_items.specs.Extents.{AreBoundsOf};
-ghost use Rattle.box_index.specs.Tiles.{IsAbsent, near_of};
-ghost use Rattle.item_facts.specs.Near.{HasMet, HasReached, is_mark_of, HoldsMarks, IsMarked, AreEnough};
+ghost use Rattle.box_index.specs.Tiles.{IsAbsent};
+ghost use Rattle.item_facts.specs.Near.{is_mark_of, HoldsMarks, IsMarked, AreEnough};
 
 use board_items::{Board, Item, What};
-use box_index::{TileIndex, do_boxes_meet};
+use box_index::{TileIndex, push_ids_near, put_in_order};
 use geo_seg::Bounds;
 use std::alloc::{AllocError, Global};
 
@@ -57,47 +56,6 @@ pub fn index_marks(alloc: Global, board: &Board) -> Result<TileIndex, AllocError
         }
     }
     Ok(index)
-}
-
-/// Appends the ids of a tile's entries whose boxes meet this one.
-fn push_tile(
-    index: &TileIndex,
-    tile: u32,
-    bounds: Bounds,
-    ids: &mut Vec<u32>,
-) -> Result<(), AllocError>
-    ensures { OnOk result (HasMet bounds (near_of index.now tile) ids.old.items ids.new.items) }
-{
-    for entry in index.near(tile) {
-        if do_boxes_meet(bounds, entry.bounds) {
-            ids.push(entry.id)?;
-        }
-    }
-    Ok(())
-}
-
-/// Appends the ids of all entries whose boxes meet this one; an entry of many tiles more than once.
-fn push_near(index: &TileIndex, bounds: Bounds, ids: &mut Vec<u32>) -> Result<(), AllocError>
-    requires { FitsWithin (pos 2000000000) bounds }
-    ensures { OnOk result (HasReached bounds index.now.entries ids.old.items ids.new.items) }
-{
-    let area = index.area(bounds);
-    let end = area.end();
-    let mut tile = area.first();
-    'tiles: while tile < end {
-        push_tile(index, tile as u32, bounds, ids)?;
-        tile = area.after(tile);
-    }
-    Ok(())
-}
-
-/// Puts ids in order, each once. It takes no memory.
-fn put_in_order(ids: &mut Vec<u32>)
-    ensures rise { IsStrictlyIncreasing ids.new.items }
-    ensures kept { (id : ℕ) → Contains ids.old.items id → Contains ids.new.items id }
-{
-    ids.sort_unstable();
-    ids.dedup();
 }
 
 /// Whether the id is that of an area or a body.
@@ -165,7 +123,7 @@ pub fn marks_near(
             if spans_more(index, bounds, board.marks().len()) {
                 return push_marks(board, ids);
             }
-            push_near(index, bounds, ids)?;
+            push_ids_near(index, bounds, ids)?;
             keep_marks(board, ids);
             put_in_order(ids);
             Ok(())

@@ -7,9 +7,9 @@ pub returns-in-None : goal.returns-in-None
 returns-in-None c =
     subst (λ (ids : List ℕ). AreEnough c.args.item.now c.args.board.now.items ids) (sym c.clear.ensures.items) (meets_nothing c.args.board.now.items c.args.item.now c.in-None.ensures.least)
 
-pub returns-in_ok-push_near-in-Some : goal.returns-in_ok-push_near-in-Some
-returns-in_ok-push_near-in-Some c =
-    enough c.args.board.now.items c.args.index.now c.requires c.args.item.now c.in-Some.bounds c.in-Some.ensures.least c.clear.new.self.items c.push_near.new.ids.items c.put_in_order.new.ids.items c.in_ok-push_near-in-Some.ensures c.put_in_order.ensures.rise
+pub returns-in_ok-push_ids_near-in-Some : goal.returns-in_ok-push_ids_near-in-Some
+returns-in_ok-push_ids_near-in-Some c =
+    enough c.args.board.now.items c.args.index.now c.requires c.args.item.now c.in-Some.bounds c.in-Some.ensures.least c.clear.new.self.items c.push_ids_near.new.ids.items c.put_in_order.new.ids.items c.in_ok-push_ids_near-in-Some.ensures c.put_in_order.ensures.rise
     (λ id h. c.put_in_order.ensures.kept id (subst (λ (ids : List ℕ). Contains ids id) (sym c.keep_marks.ensures) h))
 
 then : {E : Type 0} {P Q : Type 0} (r : Result (Unit {0}) E) → OnOk r P → (P → Q) → OnOk r Q
