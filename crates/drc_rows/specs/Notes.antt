@@ -58,6 +58,7 @@ item_count board = length (notes_of board.items)
 
 -- ---- constraints
 
+-- the name of a rule, if there is one
 abbrev pub name_in : Option PlainRule → List ℕ
 name_in None = []
 name_in (Some rule) = rule.name

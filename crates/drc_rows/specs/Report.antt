@@ -21,7 +21,7 @@ use Rattle.kind_subjects.specs.declared.layer.RowLayer.TheVariants.{Copper, Fron
 use Rattle.pair_check.specs.PlainRow.{PlainRow}
 use Rattle.rule_text.specs.RulesOf.{PlainRules}
 use Rattle.drc_rows.specs.Line.{named}
-use Rattle.drc_rows.specs.Notes.{note_lines, note_count}
+use Rattle.drc_rows.specs.Notes.{name_in, note_lines, note_count}
 
 -- what an item is called: by its own name, a rule area by its title, a footprint by its reference, and a pad by its number
 -- and the reference of its footprint. No row names a note
@@ -87,16 +87,11 @@ items_by Forbids board row = single_text board row
 abbrev pub items_text : Kind → PlainBoard → PlainRow → List ℕ
 items_text kind board row = items_by (family kind) board row
 
--- the name of a rule. Where a rule asks, it is always there
-abbrev pub rule_name : Option PlainRule → List ℕ
-rule_name None = []
-rule_name (Some rule) = rule.name
-
--- what asks for it: an item's own value, a rule by its name, or else a class or the board
+-- what asks for it: an item's own value, a rule by its name, or else a class or the board. A rule that asks is always there
 abbrev pub source_text : List PlainRule → Source → List ℕ
 source_text rules Default = codes "default"
 source_text rules Local = codes "local"
-source_text rules (Rule n) = named (codes "rule") (rule_name (slice_get rules n))
+source_text rules (Rule n) = named (codes "rule") (name_in (slice_get rules n))
 
 -- that, behind what a row says before it
 abbrev pub asked_text : List PlainRule → PlainRow → List ℕ
