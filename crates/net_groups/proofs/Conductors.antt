@@ -1,7 +1,7 @@
 -- The ids of a net's items with copper.
 use Rattle.std.proofs.Common.{◌≡◌, ◌≢◌, ◌⊎◌, ℕ, zero, suc, ◌+◌, ◌<◌, ◌≤◌, ◌==◌, Bool, true, false, not, ◌&&◌, cond, nat_eq, List, [], ◌∷◌, ◌++◌, length, get_or, map, filter, take, All, Contains, Some, inl, inr, refl, sym, subst, ap, ◌∙◌, arith, eq-eqb}
 use Rattle.std.proofs.lemmas.Bool.{ne_eqb, eqb-true, eqb-false, and_parts, and_from, not-true, not_from_false}
-use Rattle.std.proofs.lemmas.List.{nil_from_length, get_or_default, append_assoc, take_more, take_all}
+use Rattle.std.proofs.lemmas.List.{append-nil, nil_from_length, get_or_default, append_assoc, take_more, take_all}
 use Rattle.std.proofs.lemmas.List.Elements.{filter-append}
 use Rattle.std.proofs.lemmas.List.Kept.{AllPairs-cons}
 use Rattle.board_items.specs.declared.item.Item.{Item}
@@ -158,6 +158,16 @@ no_conductors board net none ids empty = subst (AreConductors board net) (sym em
 -- one id more
 pub kept_more : (p : ℕ → Bool) (ids : List ℕ) (k : ℕ) → k < length ids → filter p (take (k + 1) ids) ≡ filter p (take k ids) ++ cond (p (get_or ids k 0)) (get_or ids k 0 ∷ []) []
 kept_more p ids k lt = ap (filter p) (take_more ids k 0 lt) ∙ filter-append p (take k ids) (get_or ids k 0 ∷ [])
+
+-- one that is kept
+pub kept_one : (p : ℕ → Bool) (all ids : List ℕ) (k : ℕ) → k < length all → p (get_or all k 0) ≡ true → ids ≡ filter p (take k all) → ids ++ get_or all k 0 ∷ [] ≡ filter p (take (k + 1) all)
+kept_one p all ids k lt is e =
+    ap (λ l. l ++ get_or all k 0 ∷ []) e ∙ sym (kept_more p all k lt ∙ ap (λ b. filter p (take k all) ++ cond b (get_or all k 0 ∷ []) []) is)
+
+-- one that is passed
+pub kept_over : (p : ℕ → Bool) (all ids : List ℕ) (k : ℕ) → k < length all → p (get_or all k 0) ≡ false → ids ≡ filter p (take k all) → ids ≡ filter p (take (k + 1) all)
+kept_over p all ids k lt is e =
+    e ∙ sym (kept_more p all k lt ∙ ap (λ b. filter p (take k all) ++ cond b (get_or all k 0 ∷ []) []) is ∙ append-nil (filter p (take k all)))
 
 -- all ids
 pub kept_all : (board : PlainBoard) (net : ℕ) → IsSound board → net ≢ 0 → (k : ℕ) → length (ids_of_net net board.items) ≤ k → (ids : List ℕ) → ids ≡ filter (λ id. is_copper (item_at board.items id)) (take k (ids_of_net net board.items)) → AreConductors board net ids

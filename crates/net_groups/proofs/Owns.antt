@@ -15,7 +15,7 @@ use Rattle.item_copper.proofs.Rooms.{rooms_meet}
 use Rattle.item_copper.proofs.Symmetry.{copper_meets_back}
 use Rattle.net_groups.specs.Touching.{Touching, TouchOn}
 use Rattle.box_index.specs.declared.entry.Entry.{Entry}
-use Rattle.net_groups.specs.Rooms.{IsRoom, IsRoomAt, AreRooms}
+use Rattle.net_groups.specs.Rooms.{IsRoom, IsCopperRoom, IsRoomAt, AreRooms}
 use Rattle.net_groups.proofs.Covers.{has_parts}
 
 some_same : (a b : Item) → Some a ≡ Some b → a ≡ b
@@ -39,38 +39,43 @@ touching_at board i j a b f g t =
     subst (λ (x : Item). Touching x b) (some_same t.a a (sym t.first ∙ f)) (subst (λ (y : Item). Touching t.a y) (some_same t.b b (sym t.second ∙ g)) t.touch)
 
 -- ---- rooms of ids
--- the first ids have rooms
-pub record AreRoomsTo (board : PlainBoard) (ids : List ℕ) (count : ℕ) (rooms : List Bounds) : Type 0 where
-  pub many : length rooms ≡ count
+-- each of the ids has its room
+pub record AreRoomsOf (board : PlainBoard) (ids : List ℕ) (rooms : List Bounds) : Type 0 where
+  pub many : length rooms ≡ length ids
   pub fit : All (λ room. FitsWithin (pos 1500000000) room) rooms
-  pub each : (k : ℕ) (d : Bounds) → k < count → IsRoom board (get_or ids k 0) (get_or rooms k d)
+  pub each : (k : ℕ) (d : Bounds) → k < length ids → IsRoom board (get_or ids k 0) (get_or rooms k d)
 
-pub rooms_none : (board : PlainBoard) (ids : List ℕ) → AreRoomsTo board ids 0 []
-rooms_none board ids = record { many = refl; fit = λ k d lt. absurd (omega arith); each = λ k d lt. absurd (omega arith) }
+pub rooms_none : (board : PlainBoard) → AreRoomsOf board [] []
+rooms_none board = record { many = refl; fit = λ k d lt. absurd (omega arith); each = λ k d lt. absurd (omega arith) }
 
-pub rooms_more : (board : PlainBoard) (ids : List ℕ) (count : ℕ) (rooms : List Bounds) (room : Bounds) → AreRoomsTo board ids count rooms → FitsWithin (pos 1500000000) room → IsRoom board (get_or ids count 0) room
-    → AreRoomsTo board ids (count + 1) (rooms ++ room ∷ [])
-rooms_more board ids count rooms room so_far fits is = record {
-  many = length_push rooms room ∙ ap (λ n. n + 1) so_far.many;
-  fit = All-push (λ room. FitsWithin (pos 1500000000) room) rooms room so_far.fit fits;
-  each = λ k d lt. elim (cases_lt k count) [
-    | inl less ↦ subst (IsRoom board (get_or ids k 0)) (sym (get_or_append_left rooms (room ∷ []) d k (omega (arith, less, so_far.many)))) (so_far.each k d less)
+last_at : {A : Type 0} (xs : List A) (x d : A) (k : ℕ) → k ≡ length xs → get_or (xs ++ x ∷ []) k d ≡ x
+last_at xs x d k e =
+    let zero : k - length xs ≡ 0 = omega (arith, e) in
+    get_or-append_right xs (x ∷ []) (length xs) k d refl (omega (arith, e)) ∙ ap (λ n. get_or (x ∷ []) n d) zero
+
+pub rooms_more : (board : PlainBoard) (ids : List ℕ) (rooms : List Bounds) (id : ℕ) (room : Bounds) → AreRoomsOf board ids rooms → IsCopperRoom board id room → AreRoomsOf board (ids ++ id ∷ []) (rooms ++ room ∷ [])
+rooms_more board ids rooms id room so_far own = record {
+  many = length_push rooms room ∙ ap (λ n. n + 1) so_far.many ∙ sym (length_push ids id);
+  fit = All-push (λ room. FitsWithin (pos 1500000000) room) rooms room so_far.fit own.fits;
+  each = λ k d lt. elim (cases_lt k (length ids)) [
+    | inl less ↦
+        subst (λ (i : ℕ). IsRoom board i (get_or (rooms ++ room ∷ []) k d)) (sym (get_or_append_left ids (id ∷ []) 0 k less))
+        (subst (IsRoom board (get_or ids k 0)) (sym (get_or_append_left rooms (room ∷ []) d k (omega (arith, less, so_far.many)))) (so_far.each k d less))
     | inr last ↦
-        let here : count ≡ k = omega arith in
-        let zero : k - length rooms ≡ 0 = omega (arith, here, so_far.many) in
-        let at : get_or (rooms ++ room ∷ []) k d ≡ get_or (room ∷ []) (k - length rooms) d = get_or-append_right rooms (room ∷ []) (length rooms) k d refl (omega (arith, here, so_far.many)) in
-        subst (IsRoom board (get_or ids k 0)) (sym (at ∙ ap (λ n. get_or (room ∷ []) n d) zero)) (subst (λ (n : ℕ). IsRoom board (get_or ids n 0) room) here is)
+        let here : k ≡ length ids = omega (arith, lt, length_push ids id) in
+        subst (λ (i : ℕ). IsRoom board i (get_or (rooms ++ room ∷ []) k d)) (sym (last_at ids id 0 k here))
+        (subst (IsRoom board id) (sym (last_at rooms room d k (here ∙ sym so_far.many))) own.is)
   ];
 }
 
 -- where two touch their rooms meet
-pub rooms_tell : (board : PlainBoard) (ids : List ℕ) (count : ℕ) (rooms : List Bounds) → count ≡ length ids → AreRoomsTo board ids count rooms → AreRooms (TouchOn board) ids rooms
-rooms_tell board ids count rooms all so_far = record {
-  many = so_far.many ∙ all;
-  fit = so_far.fit;
+pub rooms_tell : (board : PlainBoard) (ids : List ℕ) (rooms : List Bounds) → AreRoomsOf board ids rooms → AreRooms (TouchOn board) ids rooms
+rooms_tell board ids rooms all = record {
+  many = all.many;
+  fit = all.fit;
   meet = λ i j d hi hj t.
-      rooms_meet t.a t.b (get_or rooms i d) (get_or rooms j d) (so_far.each i d (omega arith) t.a t.first (has_parts t.a t.b t.touch.meet))
-      (so_far.each j d (omega arith) t.b t.second (has_parts t.b t.a (copper_meets_back t.a t.b t.touch.meet))) t.touch.meet;
+      rooms_meet t.a t.b (get_or rooms i d) (get_or rooms j d) (all.each i d hi t.a t.first (has_parts t.a t.b t.touch.meet))
+      (all.each j d hj t.b t.second (has_parts t.b t.a (copper_meets_back t.a t.b t.touch.meet))) t.touch.meet;
 }
 
 -- the entry of a place fits an index

@@ -5,7 +5,7 @@ use Rattle.std.proofs.lemmas.Int.{ints, clamps}
 use Rattle.std.proofs.lemmas.Bool.{cases_lt}
 use Rattle.std.proofs.lemmas.List.{get_or_append_left, get_or-append_right, length_push}
 use Rattle.std.proofs.lemmas.List.Elements.{All-push}
-use Rattle.std.proofs.Common.{◌*◌, ◌≤◌, FitsSigned, unsigned_abs, mul-le-mul}
+use Rattle.std.proofs.Common.{◌≤◌, FitsSigned, unsigned_abs, mul-le-mul}
 use Rattle.std.proofs.lemmas.Int.{fits_signed_mul, unsigned_abs-mul}
 use mir.Syntax.{w64}
 use Rattle.int_algebra.proofs.Order.{scale_le}

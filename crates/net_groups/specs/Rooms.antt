@@ -1,17 +1,24 @@
 -- Private words of the search: the rooms of places, and tiles that hold them.
-use Rattle.std.specs.Prelude.{◌≡◌, ◌≢◌, ℕ, ◌+◌, ◌*◌, ◌<◌, ◌≤◌, pos, List, [], Some, length, slice_index, slice_index_or, All, Contains}
+use Rattle.std.specs.Prelude.{◌≡◌, ◌≢◌, true, ℕ, ◌+◌, ◌*◌, ◌<◌, ◌≤◌, pos, List, [], Some, length, slice_index, slice_index_or, All, Contains}
 use Rattle.geo_seg.specs.declared.boxes.Bounds.{Bounds}
 use Rattle.geo_seg.specs.Boxes.{IsPartOf, BoxesMeet, FitsWithin}
 use Rattle.board_items.specs.declared.item.Item.{Item}
 use Rattle.board_items.specs.Boards.{PlainBoard, item_at}
 use Rattle.board_items.specs.Parts.{parts_of}
 use Rattle.board_items.specs.Extents.{AreBoundsOf}
+use Rattle.net_groups.specs.Labels.{is_copper}
 use Rattle.box_index.specs.declared.entry.Entry.{Entry}
 use Rattle.box_index.specs.Tiles.{PlainIndex}
 
 -- the bounds of the item of the id, if it has any
 abbrev pub IsRoom : PlainBoard → ℕ → Bounds → Type 0
 IsRoom board id room = (item : Item) → item_at board.items id ≡ Some item → parts_of item ≢ [] → AreBoundsOf (parts_of item) (Some room)
+
+-- the item of the id has copper, and this is its room
+pub record IsCopperRoom (board : PlainBoard) (id : ℕ) (room : Bounds) : Type 0 where
+  pub copper : is_copper (item_at board.items id) ≡ true
+  pub fits : FitsWithin (pos 1500000000) room
+  pub is : IsRoom board id room
 
 -- a room for each place, and where one place steps to another their rooms meet
 pub record AreRooms (Step : ℕ → ℕ → Type 0) (ids : List ℕ) (rooms : List Bounds) : Type 0 where

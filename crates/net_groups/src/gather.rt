@@ -21,17 +21,17 @@ fn empty_groups(alloc: Global, count: usize) -> Result<Vec<Group>, AllocError>
 pub(crate) fn gather(
     alloc: Global,
     ids: &[u32],
-    labels: &[Option<usize>],
-    count: usize,
+    labels: &[Option<u32>],
+    count: u32,
 ) -> Result<Vec<Group>, AllocError>
     requires places { length labels.now ≡ length ids.now }
     requires below { (i x : ℕ) → label_at labels.now i ≡ Some x → x < count }
     ensures { IfOk result (λ groups. AreGathered count labels.now ids.now groups.items) }
 {
-    let mut groups = empty_groups(alloc, count)?;
+    let mut groups = empty_groups(alloc, count as usize)?;
     for place in 0..ids.len() {
         if let Some(label) = labels[place] {
-            let group = &mut groups[label];
+            let group = &mut groups[label as usize];
             group.members.push(ids[place])?;
         }
     }

@@ -23,12 +23,12 @@ const FEW: usize = 256;
 /// The label of each place, and how many labels there are.
 #[derive(Drop)]
 pub(crate) struct Labels {
-    pub labels: Vec<Option<usize>>,
-    pub count: usize,
+    pub labels: Vec<Option<u32>>,
+    pub count: u32,
 }
 
 /// Whether the other place has no label yet and the place touches it.
-fn newly_touched(net: &Conductors<'_>, labels: &[Option<usize>], place: usize, other: usize) -> bool
+fn newly_touched(net: &Conductors<'_>, labels: &[Option<u32>], place: usize, other: usize) -> bool
     requires places { length labels.now ≡ length net.now.ids.now }
     requires place { place < length net.now.ids.now }
     requires other { other < length net.now.ids.now }
@@ -44,8 +44,8 @@ fn visit_rooms(
     net: &Conductors<'_>,
     first: usize,
     place: usize,
-    label: usize,
-    labels: &mut [Option<usize>],
+    label: u32,
+    labels: &mut [Option<u32>],
     stack: &mut Vec<usize>,
 ) -> Result<(), AllocError>
     requires rises { Rises net.now.ids.now }
@@ -72,7 +72,7 @@ fn visit_rooms(
 fn newly_asked(
     net: &Conductors<'_>,
     index: &TileIndex,
-    labels: &[Option<usize>],
+    labels: &[Option<u32>],
     tile: u32,
     own: Entry,
     other: Entry,
@@ -101,8 +101,8 @@ fn visit_tile(
     index: &TileIndex,
     tile: u32,
     own: Entry,
-    label: usize,
-    labels: &mut [Option<usize>],
+    label: u32,
+    labels: &mut [Option<u32>],
     stack: &mut Vec<usize>,
 ) -> Result<(), AllocError>
     requires holds { HoldsRooms net.now.rooms.now index.now }
@@ -128,8 +128,8 @@ fn visit_tiles(
     net: &Conductors<'_>,
     index: &TileIndex,
     own: Entry,
-    label: usize,
-    labels: &mut [Option<usize>],
+    label: u32,
+    labels: &mut [Option<u32>],
     stack: &mut Vec<usize>,
 ) -> Result<(), AllocError>
     requires holds { HoldsRooms net.now.rooms.now index.now }
@@ -155,8 +155,8 @@ fn visit(
     index: Option<&TileIndex>,
     first: usize,
     place: usize,
-    label: usize,
-    labels: &mut [Option<usize>],
+    label: u32,
+    labels: &mut [Option<u32>],
     stack: &mut Vec<usize>,
 ) -> Result<(), AllocError>
     requires holds { IfSome index (λ held. HoldsRooms net.now.rooms.now held.now) }
@@ -186,8 +186,8 @@ fn spread(
     net: &Conductors<'_>,
     index: Option<&TileIndex>,
     start: usize,
-    label: usize,
-    labels: &mut [Option<usize>],
+    label: u32,
+    labels: &mut [Option<u32>],
     stack: &mut Vec<usize>,
 ) -> Result<(), AllocError>
     requires holds { IfSome index (λ held. HoldsRooms net.now.rooms.now held.now) }
@@ -224,7 +224,7 @@ fn label_all(
     ensures { IfOk result (λ found. AreLabels (TouchOn net.now.board.now) net.now.ids.now (length net.now.ids.now) found.count found.labels.items) }
 {
     let mut labels = vec![in alloc; None; net.ids.len()]?;
-    let mut count = 0;
+    let mut count: u32 = 0;
     let mut stack = Vec::new(alloc);
     for start in 0..net.ids.len() {
         if labels[start].is_none() {

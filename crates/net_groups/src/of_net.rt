@@ -1,48 +1,51 @@
 //! The groups of a net.
 
-ghost use Rattle.std.specs.Prelude.{◌≡◌, ◌<◌, ◌^◌, IfOk, All, length};
-ghost use Rattle.board_items.specs.Boards.{IsSound, item_at};
+ghost use Rattle.std.specs.Prelude.{◌<◌, ◌^◌, IfOk, All, length};
+ghost use Rattle.board_items.specs.Boards.{IsSound};
 ghost use Rattle.net_groups.specs.Groups.{AreGroups, IsOnBoard};
 ghost use Rattle.board_index.specs.Holding.{HoldsItems};
-ghost use Rattle.net_groups.specs.Labels.{AreConductors, is_copper};
+ghost use Rattle.net_groups.specs.Labels.{AreConductors};
+ghost use Rattle.net_groups.specs.Rooms.{AreRooms};
+ghost use Rattle.net_groups.specs.Touching.{TouchOn};
 
 use crate::gather::gather;
 use crate::group::Group;
 use crate::labels::label_groups;
-use crate::rooms::{Conductors, rooms_of};
+use crate::rooms::{Conductors, copper_room};
 use crate::runs::runs_of;
 use board_items::Board;
 use box_index::TileIndex;
+use geo_seg::Bounds;
 use std::alloc::{AllocError, Global};
 
-/// Whether there is an item of the id and it has copper.
-fn has_copper(board: &Board, id: u32) -> bool
-    ensures { result ≡ is_copper (item_at board.now.items id) }
-{
-    match board.get(id) {
-        Some(item) => !item.copper.as_slice().is_empty(),
-        None => false,
-    }
+/// Items of a net with copper: their ids, rising, and a room of each.
+#[derive(Drop)]
+struct WithRooms {
+    ids: Vec<u32>,
+    rooms: Vec<Bounds>,
 }
 
-/// The ids of all items of the net with copper, rising.
-fn conductors(alloc: Global, board: &Board, net: u32) -> Result<Vec<u32>, AllocError>
+/// All items of the net with copper.
+fn conductors(alloc: Global, board: &Board, net: u32) -> Result<WithRooms, AllocError>
     ensures sound { IsSound board.now }
-    ensures ids { IfOk result (λ ids. AreConductors board.now net ids.items) }
-    ensures few { IfOk result (λ ids. length ids.items < 2 ^ 32) }
+    ensures ids { IfOk result (λ found. AreConductors board.now net found.ids.items) }
+    ensures few { IfOk result (λ found. length found.ids.items < 2 ^ 32) }
+    ensures rooms { IfOk result (λ found. AreRooms (TouchOn board.now) found.ids.items found.rooms.items) }
 {
     board.soundness();
     let all = board.of_net(net);
     let mut ids = Vec::with_capacity(alloc, all.len())?;
+    let mut rooms = Vec::with_capacity(alloc, all.len())?;
     if net == 0 {
-        return Ok(ids);
+        return Ok(WithRooms { ids, rooms });
     }
     for id in all {
-        if has_copper(board, *id) {
+        if let Some(room) = copper_room(board, *id) {
             ids.push(*id)?;
+            rooms.push(room)?;
         }
     }
-    Ok(ids)
+    Ok(WithRooms { ids, rooms })
 }
 
 /// The groups of a net: all its items with copper, two in one group exactly where a chain of touches joins them.
@@ -62,15 +65,14 @@ pub fn groups(
     ensures filled { IfOk result (λ groups. All (λ group. 0 < length group) groups.items) }
     ensures placed { IfOk result (λ groups. All (All (IsOnBoard board.now)) groups.items) }
 {
-    let ids = conductors(alloc, board, net)?;
-    let rooms = rooms_of(alloc, board, &ids)?;
-    let runs = runs_of(alloc, &rooms)?;
+    let all = conductors(alloc, board, net)?;
+    let runs = runs_of(alloc, &all.rooms)?;
     let own = Conductors {
         board,
-        ids: &ids,
-        rooms: &rooms,
+        ids: &all.ids,
+        rooms: &all.rooms,
         runs: &runs,
     };
     let found = label_groups(alloc, &own)?;
-    gather(alloc, &ids, &found.labels, found.count)
+    gather(alloc, &all.ids, &found.labels, found.count)
 }

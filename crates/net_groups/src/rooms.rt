@@ -1,15 +1,15 @@
 //! The conductors of a net, each with its room.
 
-ghost use Rattle.std.specs.Prelude.{◌≢◌, pos, Some, [], IfOk};
+ghost use Rattle.std.specs.Prelude.{◌≡◌, ◌≢◌, pos, false, Some, [], MatchOption};
 ghost use Rattle.board_items.specs.Parts.{parts_of};
 ghost use Rattle.board_items.specs.Extents.{AreBoundsOf};
 ghost use Rattle.geo_seg.specs.Boxes.{FitsWithin};
-ghost use Rattle.net_groups.specs.Touching.{TouchOn};
-ghost use Rattle.net_groups.specs.Rooms.{IsRoom, AreRooms};
+ghost use Rattle.board_items.specs.Boards.{item_at};
+ghost use Rattle.net_groups.specs.Labels.{is_copper};
+ghost use Rattle.net_groups.specs.Rooms.{IsCopperRoom};
 
 use board_items::{Board, Item};
 use geo_seg::Bounds;
-use std::alloc::{AllocError, Global};
 
 /// The conductors of a net: their ids, rising, and for each a room. Where two of them touch, their rooms meet. There are boxes around
 /// runs of rooms, or none.
@@ -44,24 +44,12 @@ fn bounds_of(item: &Item) -> Bounds
     }
 }
 
-/// The room of the item of the id.
-fn room_of(board: &Board, id: u32) -> Bounds
-    ensures fits { FitsWithin (pos 1500000000) result }
-    ensures room { IsRoom board.now id result }
+/// The room of the item of the id: its bounds. None where there is no such item, or it has no copper.
+pub(crate) fn copper_room(board: &Board, id: u32) -> Option<Bounds>
+    ensures { MatchOption result (is_copper (item_at board.now.items id) ≡ false) (IsCopperRoom board.now id) }
 {
     match board.get(id) {
-        None => no_room(),
-        Some(item) => bounds_of(item),
+        Some(item) if !item.copper.as_slice().is_empty() => Some(bounds_of(item)),
+        _ => None,
     }
-}
-
-/// The room of each: the bounds of its item.
-pub(crate) fn rooms_of(alloc: Global, board: &Board, ids: &[u32]) -> Result<Vec<Bounds>, AllocError>
-    ensures { IfOk result (λ rooms. AreRooms (TouchOn board.now) ids.now rooms.items) }
-{
-    let mut rooms = Vec::with_capacity(alloc, ids.len())?;
-    for id in ids {
-        rooms.push(room_of(board, *id))?;
-    }
-    Ok(rooms)
 }
