@@ -173,9 +173,11 @@ fn owned_from<'a>(at: &At<'_>, first: &Entry, others: &'a [Entry]) -> &'a [Entry
     let wide = at.index.widened(first.bounds);
     let mut left = others;
     'walk: while let Some((second, rest)) = left.split_first() {
-        if is_far(wide, LONG, at.boxes.long, left.len()) {
+        // a block of either size begins where a short one may
+        let begins = left.len() % SHORT == 0;
+        if begins && is_far(wide, LONG, at.boxes.long, left.len()) {
             left = &left[LONG..];
-        } else if is_far(wide, SHORT, at.boxes.short, left.len()) {
+        } else if begins && is_far(wide, SHORT, at.boxes.short, left.len()) {
             left = &left[SHORT..];
         } else if is_owned(at.index, at.tile, first, wide, second) {
             return left;
