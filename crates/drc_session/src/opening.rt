@@ -1,15 +1,12 @@
 //! Sessions that begin.
 
 ghost use Rattle.std.specs.Prelude.{◌≡◌, ◌<◌, ◌≤◌, false, length, map, IfOk};
-ghost use Rattle.plain_types.specs.Lengths.{IsLength};
-ghost use Rattle.board_index.specs.Holding.{IsIndexOfItems};
 ghost use Rattle.cond_lang.specs.Rules.{plain_rule};
 ghost use Rattle.rule_pick.specs.AllFacts.{HasFacts};
-ghost use Rattle.rule_pick.specs.Reach.{IsReach};
 ghost use Rattle.net_groups.specs.NetParts.{AreParts};
 ghost use Rattle.rule_text.specs.Views.{plain_rules};
 ghost use Rattle.drc_session.specs.Sessions.{IsOpened, IsDealt};
-ghost use Rattle.drc_session.specs.Holding.{state_of, IsKept};
+ghost use Rattle.drc_session.specs.Holding.{state_of, IsReached, IsKept};
 
 use crate::applied::Applied;
 use crate::checking::check_all;
@@ -37,10 +34,7 @@ fn reach_and_index(
     classes: &Classes,
     rules: &[Rule],
 ) -> Result<(Nm, TileIndex), AllocError>
-    ensures value { IfOk result (λ r. IsReach board.now classes.now (map plain_rule rules.now) r.0) }
-    ensures in_range { IfOk result (λ r. IsLength r.0) }
-    ensures items { IfOk result (λ r. IsIndexOfItems board.now r.1) }
-    ensures reach { IfOk result (λ r. r.1.reach ≡ r.0) }
+    ensures { IfOk result (λ r. IsReached board.now classes.now (map plain_rule rules.now) r.0 r.1) }
 {
     let reach = reach(board, classes, rules);
     let index = index_of(alloc, board, reach)?;
@@ -57,10 +51,7 @@ fn facts_beside_index(
     rules: &[Rule],
 ) -> Result<(FactsById, (Nm, TileIndex)), AllocError>
     ensures facts { IfOk result (λ r. HasFacts board.now classes.now r.0) }
-    ensures value { IfOk result (λ r. IsReach board.now classes.now (map plain_rule rules.now) r.1.0) }
-    ensures in_range { IfOk result (λ r. IsLength r.1.0) }
-    ensures items { IfOk result (λ r. IsIndexOfItems board.now r.1.1) }
-    ensures reach { IfOk result (λ r. r.1.1.reach ≡ r.1.0) }
+    ensures reached { IfOk result (λ r. IsReached board.now classes.now (map plain_rule rules.now) r.1.0 r.1.1) }
 {
     let (facts, found) = join(
         rt,
@@ -68,10 +59,7 @@ fn facts_beside_index(
             ensures { IfOk result (HasFacts board.entry.now classes.entry.now) }
         { all_facts_by(rt, alloc, workers, board, classes) },
         || -> Result<(Nm, TileIndex), AllocError>
-            ensures value { IfOk result (λ r. IsReach board.entry.now classes.entry.now (map plain_rule rules.entry.now) r.0) }
-            ensures in_range { IfOk result (λ r. IsLength r.0) }
-            ensures items { IfOk result (λ r. IsIndexOfItems board.entry.now r.1) }
-            ensures reach { IfOk result (λ r. r.1.reach ≡ r.0) }
+            ensures { IfOk result (λ r. IsReached board.entry.now classes.entry.now (map plain_rule rules.entry.now) r.0 r.1) }
         { reach_and_index(alloc, board, classes, rules) },
     );
     Ok((facts?, found?))
@@ -89,10 +77,7 @@ fn find(
     rules: &[Rule],
 ) -> Result<(FactsById, (Nm, TileIndex), Vec<NetPart>), AllocError>
     ensures facts { IfOk result (λ r. HasFacts board.now classes.now r.0) }
-    ensures value { IfOk result (λ r. IsReach board.now classes.now (map plain_rule rules.now) r.1.0) }
-    ensures in_range { IfOk result (λ r. IsLength r.1.0) }
-    ensures items { IfOk result (λ r. IsIndexOfItems board.now r.1.1) }
-    ensures reach { IfOk result (λ r. r.1.1.reach ≡ r.1.0) }
+    ensures reached { IfOk result (λ r. IsReached board.now classes.now (map plain_rule rules.now) r.1.0 r.1.1) }
     ensures nets { IfOk result (λ r. AreParts board.now r.2.items) }
 {
     if workers == 1 {
