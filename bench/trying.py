@@ -1,4 +1,4 @@
-"""What bench/hostile and bench/memory share: runs of the program, with faults where they are told, and how they are counted."""
+"""What the programs of bench/ share: runs of the program, with faults where they are told, and how they are counted."""
 import atexit
 import os
 import shutil
@@ -9,6 +9,14 @@ import tempfile
 HERE = os.path.dirname(os.path.abspath(__file__))
 LIMIT = 33_554_432
 HEAD = b'(kicad_pcb (version 20221018) (generator pcbnew) (layers (0 "F.Cu" signal) (31 "B.Cu" signal)) (net 0 "") (net 1 "N1") (net 2 "N2") '
+
+
+def program_at(path):
+    """where the program is; what can't be run is told in one line"""
+    if not (os.path.isfile(path) and os.access(path, os.X_OK)):
+        print('%s: %s is no program' % (os.path.basename(sys.argv[0]), path), file=sys.stderr)
+        sys.exit(2)
+    return os.path.abspath(path)
 
 
 def via(name, x, y, net):
@@ -51,7 +59,7 @@ class Tries:
     """tries a program in a folder of its own, and counts what was tried and what was not as it should be"""
 
     def __init__(self, program):
-        self.program, self.tried, self.wrong, self.loaded = os.path.abspath(program), 0, 0, None
+        self.program, self.tried, self.wrong, self.loaded = program_at(program), 0, 0, None
         self.folder = tempfile.mkdtemp()
         atexit.register(shutil.rmtree, self.folder, ignore_errors=True)
 
