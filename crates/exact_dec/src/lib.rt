@@ -40,10 +40,10 @@ const FARTHEST: u64 = 1_000_000_000_000;
 #[derive(Clone, Copy, PartialEq, Eq, Debug)]
 pub enum DecError {
     /// The text is outside the grammar of the call.
-    BadNumber,
+    BadNumber = 1,
     /// The text is in the grammar, and over a limit: more than 64 bytes, more than three digits of an
     /// exponent, a result beyond 10^12 nanometres either way, or outside the range of a ratio or a count.
-    TooWide,
+    TooWide = 2,
 }
 
 impl fmt::Display for DecError {

@@ -60,6 +60,12 @@ value (leaf s true c) = Some (unescaped c)
 value (leaf s false c) = Some c
 value (branch s inside) = None
 
+-- the bytes of a word; a string and a list are none
+abbrev pub word_of : Tree → Option (List ℕ)
+word_of (leaf s true c) = None
+word_of (leaf s false c) = Some c
+word_of (branch s inside) = None
+
 -- how deep lists stand in one another
 abbrev pub levels_in : Forest → ℕ
 levels_in none = 0

@@ -57,7 +57,7 @@ pub struct Node<'d, 't> {
 impl<'d, 't> Node<'d, 't> {
     ghost use Rattle.std.specs.Prelude.{◌≡◌, ◌++◌, ◌↔◌, ◌<◌, ◌^◌, [], length, IsTrue, Some, option_copied, unwrap_or, IfSome, IsUtf8, OnOk, OnErr};
     ghost use Rattle.sexpr_read.specs.Endings.{ends_in};
-    ghost use Rattle.sexpr_read.specs.Tree.{is_list, content, quoted, span, parts, value};
+    ghost use Rattle.sexpr_read.specs.Tree.{is_list, content, quoted, span, parts, value, word_of};
     ghost use Rattle.sexpr_read.specs.Views.{tree_of, trees_left};
 
     /// Whether it is a list.
@@ -148,6 +148,7 @@ impl<'d, 't> Node<'d, 't> {
 
     /// The bytes of a word, which stands for itself; `None` for a string and for a list.
     pub fn word(self) -> Option<&'t [u8]>
+        ensures word { option_copied result ≡ word_of (tree_of self.entry) }
         ensures value { IfSome result (λ word. value (tree_of self.entry) ≡ Some word.now) }
         ensures utf8 { IfSome result (λ word. IsUtf8 word.now) }
     {

@@ -1,5 +1,7 @@
 use Rattle.std.proofs.Common.{◌∙◌}
 use Rattle.geo_seg.proofs.Passed.{difference_is, difference_range, passed_product, both_differ}
+use Rattle.std.proofs.Common.{arith}
+use Rattle.std.proofs.lemmas.Int.{ints}
 use Rattle.geo_seg.proofs.vectors.cross.Goals as goal
 
 pub returns-clause-value : goal.returns-clause-value
@@ -12,3 +14,18 @@ pub returns-clause-in_range : goal.returns-clause-in_range
 returns-clause-in_range c =
     rw (difference_is c.product.result c.product-2.result c.product.ensures.in_range c.product-2.ensures.in_range)
     (difference_range c.product.result c.product-2.result c.product.ensures.in_range c.product-2.ensures.in_range)
+
+pub product-requires-clause-a_in_range : goal.product-requires-clause-a_in_range
+product-requires-clause-a_in_range c = omega (arith, ints, c.args.u.x_in_range)
+
+pub product-requires-clause-b_in_range : goal.product-requires-clause-b_in_range
+product-requires-clause-b_in_range c = omega (arith, ints, c.args.v.y_in_range)
+
+pub product-requires-2-clause-a_in_range : goal.product-requires-2-clause-a_in_range
+product-requires-2-clause-a_in_range c = omega (arith, ints, c.args.u.y_in_range)
+
+pub product-requires-2-clause-b_in_range : goal.product-requires-2-clause-b_in_range
+product-requires-2-clause-b_in_range c = omega (arith, ints, c.args.v.x_in_range)
+
+pub overflow_sub-result : goal.overflow_sub-result
+overflow_sub-result c = omega (arith, ints, c.product.ensures.in_range, c.product-2.ensures.in_range)
