@@ -123,7 +123,7 @@ fn put_if(ids: &mut Vec<u32>, id: u32, listed: bool)
 }
 
 /// Makes room for one more in each list.
-fn make_room(
+pub(crate) fn make_room(
     marks: &mut Vec<u32>,
     notes: &mut Vec<u32>,
     ids: &mut Vec<u32>,
@@ -200,7 +200,7 @@ impl Board {
         self.in_order = in_order;
         self.tags[id as usize] = tag_of(&kept.item.name);
         self.live += 1;
-        self.slots[id as usize] = Some(kept.item);
+        drop(self.slots[id as usize].replace(kept.item));
         Ok(())
     }
 }

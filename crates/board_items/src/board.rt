@@ -12,8 +12,10 @@ ghost use Rattle.board_items.specs.Moves.{unit_stays, IsMoved};
 ghost use Rattle.board_items.specs.Slots.{present, without_id};
 ghost use Rattle.board_items.specs.Notes.{notes_of, body_of};
 ghost use Rattle.board_items.specs.Units.{without_unit, found_of};
+ghost use Rattle.board_items.specs.Tags.{tag_of};
 ghost use Rattle.board_items.specs.Walks.{items_left, unit_left, nets_left};
 
+use crate::back::make_room;
 use crate::found::Found;
 use crate::item::{Item, Nm, What};
 use crate::moves::{Step, shift_unit, unit_stays};
@@ -32,8 +34,8 @@ use plain_types::GREATEST_LENGTH;
 use std::alloc::{AllocError, Global};
 use std::marker::Model;
 
-/// The most items that a board holds.
-const MOST_ITEMS: usize = 200_000;
+/// The most items that a board holds at once.
+pub const MOST_ITEMS: usize = 200_000;
 
 /// All ids and unit numbers are below this.
 const LAST: u32 = 4_294_967_295;
@@ -162,7 +164,11 @@ impl Board {
         Ok(())
     }
 
-    /// Makes room for so many more items, so that adding them takes no memory but their own. The board stays as it was.
+    /// Asks for room for so many more items in the rows that have an entry for each item, so that `add` has to ask less
+    /// often. The board stays as it was.
+    ///
+    /// That is all that is proved. No clause says how much room there is then, and none says that `add` takes no memory:
+    /// what is proved of `add` does not depend on room that was made before.
     pub fn reserve(&mut self, more: usize) -> Result<(), AllocError>
         ensures { self.new ≡ self.old }
     {
@@ -185,16 +191,14 @@ impl Board {
     {
         let place = self.admit(&item)?;
         let id = self.next_id();
-        let tag = tag_of(&item.name);
         let next_unit = self.next_unit.max(item.unit + 1);
         let in_order = goes_on(self.in_order, &self.units, item.unit);
-        self.tags.reserve(1)?;
         let of_net = &mut self.of_nets[place];
+        let tags = &mut self.tags;
         let units = &mut self.units;
         let marks = &mut self.marks;
         let notes = &mut self.notes;
-        push_slot(&mut self.slots, units, marks, notes, of_net, id, item)?;
-        self.tags.push_reserved(tag);
+        push_slot(&mut self.slots, tags, units, marks, notes, of_net, id, item)?;
         self.in_order = in_order;
         self.live += 1;
         self.next_unit = next_unit;
@@ -412,36 +416,56 @@ impl Board {
     }
 }
 
-/// Makes room for one more in each list.
-fn make_room(
+/// Makes room for one more in each row.
+fn make_rows(
     slots: &mut Vec<Option<Item>>,
+    tags: &mut Vec<u32>,
+    units: &mut Vec<u32>,
+) -> Result<(), AllocError>
+    ensures slots_stay { slots.new.items ≡ slots.old.items }
+    ensures tags_stay { tags.new.items ≡ tags.old.items }
+    ensures units_stay { units.new.items ≡ units.old.items }
+    ensures slots { OnOk result (vec_len slots.new < vec_capacity slots.new) }
+    ensures tags { OnOk result (vec_len tags.new < vec_capacity tags.new) }
+    ensures units { OnOk result (vec_len units.new < vec_capacity units.new) }
+{
+    slots.reserve(1)?;
+    tags.reserve(1)?;
+    units.reserve(1)
+}
+
+/// Makes room for one more in each row and in each list.
+fn make_all_room(
+    slots: &mut Vec<Option<Item>>,
+    tags: &mut Vec<u32>,
     units: &mut Vec<u32>,
     marks: &mut Vec<u32>,
     notes: &mut Vec<u32>,
     of_net: &mut Vec<u32>,
 ) -> Result<(), AllocError>
     ensures slots_stay { slots.new.items ≡ slots.old.items }
+    ensures tags_stay { tags.new.items ≡ tags.old.items }
     ensures units_stay { units.new.items ≡ units.old.items }
     ensures marks_stay { marks.new.items ≡ marks.old.items }
     ensures notes_stay { notes.new.items ≡ notes.old.items }
     ensures of_net_stays { of_net.new.items ≡ of_net.old.items }
     ensures slots { OnOk result (vec_len slots.new < vec_capacity slots.new) }
+    ensures tags { OnOk result (vec_len tags.new < vec_capacity tags.new) }
     ensures units { OnOk result (vec_len units.new < vec_capacity units.new) }
     ensures marks { OnOk result (vec_len marks.new < vec_capacity marks.new) }
     ensures notes { OnOk result (vec_len notes.new < vec_capacity notes.new) }
     ensures of_net { OnOk result (vec_len of_net.new < vec_capacity of_net.new) }
 {
-    slots.reserve(1)?;
-    units.reserve(1)?;
-    marks.reserve(1)?;
-    notes.reserve(1)?;
-    of_net.reserve(1)
+    make_rows(slots, tags, units)?;
+    make_room(marks, notes, of_net)
 }
 
-/// Appends a slot with the item, and its id to those of its net and where it is a mark or a note, or changes nothing.
+/// Appends a slot with the item, its tag and its unit, and its id to those of its net and where it is a mark or a note, or
+/// changes nothing.
 #[inline(always)]
 fn push_slot(
     slots: &mut Vec<Option<Item>>,
+    tags: &mut Vec<u32>,
     units: &mut Vec<u32>,
     marks: &mut Vec<u32>,
     notes: &mut Vec<u32>,
@@ -451,22 +475,26 @@ fn push_slot(
 ) -> Result<(), ItemError>
     ensures only { IfErr result (λ e. e ≡ ItemError.OutOfMemory) }
     ensures slots { OnOk result (slots.new.items ≡ slots.old.items ++ Some item ∷ []) }
+    ensures tags { OnOk result (tags.new.items ≡ tags.old.items ++ tag_of item.name ∷ []) }
     ensures units { OnOk result (units.new.items ≡ units.old.items ++ item.unit ∷ []) }
     ensures marks { OnOk result (marks.new.items ≡ marks.old.items ++ marks_of ((id, item) ∷ [])) }
     ensures notes { OnOk result (notes.new.items ≡ notes.old.items ++ notes_of ((id, item) ∷ [])) }
     ensures of_net { OnOk result (of_net.new.items ≡ of_net.old.items ++ id ∷ []) }
     ensures slots_stay { OnErr result (slots.new.items ≡ slots.old.items) }
+    ensures tags_stay { OnErr result (tags.new.items ≡ tags.old.items) }
     ensures units_stay { OnErr result (units.new.items ≡ units.old.items) }
     ensures marks_stay { OnErr result (marks.new.items ≡ marks.old.items) }
     ensures notes_stay { OnErr result (notes.new.items ≡ notes.old.items) }
     ensures of_net_stays { OnErr result (of_net.new.items ≡ of_net.old.items) }
 {
+    let tag = tag_of(&item.name);
     let unit = item.unit;
     let is_mark = item.what.is_mark();
     let is_note = item.what.is_note();
-    make_room(slots, units, marks, notes, of_net)?;
+    make_all_room(slots, tags, units, marks, notes, of_net)?;
     // Nothing is refused from here on, so the item is moved once.
     slots.push_reserved(Some(item));
+    tags.push_reserved(tag);
     units.push_reserved(unit);
     of_net.push_reserved(id);
     if is_mark {

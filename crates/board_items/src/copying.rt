@@ -64,10 +64,11 @@ fn copy_list(alloc: Global, parts: &[Part]) -> Result<SmallVec<Part, 1>, AllocEr
 }
 
 impl Parts {
-    /// Equal parts.
-    pub fn copy(&self, alloc: Global) -> Result<Parts, AllocError>
+    /// Equal parts. They are made with the allocator that the list keeps.
+    pub fn copy(&self) -> Result<Parts, AllocError>
         ensures { IfOk result (λ copy. copy ≡ self.now) }
     {
+        let alloc = *self.list.allocator();
         Ok(Parts::of(copy_list(alloc, self.as_slice())?))
     }
 }
@@ -107,7 +108,7 @@ fn copy_name(alloc: Global, name: &Boxed<Name>) -> Result<Boxed<Name>, AllocErro
 fn copy_parts(alloc: Global, parts: &Boxed<Parts>) -> Result<Boxed<Parts>, AllocError>
     ensures { IfOk result (λ copy. copy ≡ parts.now) }
 {
-    Boxed::new(alloc, parts.get().copy(alloc)?)
+    Boxed::new(alloc, parts.get().copy()?)
 }
 
 impl What {
@@ -162,20 +163,44 @@ impl What {
 }
 
 impl Item {
-    /// An equal item.
+    /// An equal item. It is made with the allocator that the list of its copper keeps.
     #[tactic(auto, using(crate::proofs::OneMove::item_is))]
-    pub fn copy(&self, alloc: Global) -> Result<Item, AllocError>
+    pub fn copy(&self) -> Result<Item, AllocError>
         ensures { IfOk result (λ copy. copy ≡ self.now) }
     {
-        let what = self.what.copy(alloc)?;
-        let hole = copy_hole(alloc, &self.hole)?;
+        let alloc = *self.copper.list.allocator();
+        let name = self.name.copy()?;
+        let copper = match self.copper.copy() {
+            Ok(copper) => copper,
+            Err(error) => {
+                drop(name);
+                return Err(error);
+            }
+        };
+        let hole = match copy_hole(alloc, &self.hole) {
+            Ok(hole) => hole,
+            Err(error) => {
+                drop(name);
+                drop(copper);
+                return Err(error);
+            }
+        };
+        let what = match self.what.copy(alloc) {
+            Ok(what) => what,
+            Err(error) => {
+                drop(name);
+                drop(copper);
+                drop(hole);
+                return Err(error);
+            }
+        };
         Ok(Item {
-            name: self.name.copy()?,
+            name,
             unit: self.unit,
             net: self.net,
             x: self.x,
             y: self.y,
-            copper: self.copper.copy(alloc)?,
+            copper,
             hole,
             local: self.local,
             what,
@@ -185,12 +210,12 @@ impl Item {
 
 // ---- boards
 
-fn copy_slot(alloc: Global, slot: &Option<Item>) -> Result<Option<Item>, AllocError>
+fn copy_slot(slot: &Option<Item>) -> Result<Option<Item>, AllocError>
     ensures { IfOk result (λ copy. copy ≡ slot.now) }
 {
     match slot {
         None => Ok(None),
-        Some(item) => Ok(Some(item.copy(alloc)?)),
+        Some(item) => Ok(Some(item.copy()?)),
     }
 }
 
@@ -202,7 +227,7 @@ pub(crate) fn copy_slots(
 {
     let mut list = Vec::with_capacity(alloc, slots.len())?;
     for slot in slots {
-        list.push(copy_slot(alloc, slot)?)?;
+        list.push(copy_slot(slot)?)?;
     }
     Ok(list)
 }
@@ -242,13 +267,13 @@ impl Board {
         let alloc = *self.slots.allocator();
         let list = self.names.as_slice();
         let nets = BoardNets { nets: list };
-        let names = copy_nets(alloc, nets, self.names.len())?;
-        let of_nets = copy_ids(alloc, &self.of_nets)?;
-        let slots = copy_slots(alloc, &self.slots)?;
         let tags = Vec::from_slice(alloc, &self.tags)?;
         let units = Vec::from_slice(alloc, &self.units)?;
         let marks = Vec::from_slice(alloc, &self.marks)?;
         let notes = Vec::from_slice(alloc, &self.notes)?;
+        let of_nets = copy_ids(alloc, &self.of_nets)?;
+        let slots = copy_slots(alloc, &self.slots)?;
+        let names = copy_nets(alloc, nets, self.names.len())?;
         Ok(Board {
             copper: self.copper,
             names,

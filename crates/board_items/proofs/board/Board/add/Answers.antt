@@ -19,16 +19,6 @@ index_mut-of_net-requires c =
 
 pub invariant_of-self : goal.invariant_of-self
 invariant_of-self c =
-    record {
-      kept = c.self.invariant.kept;
-      notes = c.self.invariant.notes;
-      tags_in = tags_same c.self.inside.slots.items _ c.self.inside.tags.items _ c.self.invariant.tags_in refl c.reserve.ensures.items;
-      units_in = c.self.invariant.units_in;
-      rise = c.self.invariant.rise;
-    }
-
-pub invariant_of-self-in_err-push_slot : goal.invariant_of-self-in_err-push_slot
-invariant_of-self-in_err-push_slot c =
     let before : PlainBoard = record { copper = c.self.inside.copper; nets = c.self.inside.names.entries; items = present 0 c.self.inside.slots.items; next_id = length c.self.inside.slots.items; next_unit = c.self.inside.next_unit } in
     let at = subst (λ (b : PlainBoard). IsNetAt c.args.item.net b.nets c.in_ok-place.place) (sym c.self.view_is) c.in_ok-place.ensures.place in
     let slots = c.in_err-push_slot.ensures.slots_stay in
@@ -36,7 +26,7 @@ invariant_of-self-in_err-push_slot c =
       kept = kept_same before _ _ c.self.inside.marks.items _ _ _ c.self.invariant.kept.sound c.self.invariant.kept.marks c.self.invariant.kept.count (ap (present 0) slots) (ap length slots) c.in_err-push_slot.ensures.marks_stay
           (kept_lists before c.args.item.net _ c.self.inside.of_nets.items c.in_ok-place.place _ _ _ c.self.invariant.kept.of_nets at c.index_mut-of_net.ensures.value c.in_err-push_slot.ensures.of_net_stays (ap (present 0) slots));
       notes = c.in_err-push_slot.ensures.notes_stay ∙ c.self.invariant.notes ∙ sym (ap (λ (ss : List (Option Item)). notes_of (present 0 ss)) slots);
-      tags_in = tags_same c.self.inside.slots.items _ c.self.inside.tags.items _ c.self.invariant.tags_in slots c.reserve.ensures.items;
+      tags_in = tags_same c.self.inside.slots.items _ c.self.inside.tags.items _ c.self.invariant.tags_in slots c.in_err-push_slot.ensures.tags_stay;
       units_in = units_same c.self.inside.slots.items _ c.self.inside.units.items _ c.self.invariant.units_in slots c.in_err-push_slot.ensures.units_stay;
       rise = λ e. subst (UnitsRise 0) (sym c.in_err-push_slot.ensures.units_stay) (c.self.invariant.rise e);
     }
@@ -52,8 +42,7 @@ invariant_of-self-2 c =
           (subst (λ (b : PlainBoard). 0 < room_of b) (sym c.self.view_is) c.in_ok-place.ensures.room) c.requires
           refl refl id c.in_ok-push_slot.ensures.slots c.in_ok-push_slot.ensures.marks c.max-next_unit.ensures at c.index_mut-of_net.ensures.value c.in_ok-push_slot.ensures.of_net refl;
       notes = notes_added before c.args.item c.next_id-id.result c.self.inside.slots.items _ c.self.inside.notes.items _ refl refl id c.in_ok-push_slot.ensures.slots c.self.invariant.notes c.in_ok-push_slot.ensures.notes;
-      tags_in = tags_added c.self.inside.slots.items _ c.self.inside.tags.items _ c.args.item c.self.invariant.tags_in c.in_ok-push_slot.ensures.slots
-          (c.push_reserved.ensures.items ∙ ap (λ (ts : List ℕ). ts ++ c.tag_of-tag.result ∷ []) c.reserve.ensures.items ∙ ap (λ (t : ℕ). c.self.inside.tags.items ++ t ∷ []) c.tag_of-tag.ensures);
+      tags_in = tags_added c.self.inside.slots.items _ c.self.inside.tags.items _ c.args.item c.self.invariant.tags_in c.in_ok-push_slot.ensures.slots c.in_ok-push_slot.ensures.tags;
       units_in = units_added c.self.inside.slots.items _ c.self.inside.units.items _ c.args.item c.self.invariant.units_in c.in_ok-push_slot.ensures.slots c.in_ok-push_slot.ensures.units;
       rise = λ e. subst (UnitsRise 0) (sym c.in_ok-push_slot.ensures.units)
           (subst (λ (us : List ℕ). UnitsRise 0 (us ++ c.args.item.unit ∷ [])) c.deref.ensures.value

@@ -1,7 +1,8 @@
-use Rattle.std.proofs.Common.{◌≡◌, ◌<◌, ◌∙◌, ap, sym, subst, refl, ℕ, List, length, get_or, set, cond, None, Some, arith}
+use Rattle.std.proofs.Common.{◌≡◌, ◌<◌, ◌∙◌, ap, sym, subst, refl, ℕ, List, Option, length, get_or, set, cond, None, Some, arith}
 use Rattle.board_items.specs.declared.item.Item.{Item}
 use Rattle.board_items.specs.Boards.{PlainBoard}
 use Rattle.board_items.specs.Slots.{present, AreUnitsIn}
+use Rattle.board_items.specs.Tags.{AreTagsIn}
 use Rattle.board_items.specs.Back.{kept_entry, placed, id_placed, FitsOne}
 use Rattle.board_items.proofs.NetIds.{net_at, place_fits, kept_lists, kept_same}
 use Rattle.board_items.proofs.Placed.{full, kept_put, notes_put, units_put}
@@ -50,19 +51,23 @@ invariant_of-self-2 c =
     let lt : c.args.kept.id < length c.self.inside.slots.items = subst (λ (b : PlainBoard). c.args.kept.id < b.next_id) (sym c.self.view_is) c.requires.id in
     let fit : FitsOne before (kept_entry c.args.kept) = subst (λ (b : PlainBoard). FitsOne b (kept_entry c.args.kept)) (sym c.self.view_is) c.requires in
     let gap : get_or c.self.inside.slots.items c.args.kept.id None ≡ None = slot_is c.args.kept.id c.self.inside.slots.items None lt ∙ fit.free in
-    let back : present 0 (set c.self.inside.slots.items c.args.kept.id (Some c.args.kept.item)) ≡ placed (kept_entry c.args.kept) before.items = full c.args.kept.id c.self.inside.slots.items c.args.kept.item lt gap in
+    let is : c.replace.new.self ≡ Some c.args.kept.item = c.replace.ensures.after in
+    let back : present 0 (set c.self.inside.slots.items c.args.kept.id c.replace.new.self) ≡ placed (kept_entry c.args.kept) before.items =
+    ap (λ (slot : Option Item). present 0 (set c.self.inside.slots.items c.args.kept.id slot)) is ∙ full c.args.kept.id c.self.inside.slots.items c.args.kept.item lt gap in
     let many = as_many c.self.inside.slots.items c.self.inside.units.items c.self.invariant.units_in in
     record {
       kept = kept_put (kept_entry c.args.kept) before _ _ c.self.inside.marks.items _ c.self.inside.of_nets.items c.in-Some.place _ c.index_mut-ids.result.now _ c.self.inside.live _ c.self.invariant.kept fit back
-          (as_long c.args.kept.id c.self.inside.slots.items (Some c.args.kept.item)) at c.index_mut-ids.ensures.value (c.put_id.ensures ∙ ap (id_placed c.args.kept.id) c.make_room.ensures.ids_stay)
+          (as_long c.args.kept.id c.self.inside.slots.items c.replace.new.self) at c.index_mut-ids.ensures.value (c.put_id.ensures ∙ ap (id_placed c.args.kept.id) c.make_room.ensures.ids_stay)
           (c.put_if.ensures ∙ ap (λ (ms : List ℕ). cond c.is_mark.result (id_placed c.args.kept.id ms) ms) c.make_room.ensures.marks_stay
           ∙ ap (λ t. cond t (id_placed c.args.kept.id c.self.inside.marks.items) c.self.inside.marks.items) c.is_mark.ensures) refl;
       notes = notes_put (kept_entry c.args.kept) before _ c.self.inside.notes.items _ c.self.invariant.kept.sound c.self.invariant.notes back
           (c.put_if-2.ensures ∙ ap (λ (ms : List ℕ). cond c.is_note.result (id_placed c.args.kept.id ms) ms) c.make_room.ensures.notes_stay
           ∙ ap (λ t. cond t (id_placed c.args.kept.id c.self.inside.notes.items) c.self.inside.notes.items) c.is_note.ensures);
-      tags_in = tags_put c.self.inside.slots.items c.self.inside.tags.items c.args.kept.id c.args.kept.item c.tag_of.result c.self.invariant.tags_in c.tag_of.ensures;
-      units_in = subst (λ (us : List ℕ). AreUnitsIn (set c.self.inside.slots.items c.args.kept.id (Some c.args.kept.item)) us) (sym c.put_unit-in_order.ensures.row)
-          (units_put c.self.inside.slots.items c.self.inside.units.items c.args.kept.id c.args.kept.item c.self.invariant.units_in);
+      tags_in = subst (λ (slot : Option Item). AreTagsIn (set c.self.inside.slots.items c.args.kept.id slot) (set c.self.inside.tags.items c.args.kept.id c.tag_of.result)) (sym is)
+          (tags_put c.self.inside.slots.items c.self.inside.tags.items c.args.kept.id c.args.kept.item c.tag_of.result c.self.invariant.tags_in c.tag_of.ensures);
+      units_in = subst (λ (us : List ℕ). AreUnitsIn (set c.self.inside.slots.items c.args.kept.id c.replace.new.self) us) (sym c.put_unit-in_order.ensures.row)
+          (subst (λ (slot : Option Item). AreUnitsIn (set c.self.inside.slots.items c.args.kept.id slot) (set c.self.inside.units.items c.args.kept.id c.args.kept.item.unit)) (sym is)
+          (units_put c.self.inside.slots.items c.self.inside.units.items c.args.kept.id c.args.kept.item c.self.invariant.units_in));
       rise = c.put_unit-in_order.ensures.rise c.self.invariant.rise;
     }
 
@@ -72,7 +77,9 @@ returns-clause-put c =
     let lt : c.args.kept.id < length c.self.inside.slots.items = subst (λ (b : PlainBoard). c.args.kept.id < b.next_id) (sym c.self.view_is) c.requires.id in
     let fit : FitsOne before (kept_entry c.args.kept) = subst (λ (b : PlainBoard). FitsOne b (kept_entry c.args.kept)) (sym c.self.view_is) c.requires in
     let gap : get_or c.self.inside.slots.items c.args.kept.id None ≡ None = slot_is c.args.kept.id c.self.inside.slots.items None lt ∙ fit.free in
+    let is : c.replace.new.self ≡ Some c.args.kept.item = c.replace.ensures.after in
     let back : present 0 (set c.self.inside.slots.items c.args.kept.id (Some c.args.kept.item)) ≡ placed (kept_entry c.args.kept) before.items = full c.args.kept.id c.self.inside.slots.items c.args.kept.item lt gap in
-    ap (λ (es : List (ℕ × Item)). record before { items = es; next_id = length (set c.self.inside.slots.items c.args.kept.id (Some c.args.kept.item)) }) back
+    ap (λ (slot : Option Item). record before { items = present 0 (set c.self.inside.slots.items c.args.kept.id slot); next_id = length (set c.self.inside.slots.items c.args.kept.id slot) }) is
+    ∙ ap (λ (es : List (ℕ × Item)). record before { items = es; next_id = length (set c.self.inside.slots.items c.args.kept.id (Some c.args.kept.item)) }) back
     ∙ ap (λ (n : ℕ). record before { items = placed (kept_entry c.args.kept) before.items; next_id = n }) (as_long c.args.kept.id c.self.inside.slots.items (Some c.args.kept.item))
     ∙ ap (λ (b : PlainBoard). record b { items = placed (kept_entry c.args.kept) b.items }) c.self.view_is
