@@ -1,23 +1,15 @@
--- What the calls that carry commands out ask of them: texts and places of a script of at most 33,554,432 bytes, shifts of at most
--- 10^12 nanometres, and added lists of at most 63 levels, so that each can stand in the list of a board.
-use Rattle.std.specs.Prelude.{◌≡◌, ℕ, ℤ, ◌-◌, ◌≤◌, true, List, [], ◌∷◌, length, sum_by, unsigned_abs}
+-- What the calls that carry commands out ask of them: texts and places of a script of at most 33,554,432 bytes. What a script gives
+-- beside: added lists of at most 63 levels, so that each can stand in the list of a board, and shifts of at most 10^12 nanometres.
+use Rattle.std.specs.Prelude.{◌≡◌, ℕ, ℤ, ◌-◌, ◌≤◌, true, List, [], ◌∷◌, length, sum_by, All, unsigned_abs, ⊤}
 use Rattle.sexpr_read.specs.Tree.{Tree, span, parts, is_list, levels}
 use Rattle.sexpr_read.specs.Spelling.{SpellsAll}
 use Rattle.edit_script.specs.Commands.{PlainCommand, PlainStep, add, delete, move, rules, again, edit, undo, redo}
 use Rattle.edit_script.specs.CommandsOf.{standing}
 
--- at most 10^12 from 0
-abbrev pub IsNear : ℤ → Type 0
-IsNear n = unsigned_abs n ≤ 1000000000000
-
--- the text spells forms of at most 63 levels; the list of all forms is one more
-abbrev pub IsShallow : List ℕ → Type 0
-IsShallow text = (tree : Tree) → SpellsAll text tree → levels tree ≤ 64
-
 abbrev pub Fits : PlainCommand → Type 0
-Fits (add text at) = (length text ≤ 33554432) × IsShallow text × (at ≤ 33554432)
+Fits (add text at) = (length text ≤ 33554432) × (at ≤ 33554432)
 Fits (delete name at) = at ≤ 33554432
-Fits (move name dx dy at) = IsNear dx × IsNear dy × (at ≤ 33554432)
+Fits (move name dx dy at) = at ≤ 33554432
 Fits (rules text at) = (length text ≤ 33554432) × (at ≤ 33554432)
 Fits (again at) = at ≤ 33554432
 
@@ -25,6 +17,46 @@ abbrev pub StepFits : PlainStep → Type 0
 StepFits (edit command) = Fits command
 StepFits (undo at) = at ≤ 33554432
 StepFits (redo at) = at ≤ 33554432
+
+-- ---- what a script gives beside
+
+-- the text spells forms of at most 63 levels; the list of all forms is one more
+abbrev pub IsShallow : List ℕ → Type 0
+IsShallow text = (tree : Tree) → SpellsAll text tree → levels tree ≤ 64
+
+-- no list that is added has more than 63 levels
+abbrev pub IsShallowIfAdded : PlainCommand → Type 0
+IsShallowIfAdded (add text at) = IsShallow text
+IsShallowIfAdded (delete name at) = ⊤
+IsShallowIfAdded (move name dx dy at) = ⊤
+IsShallowIfAdded (rules text at) = ⊤
+IsShallowIfAdded (again at) = ⊤
+
+abbrev pub AreShallow : List PlainCommand → Type 0
+AreShallow commands = All IsShallowIfAdded commands
+
+-- at most 10^12 from 0
+abbrev pub IsNear : ℤ → Type 0
+IsNear n = unsigned_abs n ≤ 1000000000000
+
+-- a move is near either way
+abbrev pub IsNearIfMoved : PlainCommand → Type 0
+IsNearIfMoved (add text at) = ⊤
+IsNearIfMoved (delete name at) = ⊤
+IsNearIfMoved (move name dx dy at) = IsNear dx × IsNear dy
+IsNearIfMoved (rules text at) = ⊤
+IsNearIfMoved (again at) = ⊤
+
+-- the same of a step
+abbrev pub IsShallowStep : PlainStep → Type 0
+IsShallowStep (edit command) = IsShallowIfAdded command
+IsShallowStep (undo at) = ⊤
+IsShallowStep (redo at) = ⊤
+
+abbrev pub IsNearStep : PlainStep → Type 0
+IsNearStep (edit command) = IsNearIfMoved command
+IsNearStep (undo at) = ⊤
+IsNearStep (redo at) = ⊤
 
 -- how many bytes of added lists a command holds
 abbrev pub added_by : PlainCommand → ℕ
@@ -38,6 +70,14 @@ abbrev pub added_by_step : PlainStep → ℕ
 added_by_step (edit command) = added_by command
 added_by_step (undo at) = 0
 added_by_step (redo at) = 0
+
+-- ---- what is known of each one that was read (private)
+
+abbrev pub IsRead : PlainCommand → Type 0
+IsRead command = Fits command × IsShallowIfAdded command × IsNearIfMoved command
+
+abbrev pub IsReadStep : PlainStep → Type 0
+IsReadStep step = StepFits step × IsShallowStep step × IsNearStep step
 
 -- ---- trees (private)
 

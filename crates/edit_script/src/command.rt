@@ -9,11 +9,13 @@ pub type Nm = i64;
 /// added list that of the list; it is at most 33,554,432.
 #[derive(Debug, Drop)]
 pub enum Command<'t> {
-    /// Add the items of a list, whose text this is: `(add LIST)`. The list has at most 63 levels, so that it can stand in a board.
+    /// Add the items of a list, whose text this is: `(add LIST)`. The list of a script has at most 63 levels, so that it can stand in
+    /// a board.
     Add { text: &'t [u8], at: u32 },
     /// Take out the unit of this name: `(delete NAME)`.
     Delete { name: Name, at: u32 },
-    /// Move the unit of this name by so many nanometres, each from -10^12 to 10^12: `(move NAME DX DY)`, in millimetres.
+    /// Move the unit of this name by so many nanometres: `(move NAME DX DY)`, in millimetres. Those of a script are from -10^12 to
+    /// 10^12.
     Move { name: Name, dx: Nm, dy: Nm, at: u32 },
     /// Put other rules in place of those that there are. The text is the whole form: `(rules FORM ..)`.
     Rules { text: &'t [u8], at: u32 },

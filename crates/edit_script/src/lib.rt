@@ -7,7 +7,7 @@
 ghost use Rattle.std.specs.Prelude.{◌≡◌, ◌≤◌, ◌⊎◌, List, length, map, sum_by, All, IfOk, MatchResult, Result, Ok, Err};
 ghost use Rattle.edit_script.specs.declared.error.ScriptError.{ScriptError};
 ghost use Rattle.edit_script.specs.Commands.{PlainCommand, PlainStep, plain_command, plain_step};
-ghost use Rattle.edit_script.specs.Fits.{Fits, StepFits, added_by, added_by_step};
+ghost use Rattle.edit_script.specs.Fits.{Fits, StepFits, AreShallow, IsShallowStep, IsNearIfMoved, IsNearStep, added_by, added_by_step};
 ghost use Rattle.edit_script.specs.ScriptText.{ScriptSays, SaysSteps};
 
 mod command;
@@ -25,14 +25,17 @@ use sexpr_read::{TextError, parse_all};
 use std::alloc::Global;
 
 /// The commands of the text of a script, of at most 33,554,432 bytes, in their order, or the first reason why there are none, with its
-/// place. The reasons are those of [`ScriptError`], exactly where `specs/ScriptText` has them; want of memory alone is free. What the
-/// calls that carry a command out ask of it is in `specs/Fits`; all added lists together have no more bytes than the script.
+/// place. The reasons are those of [`ScriptError`], exactly where `specs/ScriptText` has them; want of memory alone is free. Each
+/// command fits the calls that carry commands out, by `Fits` of `specs/Fits`. Beside that no added list has more than 63 levels, no move
+/// is by more than 10^12 nanometres, and all added lists together have no more bytes than the script.
 #[tactic(auto, unfolding(crate::specs::CommandsOf::commands_of))]
 pub fn read_script<'t>(alloc: Global, text: &'t [u8]) -> Result<Vec<Command<'t>>, ScriptError>
     requires { length text.now ≤ 33_554_432 }
     ensures says { MatchResult result (λ commands. ScriptSays text.entry.now (Ok (map plain_command commands.items))) (λ e. (e ≡ ScriptError.OutOfMemory) ⊎ ScriptSays text.entry.now (Err e)) }
     ensures only { (answer : Result (List PlainCommand) ScriptError) → ScriptSays text.entry.now answer → MatchResult result (λ commands. answer ≡ Ok (map plain_command commands.items)) (λ e. (e ≡ ScriptError.OutOfMemory) ⊎ (answer ≡ Err e)) }
     ensures fit { IfOk result (λ commands. All Fits (map plain_command commands.items)) }
+    ensures shallow { IfOk result (λ commands. AreShallow (map plain_command commands.items)) }
+    ensures near { IfOk result (λ commands. All IsNearIfMoved (map plain_command commands.items)) }
     ensures together { IfOk result (λ commands. sum_by added_by (map plain_command commands.items) ≤ length text.entry.now) }
 {
     one_reading();
@@ -51,6 +54,8 @@ pub fn read_steps<'t>(alloc: Global, text: &'t [u8]) -> Result<Vec<Step<'t>>, Sc
     ensures says { MatchResult result (λ steps. SaysSteps text.entry.now (Ok (map plain_step steps.items))) (λ e. (e ≡ ScriptError.OutOfMemory) ⊎ SaysSteps text.entry.now (Err e)) }
     ensures only { (answer : Result (List PlainStep) ScriptError) → SaysSteps text.entry.now answer → MatchResult result (λ steps. answer ≡ Ok (map plain_step steps.items)) (λ e. (e ≡ ScriptError.OutOfMemory) ⊎ (answer ≡ Err e)) }
     ensures fit { IfOk result (λ steps. All StepFits (map plain_step steps.items)) }
+    ensures shallow { IfOk result (λ steps. All IsShallowStep (map plain_step steps.items)) }
+    ensures near { IfOk result (λ steps. All IsNearStep (map plain_step steps.items)) }
     ensures together { IfOk result (λ steps. sum_by added_by_step (map plain_step steps.items) ≤ length text.entry.now) }
 {
     one_reading();

@@ -7,7 +7,7 @@ ghost use Rattle.list_read.specs.Heads.{place};
 ghost use Rattle.list_read.specs.Answers.{each_of};
 ghost use Rattle.edit_script.specs.Commands.{again, plain_command, plain_step};
 ghost use Rattle.edit_script.specs.CommandsOf.{standing, added, deleted, moved, alone, command_of, step_of};
-ghost use Rattle.edit_script.specs.Fits.{Fits, StepFits, added_by, added_by_step, size_of, StandsIn, FormStandsIn, FormsStandIn, HaveRoom, AllShallow, FormsShallow};
+ghost use Rattle.edit_script.specs.Fits.{IsRead, IsReadStep, added_by, added_by_step, size_of, StandsIn, FormStandsIn, FormsStandIn, HaveRoom, AllShallow, FormsShallow};
 ghost use Rattle.edit_script.specs.Views.{Gives};
 
 use crate::command::{Command, Step};
@@ -34,7 +34,7 @@ fn added<'t>(text: &'t [u8], form: Node<'_, '_>) -> Result<Command<'t>, ScriptEr
     requires form { FormStandsIn (length text.now) (tree_of form) }
     requires shallow { AllShallow text.now (parts (tree_of form)) }
     ensures read { Gives plain_command result (added text.entry.now (tree_of form.entry)) }
-    ensures fits { IfOk result (λ command. Fits (plain_command command)) }
+    ensures known { IfOk result (λ command. IsRead (plain_command command)) }
     ensures size { IfOk result (λ command. added_by (plain_command command) ≤ size_of (tree_of form.entry)) }
 {
     let mut parts = behind_head(form);
@@ -54,7 +54,7 @@ fn added<'t>(text: &'t [u8], form: Node<'_, '_>) -> Result<Command<'t>, ScriptEr
 fn deleted<'t>(alloc: Global, form: Node<'_, '_>) -> Result<Command<'t>, ScriptError>
     requires { place (tree_of form) ≤ 33_554_432 }
     ensures read { Gives plain_command result (deleted (tree_of form.entry)) }
-    ensures fits { IfOk result (λ command. Fits (plain_command command)) }
+    ensures known { IfOk result (λ command. IsRead (plain_command command)) }
     ensures adds_nothing { IfOk result (λ command. added_by (plain_command command) ≡ 0) }
 {
     let mut parts = behind_head(form);
@@ -75,7 +75,7 @@ fn deleted<'t>(alloc: Global, form: Node<'_, '_>) -> Result<Command<'t>, ScriptE
 fn moved<'t>(alloc: Global, form: Node<'_, '_>) -> Result<Command<'t>, ScriptError>
     requires { place (tree_of form) ≤ 33_554_432 }
     ensures read { Gives plain_command result (moved (tree_of form.entry)) }
-    ensures fits { IfOk result (λ command. Fits (plain_command command)) }
+    ensures known { IfOk result (λ command. IsRead (plain_command command)) }
     ensures adds_nothing { IfOk result (λ command. added_by (plain_command command) ≡ 0) }
 {
     let mut parts = behind_head(form);
@@ -105,7 +105,7 @@ fn moved<'t>(alloc: Global, form: Node<'_, '_>) -> Result<Command<'t>, ScriptErr
 fn again<'t>(form: Node<'_, '_>) -> Result<Command<'t>, ScriptError>
     requires { place (tree_of form) ≤ 33_554_432 }
     ensures read { Gives plain_command result (alone (again (place (tree_of form.entry))) (tree_of form.entry)) }
-    ensures fits { IfOk result (λ command. Fits (plain_command command)) }
+    ensures known { IfOk result (λ command. IsRead (plain_command command)) }
     ensures adds_nothing { IfOk result (λ command. added_by (plain_command command) ≡ 0) }
 {
     no_more(behind_head(form))?;
@@ -123,7 +123,7 @@ fn command_of<'t>(
     requires form { FormStandsIn (length text.now) (tree_of form) }
     requires shallow { AllShallow text.now (parts (tree_of form)) }
     ensures read { Gives plain_command result (command_of text.entry.now (tree_of form.entry)) }
-    ensures fits { IfOk result (λ command. Fits (plain_command command)) }
+    ensures known { IfOk result (λ command. IsRead (plain_command command)) }
     ensures size { IfOk result (λ command. added_by (plain_command command) ≤ size_of (tree_of form.entry)) }
 {
     if has_word_head(form, b"add") {
@@ -151,7 +151,7 @@ fn step_of<'t>(alloc: Global, text: &'t [u8], form: Node<'_, '_>) -> Result<Step
     requires form { FormStandsIn (length text.now) (tree_of form) }
     requires shallow { AllShallow text.now (parts (tree_of form)) }
     ensures read { Gives plain_step result (step_of text.entry.now (tree_of form.entry)) }
-    ensures fits { IfOk result (λ step. StepFits (plain_step step)) }
+    ensures known { IfOk result (λ step. IsReadStep (plain_step step)) }
     ensures size { IfOk result (λ step. added_by_step (plain_step step) ≤ size_of (tree_of form.entry)) }
 {
     if has_word_head(form, b"undo") {
@@ -180,7 +180,7 @@ pub(crate) fn commands_in<'t>(
     requires shallow { FormsShallow text.now (trees_left forms) }
     requires room { HaveRoom (length text.now) (trees_left forms) }
     ensures read { Gives (λ commands. map plain_command commands.items) result (each_of (command_of text.entry.now) (trees_left forms.entry)) }
-    ensures fit { IfOk result (λ commands. All Fits (map plain_command commands.items)) }
+    ensures known { IfOk result (λ commands. All IsRead (map plain_command commands.items)) }
     ensures together { IfOk result (λ commands. sum_by added_by (map plain_command commands.items) ≤ length text.entry.now) }
 {
     let mut commands = Vec::new(alloc);
@@ -205,7 +205,7 @@ pub(crate) fn steps_in<'t>(
     requires shallow { FormsShallow text.now (trees_left forms) }
     requires room { HaveRoom (length text.now) (trees_left forms) }
     ensures read { Gives (λ steps. map plain_step steps.items) result (each_of (step_of text.entry.now) (trees_left forms.entry)) }
-    ensures fit { IfOk result (λ steps. All StepFits (map plain_step steps.items)) }
+    ensures known { IfOk result (λ steps. All IsReadStep (map plain_step steps.items)) }
     ensures together { IfOk result (λ steps. sum_by added_by_step (map plain_step steps.items) ≤ length text.entry.now) }
 {
     let mut steps = Vec::new(alloc);

@@ -2,7 +2,7 @@ use Rattle.std.proofs.Common.{◌≡◌, ◌≤◌, ◌+◌, length, map, sum_by
 use Rattle.sexpr_read.specs.Views.{trees_left}
 use Rattle.list_read.specs.Answers.{each_of}
 use Rattle.edit_script.specs.CommandsOf.{command_of}
-use Rattle.edit_script.specs.Fits.{Fits, FormsStandIn, FormsShallow, size_of, added_by}
+use Rattle.edit_script.specs.Fits.{IsRead, FormsStandIn, FormsShallow, size_of, added_by}
 use Rattle.edit_script.specs.Commands.{plain_command}
 use Rattle.edit_script.proofs.OneByOne.{read_on}
 use Rattle.edit_script.proofs.reading.commands_in.Given as goal
@@ -14,5 +14,5 @@ invariant-loop-form l = record {
   stand : FormsStandIn (length l.text) (trees_left l.form-iterator);
   shallow : FormsShallow l.text (trees_left l.form-iterator);
   together : sum_by added_by (map plain_command l.commands.items) + sum_by size_of (trees_left l.form-iterator) ≤ length l.text;
-  fit : All Fits (map plain_command l.commands.items);
+  known : All IsRead (map plain_command l.commands.items);
 }

@@ -2,7 +2,7 @@ use Rattle.std.proofs.Common.{◌≡◌, ◌≤◌, ◌+◌, length, map, sum_by
 use Rattle.sexpr_read.specs.Views.{trees_left}
 use Rattle.list_read.specs.Answers.{each_of}
 use Rattle.edit_script.specs.CommandsOf.{step_of}
-use Rattle.edit_script.specs.Fits.{StepFits, FormsStandIn, FormsShallow, size_of, added_by_step}
+use Rattle.edit_script.specs.Fits.{IsReadStep, FormsStandIn, FormsShallow, size_of, added_by_step}
 use Rattle.edit_script.specs.Commands.{plain_step}
 use Rattle.edit_script.proofs.OneByOne.{read_on}
 use Rattle.edit_script.proofs.reading.steps_in.Given as goal
@@ -14,5 +14,5 @@ invariant-loop-form l = record {
   stand : FormsStandIn (length l.text) (trees_left l.form-iterator);
   shallow : FormsShallow l.text (trees_left l.form-iterator);
   together : sum_by added_by_step (map plain_step l.steps.items) + sum_by size_of (trees_left l.form-iterator) ≤ length l.text;
-  fit : All StepFits (map plain_step l.steps.items);
+  known : All IsReadStep (map plain_step l.steps.items);
 }
