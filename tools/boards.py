@@ -93,11 +93,21 @@ def arc(start, middle, end):
 
 class Item:
     """what a report can name: its word, its name, of a pad the reference, its position in nanometres, and of a track its end"""
-    __slots__ = ('word', 'name', 'reference', 'at', 'position', 'end', 'shapes', 'unit', 'layers')
+    __slots__ = ('word', 'name', 'reference', 'at', 'position', 'end', 'shapes', 'unit', 'layers', 'net', 'uuid')
 
     def __init__(self, word, name, at, position, reference=None, layers=()):
         self.word, self.name, self.reference, self.at, self.position = word, name, reference, at, position
-        self.layers, self.shapes, self.unit, self.end = layers, [], None, None
+        self.layers, self.shapes, self.unit, self.end, self.net, self.uuid = layers, [], None, None, '', ''
+
+    def said(self):
+        """the item in the words of KiCad: its sort, its net, its part and its layers"""
+        sort = {'track': 'Track', 'via': 'Via', 'graphic': 'Graphic', 'zone': 'Zone', 'edge': 'Board edge', 'area': 'Rule area',
+                'footprint': 'Footprint', 'pad': 'Pad'}.get(self.word, self.word)
+        name = ' ' + self.name if self.word in ('pad', 'footprint', 'area') and self.name else ''
+        net = ' [%s]' % (plain(self.net) or '<no net>') if self.word in ('track', 'via', 'zone', 'pad') else ''
+        part = ' of ' + (self.reference or '?') if self.word == 'pad' else ''
+        layers = '' if not self.layers or self.word == 'edge' else ' on ' + (self.layers[0] if len(self.layers) == 1 else '%s..%s' % (self.layers[0], self.layers[-1]))
+        return sort + name + net + part + layers
 
     def box(self):
         boxes = [shape.box for shape in self.shapes]
@@ -105,6 +115,13 @@ class Item:
             x, y = self.position[0] / 1e6, self.position[1] / 1e6
             return x - 0.5, y - 0.5, x + 0.5, y + 0.5
         return min(b[0] for b in boxes), min(b[1] for b in boxes), max(b[2] for b in boxes), max(b[3] for b in boxes)
+
+
+def plain(name):
+    """a name without the escapes that KiCad writes for signs of its own: {slash} and so on"""
+    for word, sign in (('slash', '/'), ('backslash', '\\'), ('lt', '<'), ('gt', '>'), ('colon', ':'), ('dblquote', '"'), ('quote', "'"), ('space', ' '), ('return', ' '), ('tab', ' '), ('brace', '{')):
+        name = name.replace('{%s}' % word, sign)
+    return name
 
 
 class Unit:
@@ -259,13 +276,17 @@ class Board:
             self.units.append(unit)
         return unit
 
+    def net_of(self, node):
+        """the name of the net of a list; none where it has none"""
+        return self.nets.get(node.value('net'), '')
+
     def track(self, node, unit):
         start, mid, end = point(node, 'start'), point(node, 'mid'), point(node, 'end')
         if not start or not end:
             return
         layer, width = node.value('layer') or '', (node.lengths('width') or [0])[0] / 1e6
         item = unit.take(Item('track', unit.name, node.at, start, layers=[layer]))
-        item.end = end
+        item.end, item.net, item.uuid = end, self.net_of(node), unit.name
         points = Stance().draw([start, mid, end] if mid else [start, end])
         item.shapes.append(strip(layer, 'track', width, arc(*points) if mid else points))
 
@@ -276,6 +297,7 @@ class Board:
         marks = sorted(COPPER.index(name) for name in ends if name in COPPER)
         layers = [name for name in self.copper if marks and marks[0] <= COPPER.index(name) <= marks[-1]]
         item = unit.take(Item('via', unit.name, node.at, at, layers=layers))
+        item.net, item.uuid = self.net_of(node), unit.name
         place = Stance().draw([at])
         item.shapes.append(strip('Vias', 'via', (node.lengths('size') or [0])[0] / 1e6, place))
         drill = node.lengths('drill')
@@ -294,6 +316,7 @@ class Board:
             ring, layer = corners(part) if part.head == 'filled_polygon' else [], part.value('layer') or ''
             if len(ring) > 2 and layer in COPPER:
                 item = unit.take(Item('zone', unit.name, part.at, ring[0], layers=[layer]))
+                item.net, item.uuid = self.net_of(node), unit.name
                 item.shapes.append(area(layer, 'fill', Stance().draw(ring)))
 
     def graphic(self, node, unit, stance, body):
@@ -305,6 +328,7 @@ class Board:
             word = 'edge' if layer == 'Edge.Cuts' else 'graphic'
             shapes, position = figure(node, layer, word, stance, 0.05 if word == 'edge' else 0)
             item = unit.take(Item(word, name_of(node), node.at, position, layers=[layer]))
+            item.net, item.uuid = self.net_of(node), item.name
             item.shapes += shapes
         elif layer in COURTYARDS and body:
             body.shapes += [shape for shape in figure(node, layer, 'courtyard', stance, 0.05)[0] if not shape.fill]
@@ -325,6 +349,7 @@ class Board:
         reference = reference_of(node)
         side = node.value('layer') or ''
         body = unit.take(Item('footprint', reference, node.at, (stance.x, stance.y), layers=[side]))
+        body.uuid = unit.name
         for part in node.lists():
             if part.head == 'pad':
                 self.pad(part, unit, stance, reference)
@@ -343,6 +368,7 @@ class Board:
         offset = (drill.lengths('offset') if drill else []) or [0, 0]
         layers = [name for name in layers_of(node, self.copper) if name in COPPER]
         item = unit.take(Item('pad', node.parts[1] if len(node.parts) > 1 else '', node.at, place, reference, layers))
+        item.net, item.uuid = self.net_of(node), name_of(node)
         moved = Stance(*own.put(offset[0], offset[-1]), own.angle)
         drawn = [('Pads', 'pad')] if kind == 'thru_hole' and len(layers) > 1 else [(name, 'pad') for name in layers]
         for layer, sort in drawn:

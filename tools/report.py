@@ -14,8 +14,10 @@ Nothing is decided here: what is told is the report's, and its place the board's
 row, 1 where it has one, 2 where there is no whole report or a file was not read, and 3 where a text was refused.
 """
 import argparse
+import hashlib
 import json
 import sys
+import urllib.parse
 from ends import status_of, text_of
 from reports import Placed, Places, Report
 
@@ -49,6 +51,7 @@ class Teller:
         told.update(text=named.text, x=named.x, y=named.y)
         found = self.placed.find(named)
         if found:
+            told['said'], told['net'], told['uuid'] = found.said(), found.net, found.uuid
             told['file'], told['line'], told['column'] = self.places.place(found.unit.source, found.at)
         return told
 
@@ -70,6 +73,7 @@ class Teller:
             return told
         told['rows'] = [{'severity': row.severity, 'kind': row.kind, 'layer': row.layer, **row.values, 'source': row.source,
                          'message': row.message, 'items': [self.item(named) for named in row.items]} for row in state.rows]
+        self.placed.spoken = None
         told['not_checked'] = [self.note(note) for note in state.notes]
         told['open_nets'] = [{'net': net.name, 'text': net.line,
                               'groups': [{'count': count, 'first': self.item(named)} for count, named in net.groups],
@@ -86,20 +90,30 @@ class Teller:
             yield self.state(state)
 
 
+SPOKEN = {'text': 'text', 'dimension': 'dimension', 'courtyard': 'footprint', 'zone': 'footprint-zone'}
+
+
 def noted(placed, note):
-    """the item that a note speaks of, or None"""
-    words = {'text': 'text', 'dimension': 'dimension', 'courtyard': 'footprint', 'zone': 'footprint-zone'}
-    for unit in placed.alive if note.sort in words else []:
-        for item in unit.items:
-            if item.word == words[note.sort] and item.name == note.name and (note.sort not in ('text', 'dimension') or note.layer in item.layers):
-                return item
-    return None
+    """the item that a note speaks of, or None; of several texts without a name the notes have them one after the other"""
+    if note.sort not in SPOKEN:
+        return None
+    if placed.spoken is None:
+        placed.spoken = {}
+        for unit in placed.alive:
+            for item in unit.items:
+                if item.word in SPOKEN.values():
+                    for layer in item.layers if item.word in ('text', 'dimension') else ['']:
+                        placed.spoken.setdefault((item.word, item.name, layer), []).append(item)
+    word = SPOKEN[note.sort]
+    same = placed.spoken.get((word, note.name, note.layer if word in ('text', 'dimension') else ''), [])
+    return same.pop(0) if len(same) > 1 and word != 'footprint' else same[0] if same else None
 
 
 def findings(state):
     """the severity, the rule, the message, the place and further places of each thing of a state that is told"""
     if 'refused' in state:
-        yield 'error', 'refused-command', 'command %d refused: %s' % (state['report'], state['refused']), state, []
+        rule = 'refused-' + state.get('text', 'command')
+        yield 'error', rule, state.get('message') or 'command %d refused: %s' % (state['report'], state['refused']), state, []
         return
     for row in state['rows']:
         yield row['severity'], row['kind'], row['message'], row['items'][0], row['items'][1:]
@@ -125,19 +139,52 @@ def in_lines(states, board):
                 yield '%s:%d:%d: note: %sthe other: %s' % (*place_of(other, board), before, other['text'])
 
 
+RULES = {
+    'short': 'Copper of two nets touches', 'clearance': 'Copper of two nets is nearer than the clearance',
+    'hole_clearance': 'A hole is nearer to copper than the hole clearance', 'hole_to_hole': 'Two drilled holes are too near to each other',
+    'edge_clearance': 'Copper is too near to the edge of the board', 'courtyard_clearance': 'Courtyards of two footprints overlap or are too near',
+    'keepout': 'Something lies in a rule area that bans it', 'track_width': 'A track is narrower or wider than allowed',
+    'via_diameter': 'The diameter of a via is out of its limits', 'hole_size': 'The size of a hole is out of its limits',
+    'annular_width': 'The copper ring around the hole of a via is out of its limits', 'disallow': 'A custom rule disallows the item',
+    'physical_clearance': 'Copper is nearer than a physical clearance, whatever its net', 'physical_hole_clearance': 'A hole is nearer to copper than a physical clearance, whatever its net',
+    'assertion': 'An assertion of a custom rule does not hold', 'open-net': 'A net is not routed in one piece', 'not-checked': 'Read, and not checked',
+    'refused-command': 'A command of the script cannot be carried out', 'refused-board': 'The board is not understood, and nothing of it was checked',
+    'refused-project': 'The project is not understood, and nothing was checked', 'refused-rules': 'The rule file is not understood, and nothing was checked',
+    'refused-script': 'The script is not understood, and nothing was checked'}
+
+
+def plain_text(text):
+    """a text as SARIF has it, where brackets and braces are signs"""
+    return text.replace('\\', '\\\\').replace('[', '\\[').replace(']', '\\]').replace('{', '{{').replace('}', '}}')
+
+
 def in_sarif(states, board):
-    def location(told):
+    def location(told, number=None):
         file, line, column = place_of(told, board)
-        where = {'physicalLocation': {'artifactLocation': {'uri': file}, 'region': {'startLine': line, 'startColumn': column}}}
-        return {**where, 'message': {'text': told['text']}} if 'item' in told else where
-    results, rules = [], []
+        uri = urllib.parse.quote(file.replace('\\', '/'))
+        where = {'physicalLocation': {'artifactLocation': {'uri': 'file://' + uri if uri.startswith('/') else uri, **({} if uri.startswith('/') else {'uriBaseId': '%SRCROOT%'})},
+                                      'region': {'startLine': line, 'startColumn': column}}}
+        return {'id': number, **where, 'message': {'text': plain_text(told.get('said', told['text']))}} if number else where
+
+    def print_of(rule, message, first, others):
+        """what stays the same of a thing while the rest of the board is edited: the items by their names, and no place"""
+        names = [(told.get('uuid') or told.get('name'), told.get('reference')) for told in [first, *others] if 'item' in told]
+        return hashlib.sha256(repr((rule, first.get('net'), sorted(map(str, names)) or message)).encode()).hexdigest()[:32]
+
+    results, rules, seen = [], [], {}
     for state in states:
         for severity, rule, message, first, others in findings(state):
             rules += [rule] if rule not in rules else []
-            results.append({'ruleId': rule, 'ruleIndex': rules.index(rule), 'level': severity, 'message': {'text': message},
-                            'locations': [location({k: v for k, v in first.items() if k != 'item'})],
-                            'relatedLocations': [location(other) for other in others], 'properties': {'report': state['report']}})
-    run = {'tool': {'driver': {'name': 'drc', 'rules': [{'id': rule} for rule in rules]}}, 'columnKind': 'unicodeCodePoints', 'results': results}
+            mark = print_of(rule, message, first, others)
+            seen[mark] = seen.get(mark, 0) + 1
+            results.append({'ruleId': rule, 'ruleIndex': rules.index(rule), 'level': severity, 'message': {'text': plain_text(message)},
+                            'locations': [location(first)], 'relatedLocations': [location(other, k + 1) for k, other in enumerate(others)],
+                            'partialFingerprints': {'drc/v1': '%s:%d' % (mark, seen[mark])}, 'properties': {'report': state['report']}})
+    told = [{'id': rule, 'shortDescription': {'text': RULES.get(rule, rule)}, 'fullDescription': {'text': RULES.get(rule, rule)},
+             'help': {'text': RULES.get(rule, rule) + '. See docs/FORMATS.md, "Report".'}} for rule in rules]
+    refused = any(result['ruleId'].startswith('refused-') for result in results)
+    run = {'tool': {'driver': {'name': 'drc', 'rules': told}}, 'automationDetails': {'id': 'drc/%s/' % urllib.parse.quote(board.strip('/'))},
+           'columnKind': 'unicodeCodePoints', 'invocations': [{'executionSuccessful': not refused}], 'results': results}
     return {'$schema': 'https://json.schemastore.org/sarif-2.1.0.json', 'version': '2.1.0', 'runs': [run]}
 
 
@@ -146,13 +193,11 @@ def without_states(report, places, words):
     if report.refusal:
         which, name, at = report.refusal.group(1), report.refusal.group(2), int(report.refusal.group(3))
         file, line, column = places.place(which, at)
-        state = {'report': 0, 'refused': name, 'file': file, 'line': line, 'column': column}
+        state = {'report': 0, 'refused': name, 'text': which, 'message': report.refusal.group(), 'file': file, 'line': line, 'column': column}
         if words.json:
             print(json.dumps({'board': words.board, 'refused': {'text': which, 'name': name, 'at': at, 'file': file, 'line': line, 'column': column}}, indent=1))
         elif words.sarif:
-            told = in_sarif([state], words.board)
-            told['runs'][0]['results'][0].update(message={'text': report.refusal.group()})
-            print(json.dumps(told, indent=1))
+            print(json.dumps(in_sarif([state], words.board), indent=1))
         else:
             print('%s:%d:%d: error: %s' % (file, line, column, report.refusal.group()))
         return 3

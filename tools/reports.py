@@ -141,13 +141,13 @@ class Placed:
         self.script = script_text
         self.commands = forms(script_text, comments=True) if script_text is not None else []
         self.alive = list(self.board.units)
-        self.index = None
+        self.index = self.spoken = None
 
     def take(self, number):
         """carries out the command of this number, from 1: the units that it touched"""
         command = self.commands[number - 1] if 0 < number <= len(self.commands) else None
         words = command.parts if command else []
-        touched, self.index = [], None
+        touched, self.index, self.spoken = [], None, None
         if words and words[0] == 'add' and len(words) > 1 and isinstance(words[1], Node):
             count = len(self.board.units)
             unit = self.board.read(words[1], 'script')

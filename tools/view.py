@@ -84,13 +84,18 @@ class Picture:
         unit = ' class="unit%s"' % name if name else ''
         faint = ' opacity=".5"' if SORTS[sort] == 'fill' else ' fill-opacity=".12" stroke="currentColor" stroke-width=".1"' if SORTS[sort] == 'area' else ''
         color = HOLES.get(SORTS[sort], 'currentColor')
-        paint = 'fill="%s"' % color if fill else 'fill="none" stroke="%s" stroke-width="%s"' % (color, number(width))
+        # A courtyard stays a thin line, however near one looks, so that it hides no gap.
+        faint += ' vector-effect="non-scaling-stroke"' if SORTS[sort] == 'courtyard' else ''
+        paint = 'fill="%s"' % color if fill else 'fill="none" stroke="%s" stroke-width="%s"' % (color, 1 if SORTS[sort] == 'courtyard' else number(width))
         return '<path%s %s%s d="%s"/>' % (unit, paint, faint, ''.join(self.drawn[key]))
 
     def reference(self, name, item):
         x, y = (number(n / 1e6) for n in item.position)
         unit = ' class="unit%s"' % name if name else ''
-        return '<text%s x="%s" y="%s">%s</text>' % (unit, x, y, html.escape(item.name))
+        # No larger than its footprint, so that small parts stay readable.
+        box = item.box()
+        size = max(0.25, min(1, 0.6 * min(box[2] - box[0], box[3] - box[1])))
+        return '<text%s x="%s" y="%s" font-size="%s">%s</text>' % (unit, x, y, number(size), html.escape(item.name))
 
     def svg(self):
         groups = []
@@ -98,7 +103,7 @@ class Picture:
             keys = sorted(key for key in self.drawn if key[0] == layer)
             groups.append('<g id="layer%d" style="color:%s">%s</g>' % (k, COLORS.get(layer, '#888'), ''.join(self.path(key) for key in keys)))
         groups.append('<g id="references">%s</g>' % ''.join(self.reference(*each) for each in self.references))
-        groups += ['<g id="%s"></g>' % name for name in ('notes', 'picked', 'links', 'marks')]
+        groups += ['<g id="%s"></g>' % name for name in ('notes', 'picked', 'links', 'marks', 'picked-gap')]
         return '<svg id="board" xmlns="http://www.w3.org/2000/svg">%s</svg>' % '\n'.join(groups)
 
     def switches(self):
@@ -122,7 +127,7 @@ class Page:
             self.numbers[key] = len(self.items)
             if found:
                 by = [n / 1e6 for n in shift]
-                told = {'text': text, 'place': self.place(found), 'paths': [[int(s.fill), number(s.width), s.path] for s in found.shapes],
+                told = {'text': text, 'said': found.said(), 'place': self.place(found), 'paths': [[int(s.fill), number(s.width), s.path] for s in found.shapes],
                         'box': rounded(moved(found.box(), by))}
                 if shift != (0, 0):
                     told['shift'] = by
@@ -130,7 +135,7 @@ class Page:
                     told.update(words=found.reference or found.word, at=rounded([n / 1e6 for n in found.position]))
             else:
                 x, y = float(named.x), float(named.y)
-                told = {'text': text, 'place': '', 'paths': [], 'box': [x - 0.5, y - 0.5, x + 0.5, y + 0.5]}
+                told = {'text': text, 'said': text, 'place': '', 'paths': [], 'box': [x - 0.5, y - 0.5, x + 0.5, y + 0.5]}
             self.items.append(told)
         return self.numbers[key]
 
@@ -172,6 +177,7 @@ class Page:
                 self.units.setdefault(id(unit), len(self.units))
         rows = [self.row(row, row.line not in old) for row in state.rows]
         counts = ', '.join('%s %d' % (what, state.counts[what]) for what in ('rows', 'open nets', 'not checked') if what in state.counts)
+        self.placed.spoken = None
         return {'name': 'report %d' % state.number + (', +%d -%d' % (sum(row['came'] for row in rows), len(went)) if before else ''),
                 'rows': rows, 'went': went, 'nets': [self.net(net) for net in state.nets], 'notes': [self.note(note) for note in state.notes],
                 'sum': ', '.join(part for part in (counts, state.tiles) if part), 'moves': self.moves()}
