@@ -26,7 +26,7 @@ def board_of(name):
         return name
     boards = sorted(entry for entry in os.listdir(name) if entry.endswith('.kicad_pcb') and not entry.startswith(('_autosave-', '~', '.')))
     if len(boards) == 1:
-        return os.path.join(name, boards[0])
+        return os.path.normpath(os.path.join(name, boards[0]))
     raise Unread('%s: %s' % (name, 'no .kicad_pcb in this folder' if not boards else 'several boards in this folder, name one: ' + ', '.join(boards)))
 
 

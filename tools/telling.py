@@ -142,7 +142,7 @@ class Teller:
         told['constraint'], told['rule'] = name, note.name
         if meant != '':
             told['severity'] = 'warning'
-            told['message'] = 'constraint %s of rule "%s" is none that KiCad has%s, and nothing of it is checked' % (name, note.name, '; is %s meant?' % meant if meant else '')
+            told['message'] = 'constraint %s of rule "%s" is none that KiCad has%s, so nothing of it is checked' % (name, note.name, ' (is %s meant?)' % meant if meant else '')
         at = self.rule_place(note.name, name)
         if at is not None:
             self.put(told, 'rules', at)

@@ -22,9 +22,12 @@ class Verdict:
         self.failing = [found for found in self.findings if self.fails(found)]
 
     def severity(self, found):
-        """error, warning, open or note: with as_project the project's severity counts"""
-        if self.as_project and found.severity == 'error' and found.project and found.project['severity'] == 'warning':
-            return 'warning'
+        """error, warning, open or note: with as_project the project's severity counts, and what it switched off is a note"""
+        if self.as_project and found.project:
+            if found.project['off']:
+                return 'note'
+            if found.severity == 'error' and found.project['severity'] == 'warning':
+                return 'warning'
         return found.severity
 
     def is_known(self, found):
@@ -69,7 +72,7 @@ class Verdict:
             kinds = collections.Counter(found.rule for found in rows if self.severity(found) == severity)
             told.append(count_of(sum(kinds.values()), severity) + (' (%s)' % ', '.join('%d %s' % (count, kind) for kind, count in kinds.most_common()) if kinds else ''))
         last = self.result.last()
-        nets = last['open_nets'] if last else []
+        nets = [net for net in last['open_nets'] if not (self.as_project and net.get('project') and net['project']['off'])] if last else []
         links = [link['length_nm'] for net in nets for link in net['links']]
         told.append(count_of(len(nets), 'open net') + (' (%s, %.1f mm)' % (count_of(len(links), 'link'), sum(links) / 1e6) if links else ''))
         notes = last['not_checked'] if last else []
@@ -83,7 +86,7 @@ class Verdict:
         for word, said in (('ignored', 'switched off'), ('excluded', 'excluded')):
             off = sum(bool(found.project) and found.project['off'] == word for found in self.findings)
             if off:
-                told.append('%d of these %s in the project' % (off, said))
+                told.append('%d %s%s in the project' % (off, '' if self.as_project else 'of these ', said))
         if self.known is not None:
             told.append('%d new' % sum(not self.is_known(found) for found in self.findings if found.severity != 'note' or self.fails(found)))
         return ', '.join(told)
