@@ -1,6 +1,7 @@
 """How the tools read a report, and how they end: what is not read or written is one line on standard error, and status 2."""
 import codecs
 import errno
+import gc
 import os
 import sys
 
@@ -20,6 +21,8 @@ def text_of(name):
 
 def status_of(main):
     """runs a tool, and gives the status that it ends with"""
+    # A board is many small objects and no rings of them; looking for rings would take a third of the time.
+    gc.disable()
     try:
         status = main()
         # What standard output does not take shows here at the latest.

@@ -7,17 +7,21 @@
 REPORT is a file that holds the report; without it, or where it is -, the report is read from standard input. Without --json or
 --sarif there is a line FILE:LINE:COLUMN: SEVERITY: MESSAGE for each row, by the list of its first item, then for each row the
 second item as a note, the links of open nets, what was not checked, and refused commands. A refusal has the place of its byte; that
-of a project, a rule file or a script is found where the option names the file. Lines and columns count from 1, columns in characters.
+of a project, a rule file or a script is found where the option names the file, and so is a constraint that is misspelt in the rules.
+Lines and columns count from 1, columns in characters. For SARIF give the board by its path from the top of the repository.
 
-A report of a script has several states. Told is the last one, that of --state N, or with --all each one, and JSON has all.
-Nothing is decided here: what is told is the report's, and its place the board's. The status is 0 where the last report has no
-row, 1 where it has one, 2 where there is no whole report or a file was not read, and 3 where a text was refused.
+A report of a script has several states. Told is the last one, that of --state N, or with --all each one (not in SARIF, which is one
+list), and JSON has all. Nothing is decided here: what is told is the report's, and its place the board's. The status is 0 where the
+last report has no row, 1 where it has one, 2 where there is no whole report, it is that of another board, or a file was not read,
+and 3 where a text was refused. tools/check does all of this with one command.
 """
 import argparse
 import json
 import sys
 from ends import status_of, text_of
-from reports import Placed, Places, Report
+from lines import in_lines
+from results import Result
+from sarif import in_sarif
 
 
 def read_words():
@@ -32,157 +36,38 @@ def read_words():
     which.add_argument('--state', type=int)
     for text in ('--project', '--rules', '--script'):
         words.add_argument(text)
-    return words.parse_args()
-
-
-class Teller:
-    """what is told of each state: a row, a link, a note or a refused command, each with the places of its items"""
-
-    def __init__(self, report, placed, places):
-        self.report, self.placed, self.places = report, placed, places
-
-    def item(self, named):
-        """an item with the place of its list; without a place where the board has no such item"""
-        told = {'item': named.word, 'name': named.name}
-        if named.reference is not None:
-            told['reference'] = named.reference
-        told.update(text=named.text, x=named.x, y=named.y)
-        found = self.placed.find(named)
-        if found:
-            told['file'], told['line'], told['column'] = self.places.place(found.unit.source, found.at)
-        return told
-
-    def note(self, note):
-        told = {'text': note.line}
-        found = noted(self.placed, note)
-        if found:
-            told['file'], told['line'], told['column'] = self.places.place(found.unit.source, found.at)
-        return told
-
-    def state(self, state):
-        told = {'report': state.number}
-        if state.refused is not None:
-            told['refused'] = state.refused
-            commands = self.placed.commands
-            at = state.place if state.place is not None else commands[state.number - 1].at if 0 < state.number <= len(commands) else None
-            if at is not None:
-                told['file'], told['line'], told['column'] = self.places.place('script', at)
-            return told
-        told['rows'] = [{'severity': row.severity, 'kind': row.kind, 'layer': row.layer, **row.values, 'source': row.source,
-                         'message': row.message, 'items': [self.item(named) for named in row.items]} for row in state.rows]
-        told['not_checked'] = [self.note(note) for note in state.notes]
-        told['open_nets'] = [{'net': net.name, 'text': net.line,
-                              'groups': [{'count': count, 'first': self.item(named)} for count, named in net.groups],
-                              'links': [{'square': square, 'ends': [self.item(named) for named in ends]} for square, ends in net.links]}
-                             for net in state.nets]
-        told['counts'] = state.counts
-        told['tiles'] = state.tiles
-        return told
-
-    def states(self):
-        for state in self.report.states:
-            if state.refused is None and state.number > 0:
-                self.placed.take(state.number)
-            yield self.state(state)
-
-
-def noted(placed, note):
-    """the item that a note speaks of, or None"""
-    words = {'text': 'text', 'dimension': 'dimension', 'courtyard': 'footprint', 'zone': 'footprint-zone'}
-    for unit in placed.alive if note.sort in words else []:
-        for item in unit.items:
-            if item.word == words[note.sort] and item.name == note.name and (note.sort not in ('text', 'dimension') or note.layer in item.layers):
-                return item
-    return None
-
-
-def findings(state):
-    """the severity, the rule, the message, the place and further places of each thing of a state that is told"""
-    if 'refused' in state:
-        yield 'error', 'refused-command', 'command %d refused: %s' % (state['report'], state['refused']), state, []
-        return
-    for row in state['rows']:
-        yield row['severity'], row['kind'], row['message'], row['items'][0], row['items'][1:]
-    for net in state['open_nets']:
-        for link in net['links']:
-            ends = link['ends']
-            yield 'note', 'open-net', '%s: link %d: %s | %s' % (net['text'], link['square'], ends[0]['text'], ends[1]['text']), ends[0], ends[1:]
-    for note in state['not_checked']:
-        yield 'note', 'not-checked', note['text'], note, []
-
-
-def place_of(told, board):
-    """the file, the line and the column; the head of the board's file for what has none"""
-    return told.get('file', board), told.get('line', 1), told.get('column', 1)
-
-
-def in_lines(states, board):
-    for state in states:
-        before = 'report %d: ' % state['report'] if len(states) > 1 and 'refused' not in state else ''
-        for severity, _, message, first, others in findings(state):
-            yield '%s:%d:%d: %s: %s%s' % (*place_of(first, board), severity, before, message)
-            for other in others if severity != 'note' else []:
-                yield '%s:%d:%d: note: %sthe other: %s' % (*place_of(other, board), before, other['text'])
-
-
-def in_sarif(states, board):
-    def location(told):
-        file, line, column = place_of(told, board)
-        where = {'physicalLocation': {'artifactLocation': {'uri': file}, 'region': {'startLine': line, 'startColumn': column}}}
-        return {**where, 'message': {'text': told['text']}} if 'item' in told else where
-    results, rules = [], []
-    for state in states:
-        for severity, rule, message, first, others in findings(state):
-            rules += [rule] if rule not in rules else []
-            results.append({'ruleId': rule, 'ruleIndex': rules.index(rule), 'level': severity, 'message': {'text': message},
-                            'locations': [location({k: v for k, v in first.items() if k != 'item'})],
-                            'relatedLocations': [location(other) for other in others], 'properties': {'report': state['report']}})
-    run = {'tool': {'driver': {'name': 'drc', 'rules': [{'id': rule} for rule in rules]}}, 'columnKind': 'unicodeCodePoints', 'results': results}
-    return {'$schema': 'https://json.schemastore.org/sarif-2.1.0.json', 'version': '2.1.0', 'runs': [run]}
-
-
-def without_states(report, places, words):
-    """a refusal or a fault, which is one line; its status"""
-    if report.refusal:
-        which, name, at = report.refusal.group(1), report.refusal.group(2), int(report.refusal.group(3))
-        file, line, column = places.place(which, at)
-        state = {'report': 0, 'refused': name, 'file': file, 'line': line, 'column': column}
-        if words.json:
-            print(json.dumps({'board': words.board, 'refused': {'text': which, 'name': name, 'at': at, 'file': file, 'line': line, 'column': column}}, indent=1))
-        elif words.sarif:
-            told = in_sarif([state], words.board)
-            told['runs'][0]['results'][0].update(message={'text': report.refusal.group()})
-            print(json.dumps(told, indent=1))
-        else:
-            print('%s:%d:%d: error: %s' % (file, line, column, report.refusal.group()))
-        return 3
-    print('report.py: no report: %s' % (report.fault or 'nothing was written'), file=sys.stderr)
-    return 2
+    told = words.parse_args()
+    if told.sarif and told.all:
+        words.error('--all with --sarif: SARIF has one list of results, so name one state by --state N')
+    return told
 
 
 def main():
     words = read_words()
-    places = Places({'board': words.board, 'project': words.project, 'rules': words.rules, 'script': words.script})
-    report = Report(text_of(words.report))
-    if not report.states:
-        return without_states(report, places, words)
-    placed = Placed(places.text('board'), places.text('script') if words.script else None)
-    states = list(Teller(report, placed, places).states())
-    reports = [state for state in states if 'refused' not in state]
+    result = Result({'board': words.board, 'project': words.project, 'rules': words.rules, 'script': words.script}, text_of(words.report))
     if words.state is not None:
-        told = [state for state in states if state['report'] == words.state]
+        told = [state for state in result.states if state['report'] == words.state]
     else:
-        told = states if words.all else [state for state in states if 'refused' in state] + reports[-1:]
+        told = result.states if words.all else result.told()
+    fault = result.strange or (None if result.states or result.refusal else 'no report: %s' % result.fault)
+    if fault:
+        print('report.py: %s' % fault, file=sys.stderr)
+        return 2
     if words.json:
-        print(json.dumps({'board': words.board, 'whole': report.whole, 'states': states}, indent=1))
+        print(json.dumps(result.document(), indent=1))
     elif words.sarif:
-        print(json.dumps(in_sarif(told, words.board), indent=1))
+        print(json.dumps(in_sarif([(result, told)]), indent=1))
+    elif result.refusal:
+        refusal = result.refusal
+        print('%s:%d:%d: error: %s' % (refusal['file'], refusal['line'], refusal['column'], refusal['message']))
     else:
         print(''.join(line + '\n' for line in in_lines(told, words.board)), end='')
-    if report.fault or not report.whole or not reports:
-        print('report.py: the report is not whole', file=sys.stderr)
+    if result.refusal:
+        return 3
+    if result.fault:
+        print('report.py: %s' % result.fault, file=sys.stderr)
         return 2
-    return 1 if reports[-1]['rows'] else 0
+    return 1 if result.last()['rows'] else 0
 
 
 if __name__ == '__main__':

@@ -137,50 +137,95 @@ class Placed:
 
     def __init__(self, board_text, script_text=None):
         self.board = Board(board_text)
-        self.shifts = {id(unit): (0, 0) for unit in self.board.units}
         self.script = script_text
         self.commands = forms(script_text, comments=True) if script_text is not None else []
-        self.alive = list(self.board.units)
-        self.index = None
+        self.moved, self.gone, self.spoken, self.spots = {}, set(), {}, {}
+
+    def shift(self, unit):
+        """how far a unit was moved, in nanometres"""
+        return self.moved.get(id(unit), (0, 0))
+
+    def alive(self):
+        """the units that were not taken out"""
+        return [unit for unit in self.board.units if id(unit) not in self.gone]
 
     def take(self, number):
         """carries out the command of this number, from 1: the units that it touched"""
         command = self.commands[number - 1] if 0 < number <= len(self.commands) else None
         words = command.parts if command else []
-        touched, self.index = [], None
+        touched, self.spoken, self.spots = [], {}, {}
         if words and words[0] == 'add' and len(words) > 1 and isinstance(words[1], Node):
             count = len(self.board.units)
-            unit = self.board.read(words[1], 'script')
+            self.board.read(words[1], 'script')
             touched = self.board.units[count:]
-            self.alive += touched
-            self.shifts[id(unit)] = (0, 0)
         elif words and words[0] in ('delete', 'move') and len(words) > 1:
-            touched = [unit for unit in self.alive if unit.name == words[1]]
+            touched = [unit for unit in self.board.named(words[1]) if unit.name == words[1] and id(unit) not in self.gone]
             if words[0] == 'delete':
-                self.alive = [unit for unit in self.alive if unit.name != words[1]]
+                self.gone.update(map(id, touched))
             else:
                 dx, dy = ([nanometres(word) or 0 for word in command.atoms()[1:3]] + [0, 0])[:2]
                 for unit in touched:
-                    x, y = self.shifts[id(unit)]
-                    self.shifts[id(unit)] = (x + dx, y + dy)
+                    x, y = self.shift(unit)
+                    self.moved[id(unit)] = (x + dx, y + dy)
         return touched
+
+    def same(self, word, name, reference=None):
+        """the items of these names that are on the board"""
+        key = (word, name, reference)
+        if key not in self.spoken:
+            self.spoken[key] = [item for item in self.board.items(word, name, reference) if id(item.unit) not in self.gone]
+        return self.spoken[key]
+
+    def at_place(self, named):
+        """the item that a report names, by its names and its position, or None"""
+        key = (named.word, named.name, named.reference)
+        if key not in self.spots:
+            self.spots[key] = {}
+            for point in ('position', 'end'):
+                for item in self.same(*key):
+                    (dx, dy), there = self.shift(item.unit), getattr(item, point)
+                    if there:
+                        self.spots[key].setdefault((round(there[0] + dx), round(there[1] + dy)), item)
+        return self.spots[key].get(named.position)
 
     def find(self, named):
         """the item that a report names, or None: by its names and its position, or else by its names alone"""
-        if self.index is None:
-            self.index = {}
-            for unit in self.alive:
-                for item in unit.items:
-                    self.index.setdefault((item.word, item.name, item.reference if item.word == 'pad' else None), []).append(item)
-        same = self.index.get((named.word, named.name, named.reference), [])
-        x, y = named.position
-        for point in ('position', 'end'):
-            for item in same:
-                dx, dy = self.shifts[id(item.unit)]
-                there = getattr(item, point)
-                if there and abs(there[0] + dx - x) < 1 and abs(there[1] + dy - y) < 1:
-                    return item
-        return same[0] if same else None
+        return self.at_place(named) or next(iter(self.same(named.word, named.name, named.reference)), None)
+
+    def strange(self, state):
+        """of the items that a state names those that are not where it says, and how many it names"""
+        named = {item.text: item for row in state.rows for item in row.items}
+        for net in state.nets:
+            named.update((item.text, item) for item in [first for _, first in net.groups] + [end for _, ends in net.links for end in ends])
+        return [item for item in named.values() if self.at_place(item) is None], len(named)
+
+
+SPOKEN = {'text': 'text', 'dimension': 'dimension', 'courtyard': 'footprint', 'zone': 'footprint-zone'}
+
+
+class Notes:
+    """the items that the notes of one state speak of; of several of one name the notes have them one after the other"""
+
+    def __init__(self, placed):
+        self.placed, self.told = placed, {}
+
+    def item(self, note):
+        """the item of the next note, and how many there are of that name, of which it may be another; None where it is on the board no more"""
+        if note.sort not in SPOKEN:
+            return None, 0
+        word = SPOKEN[note.sort]
+        same = self.placed.same(word, note.name)
+        if word in ('text', 'dimension'):
+            same = [item for item in same if note.layer in item.layers]
+        if not same:
+            return None, 0
+        # Not each footprint of a name has a note, so it may be any of them.
+        if word == 'footprint':
+            return same[0], len(same)
+        key = (note.sort, note.name, note.layer)
+        number = self.told.get(key, 0)
+        self.told[key] = number + 1
+        return same[min(number, len(same) - 1)], 1
 
 
 class Places:
@@ -200,6 +245,6 @@ class Places:
         name = self.files.get(which)
         if name is None:
             return which, 1, 1
-        lines = self.lines.setdefault(which, None) or Lines(self.text(which))
-        self.lines[which] = lines
-        return (name, *lines.place(at))
+        if which not in self.lines:
+            self.lines[which] = Lines(self.text(which))
+        return (name, *self.lines[which].place(at))
