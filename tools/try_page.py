@@ -72,6 +72,16 @@ EXAMPLE = '''
   same('a track', copper_at(114, 104).filter(name => name.startsWith('Track')), ['Track [GND] on F.Cu, 0.25 mm wide']);
   const mark = document.querySelector('.mark path'); mark.dispatchEvent(new MouseEvent('click', { bubbles: true })); await later();
   same('a mark', chosen(), '#row-0-0');
+  // a wheel moves the picture at once, and draws it anew when it rests
+  const wheel = seen[2]; frame.dispatchEvent(new WheelEvent('wheel', { deltaY: 100, clientX: 900, clientY: 400, bubbles: true, cancelable: true }));
+  same('moved', [svg.style.transform !== '', seen[2] > wheel], [true, true]);
+  await new Promise(done => setTimeout(done, 300));
+  same('drawn anew', [svg.style.transform, near(drawn[2], seen[2], 1e-9), svg.getAttribute('viewBox')], ['', true, seen.join(' ')]);
+  const pointer = (name, x, y, shift) => frame.dispatchEvent(new PointerEvent(name, { clientX: x, clientY: y, shiftKey: shift, bubbles: true }));
+  const left = seen[0]; pointer('pointerdown', 800, 400); pointer('pointermove', 900, 400); pointer('pointerup', 900, 400);
+  same('dragged', near(left - seen[0], 100 * seen[2] / svg.clientWidth, 1e-6), true);
+  pointer('pointerdown', 800, 400, true); pointer('pointermove', 900, 400, true); pointer('pointerup', 900, 400, true);
+  same('measured', told.textContent, 'measured by eye: ' + (100 * seen[2] / svg.clientWidth).toFixed(3) + ' mm');
   const tick = [...document.querySelectorAll('#layers label')].find(label => label.textContent === 'F.Cu');
   tick.querySelector('span').click(); same('a layer alone', [...document.querySelectorAll('#layers label')].filter(label => label.textContent.endsWith('.Cu') && label.querySelector('input').checked).length, 1);
   tick.querySelector('span').click(); same('all layers', [...document.querySelectorAll('#layers label')].filter(label => label.textContent.endsWith('.Cu') && label.querySelector('input').checked).length, 2);

@@ -134,7 +134,7 @@ class Picture:
             keys = sorted(key for key in self.drawn if key[0] == layer)
             groups.append('<g id="layer%d" style="color:%s">%s</g>' % (k, COLORS.get(layer, '#888'), ''.join(self.path(key) for key in keys)))
         groups.append('<g id="references">%s</g>' % ''.join(self.reference(*each) for each in self.references))
-        groups += ['<g id="%s"></g>' % name for name in ('notes', 'picked', 'links', 'marks', 'picked-gap')]
+        groups += ['<g id="%s"></g>' % name for name in ('notes', 'picked', 'links', 'marks', 'picked-gap', 'measure')]
         return '<svg id="board" xmlns="http://www.w3.org/2000/svg">%s</svg>' % '\n'.join(groups)
 
     def switches(self):
