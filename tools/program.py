@@ -58,6 +58,8 @@ def proved(program):
         return False, 'no checksum of ./drc stands beside it'
     if made.get('program') != checksum(program):
         return False, 'the checksum beside it is that of another program'
+    if not os.path.isfile(os.path.join(ROOT, 'crates.txt')):
+        return False, 'the sources are not here'
     if made.get('sources') != sources():
         return False, 'the sources have changed since'
     return True, 'proved and built by ./drc from these sources'

@@ -271,9 +271,20 @@ def proved(tries, folder):
     tries.same('the checksum of the sources by ./drc', done.stdout.strip(), sums['sources'])
 
 
+def installed(tries, folder):
+    """what is installed runs from elsewhere"""
+    prefix = os.path.join(folder.path, 'prefix')
+    done = subprocess.run([os.path.join(TOOLS, 'install'), prefix], capture_output=True, text=True, check=False)
+    tries.same('install', done.returncode, 0)
+    done = subprocess.run([os.path.join(prefix, 'bin/drc-check'), 'amp.kicad_pcb', '--html', 'installed.html'], cwd=folder.path, env={**os.environ, 'DRC': folder.program, 'GITHUB_ACTIONS': ''},
+                          capture_output=True, text=True, check=False)
+    tries.same('what is installed', (done.returncode, done.stderr), (1, ''))
+    tries.holds('its page', folder.text('installed.html'), '<svg id="board"')
+
+
 def all_of(tries):
     with tempfile.TemporaryDirectory() as path:
         folder = Folder(os.path.realpath(path))
         prepare(folder)
-        for each in (calls, written, watched, proved):
+        for each in (calls, written, watched, proved, installed):
             each(tries, folder)

@@ -68,7 +68,9 @@ class Picture:
     """the board as groups of SVG, a layer each; what looks alike on a layer is one path, so that a large board stays quick"""
 
     def __init__(self, board, touched):
-        self.drawn, self.box, self.references, self.names, self.told, self.paths = {}, None, [], {}, [], []
+        self.drawn, self.box, self.references, self.names, self.told = {}, None, [], {}, []
+        # The fills of many layers over each other are told apart by what they cover.
+        self.faint = '.4' if len(board.copper) < 3 else '.22'
         for unit in board.units:
             name = str(touched.get(id(unit), ''))
             for item in unit.items:
@@ -106,7 +108,7 @@ class Picture:
         _, sort, fill, width, name = key
         sort = SORTS[sort]
         unit = ' class="unit%s"' % name if name else ''
-        faint = ' opacity=".4"' if sort == 'fill' else ' fill-opacity=".12" stroke="currentColor" stroke-width=".1"' if sort == 'area' else ''
+        faint = ' opacity="%s"' % self.faint if sort == 'fill' else ' fill-opacity=".12" stroke="currentColor" stroke-width=".1"' if sort == 'area' else ''
         color = HOLES.get(sort, 'currentColor')
         # A courtyard stays a thin line, however near one looks, so that it hides no gap.
         faint += ' vector-effect="non-scaling-stroke"' if sort == 'courtyard' else ''
@@ -132,7 +134,7 @@ class Picture:
             keys = sorted(key for key in self.drawn if key[0] == layer)
             groups.append('<g id="layer%d" style="color:%s">%s</g>' % (k, COLORS.get(layer, '#888'), ''.join(self.path(key) for key in keys)))
         groups.append('<g id="references">%s</g>' % ''.join(self.reference(*each) for each in self.references))
-        groups += ['<g id="%s"></g>' % name for name in ('notes', 'picked', 'links', 'marks', 'picked-gap')]
+        groups += ['<g id="%s"></g>' % name for name in ('notes', 'picked', 'links', 'marks', 'picked-gap', 'measure')]
         return '<svg id="board" xmlns="http://www.w3.org/2000/svg">%s</svg>' % '\n'.join(groups)
 
     def switches(self):
