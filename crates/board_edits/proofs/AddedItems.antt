@@ -13,8 +13,8 @@ use Rattle.board_laws.proofs.Rest.{Entry, rises, found_at, contains_filter, sour
 use Rattle.part_read.specs.Ready.{AreReady, IsReady}
 use Rattle.pcb_read.specs.BoardOf.{with_items}
 use Rattle.board_edits.specs.declared.making.Made.{Made}
-use Rattle.board_edits.specs.Deeds.{PlainDeed, append}
-use Rattle.board_edits.specs.Fitting.{plain_deed, returned_board, DeedLeadsBack, AddsNone}
+use Rattle.board_edits.specs.Deeds.{PlainDeed, nothing, append}
+use Rattle.board_edits.specs.Fitting.{plain_deed, returned_board, DeedLeadsBack, GivesNothing, AddsNone}
 use Rattle.board_edits.specs.Making.{ids_of, without_added, IsMade}
 use Rattle.board_edits.specs.Touched.{AreEdited, brought}
 use Rattle.board_edits.proofs.EntryIds.{to_ids, rise_filter, ids_rise, not_given, came, all_new}
@@ -91,6 +91,10 @@ adds_none : (unit : ℕ) (items : List Item) → AddsNone (without_added unit it
 adds_none unit [] = tt
 adds_none unit (item ∷ items) = tt
 
+nothing_added : (unit : ℕ) (items : List Item) → GivesNothing (append items) → without_added unit items ≡ nothing
+nothing_added unit [] gives = refl
+nothing_added unit (item ∷ items) gives = absurd gives
+
 -- ---- the edit
 module _ (law : (board : PlainBoard) (items : List Item) (ids : List ℕ) → IsSound board → IsSound (fold with_item board items) → ((e : Entry) → Contains (fold with_item board items).items e → board.next_id ≤ e.0 → Contains ids e.0) → IsEdit board (fold with_item board items) ids) where
   edits : (board : PlainBoard) (items : List Item) (ids : List ℕ) → IsSound board → IsSound (with_items board items) → ((e : Entry) → Contains (with_items board items).items e → board.next_id ≤ e.0 → Contains ids e.0) → IsEdit board (with_items board items) ids
@@ -150,6 +154,7 @@ module _ (law : (board : PlainBoard) (items : List Item) (ids : List ℕ) → Is
       after = refl;
       leads = subst (λ (d : PlainDeed). DeedLeadsBack d (with_items old items) old) (sym back) (leads_back old old.next_unit items own sound.units);
       adds_none = subst AddsNone (sym back) (adds_none old.next_unit items);
+      none = λ gives. back ∙ nothing_added old.next_unit items gives;
       edited = edited;
       known = brought refl (all_new old made.ids.items entries given all_fresh);
     }

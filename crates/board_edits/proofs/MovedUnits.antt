@@ -1,34 +1,36 @@
 -- What is known of a unit that was moved.
-use Rattle.std.proofs.Common.{◌≡◌, ◌≢◌, ◌⊎◌, inl, inr, refl, sym, ap, subst, ◌∙◌, ℕ, zero, suc, ℤ, pos, neg_ℤ, Bool, true, false, cond, not, ◌&&◌, nat_eq, List, [], ◌∷◌, filter, Option, None, Some, MatchBool, Result, Ok, Err, OnOk, IfErr, ◌-ℤ◌, arith, true≢false}
+use Rattle.std.proofs.Common.{◌≡◌, ◌≢◌, ◌⊎◌, inl, inr, refl, sym, ap, subst, ◌∙◌, ℕ, zero, suc, ℤ, pos, neg_ℤ, Bool, true, false, cond, not, ◌&&◌, nat_eq, List, [], ◌∷◌, filter, Option, None, Some, MatchBool, Result, Ok, Err, OnOk, IfErr, is_some, unsigned_abs, ◌≤◌, ◌-ℤ◌, ◌+ℤ◌, ◌*ℤ◌, FitsSigned, arith, true≢false}
+use mir.Syntax.{w64}
 use Rattle.std.proofs.lemmas.Int.{ints}
-use Rattle.int_algebra.proofs.Scalars.{passed}
+use Rattle.int_algebra.proofs.Scalars.{passed, clean}
 use Rattle.board_errors.specs.declared.errors.ItemError.{ItemError}
 use Rattle.board_errors.specs.declared.errors.ItemError.TheVariants.{OutOfBoard}
-use Rattle.std.specs.List.{All, AllZip, Contains}
+use Rattle.std.specs.List.{All, AllZip, Contains, list_all}
 use Rattle.std.specs.List.Sorted.{IsStrictlyIncreasing}
 use Rattle.std.specs.Ordering.{int_eq}
 use Rattle.std.proofs.lemmas.Bool.{and_parts}
 use Rattle.std.proofs.lemmas.Bool.Decides.{Decides-int_eq}
 use Rattle.std.proofs.lemmas.List.Elements.{All-contains}
 use Rattle.geo_seg.specs.declared.boxes.Bounds.{Bounds}
+use Rattle.geo_seg.specs.Shifts.{core_stays}
 use Rattle.board_items.specs.declared.parts.Part.{Part}
 use Rattle.board_items.specs.declared.item.Item.{Item}
 use Rattle.board_items.specs.Back.{entries_of}
-use Rattle.board_items.specs.Boards.{PlainBoard, IsSound, item_at}
+use Rattle.board_items.specs.Boards.{PlainBoard, IsSound, AllAdmitted, item_at, is_near, is_on_board, name_of, has_layers_of}
 use Rattle.board_items.specs.Extents.{AreBoundsOf}
 use Rattle.board_items.specs.Parts.{parts_of}
-use Rattle.board_items.specs.Moves.{moves, is_note, unit_stays, IsShiftedItem, IsMovedEntry, IsMoved}
+use Rattle.board_items.specs.Moves.{moves, is_note, item_stays, unit_stays, IsShiftedItem, IsMovedEntry, IsMoved}
 use Rattle.board_laws.specs.Edits.{IsEdit, WasOrIs}
 use Rattle.board_laws.proofs.Rest.{Entry, rises, found_at, contains_filter, source, passed as passed_test}
-use Rattle.edit_script.specs.Fits.{IsNear}
 use Rattle.board_edits.specs.declared.making.Made.{Made}
-use Rattle.board_edits.specs.Deeds.{PlainDeed, shift}
-use Rattle.board_edits.specs.Fitting.{plain_deed, DeedLeadsBack, AddsNone}
-use Rattle.board_edits.specs.Making.{HasBounds, ids_of, IsMade}
+use Rattle.board_edits.specs.Deeds.{PlainDeed, nothing, shift}
+use Rattle.board_edits.specs.Fitting.{plain_deed, returned_board, DeedLeadsBack, AddsNone}
+use Rattle.board_edits.specs.Making.{HasBounds, ids_of, shifted_back, IsMade}
 use Rattle.board_edits.specs.Touched.{ids_touched, ItemDiffers, reshaped, AreEdited, touched_before}
 use Rattle.board_edits.proofs.EntryIds.{from_ids, to_ids, rise_filter, ids_rise}
+use Rattle.board_edits.proofs.OwnEntries.{item_small}
 use Rattle.board_edits.proofs.Returned.{returned_same}
-use Rattle.board_edits.proofs.ShiftedParts.{unit_stay, as_near}
+use Rattle.board_edits.proofs.ShiftedParts.{unit_stay}
 
 some_once : {x y : Item} → Some x ≡ Some y → x ≡ y
 some_once e = cc
@@ -44,23 +46,45 @@ not_refused : (r : Result (Unit {0}) ItemError) (P : Type 0) (b : Bool) → OnOk
 not_refused (Ok v) P b h k t = h
 not_refused (Err e) P b h k t = absurd (true≢false (sym t ∙ k.1))
 
-near_passed : (d : ℤ) → IsNear d → passed d ≡ d
-near_passed d near = omega (arith, ints)
-
-pub did_move : (r : Result (Unit {0}) ItemError) (unit : ℕ) (dx dy : ℤ) (old new : PlainBoard) → IsNear dx → IsNear dy → OnOk r (IsMoved unit (passed dx) (passed dy) old new)
+pub did_move : (r : Result (Unit {0}) ItemError) (unit : ℕ) (dx dy : ℤ) (old new : PlainBoard) → FitsSigned w64 dx → FitsSigned w64 dy → OnOk r (IsMoved unit (passed dx) (passed dy) old new)
     → IfErr r (λ e. (e ≡ OutOfBoard) × (unit_stays unit (passed dx) (passed dy) old.items ≡ false)) → unit_stays unit dx dy old.items ≡ true → IsMoved unit dx dy old new
-did_move r unit dx dy old new near_x near_y h k stays =
+did_move r unit dx dy old new fits_x fits_y h k stays =
     let moved = not_refused r (IsMoved unit (passed dx) (passed dy) old new) (unit_stays unit (passed dx) (passed dy) old.items) h k
-    (ap (λ (d : ℤ). unit_stays unit d (passed dy) old.items) (near_passed dx near_x) ∙ (ap (λ (d : ℤ). unit_stays unit dx d old.items) (near_passed dy near_y) ∙ stays)) in
-    subst (λ (d : ℤ). IsMoved unit dx d old new) (near_passed dy near_y) (subst (λ (d : ℤ). IsMoved unit d (passed dy) old new) (near_passed dx near_x) moved)
+    (ap (λ (d : ℤ). unit_stays unit d (passed dy) old.items) (clean dx fits_x) ∙ (ap (λ (d : ℤ). unit_stays unit dx d old.items) (clean dy fits_y) ∙ stays)) in
+    subst (λ (d : ℤ). IsMoved unit dx d old new) (clean dy fits_y) (subst (λ (d : ℤ). IsMoved unit d (passed dy) old new) (clean dx fits_x) moved)
 
--- the move back, as it is computed
-back_by : (d : ℤ) → IsNear d → passed (pos 0 -ℤ passed d) ≡ neg_ℤ d
-back_by d near = omega (arith, ints)
+-- ---- how far the items of a unit are moved that stay on the board
+some_small : (board : PlainBoard) (unit : ℕ) (dx dy : ℤ) (es : List Entry) → AllAdmitted board es → unit_stays unit dx dy es ≡ true → ids_of (filter (λ (e : Entry). moves unit e.1) es) ≢ [] → (unsigned_abs dx ≤ 1000000000) × (unsigned_abs dy ≤ 1000000000)
+some_small board unit dx dy [] on stays some = absurd (some refl)
+some_small board unit dx dy (e ∷ es) on stays some = by (λ s n. some_small board unit dx dy es on.1 s n) (moves unit e.1) stays some
+  where
+    first : (is_on_board e.1 && is_some (name_of board e.1.net)) ≡ true
+    first = (and_parts (is_on_board e.1 && is_some (name_of board e.1.net)) (has_layers_of board e.1) on.0).0
 
-pub shifted_back : (unit : ℕ) (dx dy : ℤ) → IsNear dx → IsNear dy → shift unit (passed (pos 0 -ℤ passed dx)) (passed (pos 0 -ℤ passed dy)) ≡ shift unit (neg_ℤ dx) (neg_ℤ dy)
-shifted_back unit dx dy near_x near_y =
-    ap (λ (d : ℤ). shift unit d (passed (pos 0 -ℤ passed dy))) (back_by dx near_x) ∙ ap (λ (d : ℤ). shift unit (neg_ℤ dx) d) (back_by dy near_y)
+    here : is_on_board e.1 ≡ true
+    here = (and_parts (is_on_board e.1) (is_some (name_of board e.1.net)) first).0
+
+    by : (unit_stays unit dx dy es ≡ true → ids_of (filter (λ (x : Entry). moves unit x.1) es) ≢ [] → (unsigned_abs dx ≤ 1000000000) × (unsigned_abs dy ≤ 1000000000)) → (b : Bool) → (cond b (item_stays dx dy e.1) true && unit_stays unit dx dy es) ≡ true → ids_of (cond b (e ∷ filter (λ (x : Entry). moves unit x.1) es) (filter (λ (x : Entry). moves unit x.1) es)) ≢ []
+        → (unsigned_abs dx ≤ 1000000000) × (unsigned_abs dy ≤ 1000000000)
+    by rest true s n =
+        let own = (and_parts (item_stays dx dy e.1) (unit_stays unit dx dy es) s).0 in
+        item_small dx dy e.1 here (and_parts (is_near (e.1.x +ℤ dx) && is_near (e.1.y +ℤ dy)) (list_all (λ (part : Part). core_stays (pos 2 *ℤ dx) (pos 2 *ℤ dy) part.shape.core) (parts_of e.1)) own).0
+    by rest false s n = rest s n
+
+pub moved_small : (board : PlainBoard) (unit : ℕ) (dx dy : ℤ) (ids : List ℕ) → IsSound board → unit_stays unit dx dy board.items ≡ true → ids ≡ ids_touched board (shift unit dx dy) → ids ≢ [] → (unsigned_abs dx ≤ 1000000000) × (unsigned_abs dy ≤ 1000000000)
+moved_small board unit dx dy ids sound stays given some = by (int_eq dx (pos 0) && int_eq dy (pos 0)) given
+  where
+    by : (b : Bool) → ids ≡ cond b [] (ids_of (filter (λ (e : Entry). moves unit e.1) board.items)) → (unsigned_abs dx ≤ 1000000000) × (unsigned_abs dy ≤ 1000000000)
+    by true e = absurd (some e)
+    by false e = some_small board unit dx dy board.items sound.admitted stays (λ n. some (e ∙ n))
+
+-- the same of distances that were passed on
+pub small_passed : (dx dy : ℤ) → FitsSigned w64 dx → FitsSigned w64 dy → (unsigned_abs dx ≤ 1000000000) × (unsigned_abs dy ≤ 1000000000) → (unsigned_abs (passed dx) ≤ 1000000000) × (unsigned_abs (passed dy) ≤ 1000000000)
+small_passed dx dy fits_x fits_y small = (subst (λ (d : ℤ). unsigned_abs d ≤ 1000000000) (sym (clean dx fits_x)) small.0, subst (λ (d : ℤ). unsigned_abs d ≤ 1000000000) (sym (clean dy fits_y)) small.1)
+
+pub back_passed : (unit : ℕ) (dx dy : ℤ) (ids given : List ℕ) → FitsSigned w64 dx → FitsSigned w64 dy → given ≡ ids → shifted_back unit (passed dx) (passed dy) given ≡ shifted_back unit dx dy ids
+back_passed unit dx dy ids given fits_x fits_y same =
+    ap (λ (d : ℤ). shifted_back unit d (passed dy) given) (clean dx fits_x) ∙ (ap (λ (d : ℤ). shifted_back unit dx d given) (clean dy fits_y) ∙ ap (λ (xs : List ℕ). shifted_back unit dx dy xs) same)
 
 -- where it stands now
 moved_to : (unit : ℕ) (dx dy : ℤ) (es fs : List Entry) → AllZip (IsMovedEntry unit dx dy) es fs → (e : Entry) → Contains es e → (f : Entry) × Contains fs f × IsMovedEntry unit dx dy e f
@@ -71,12 +95,35 @@ moved_to unit dx dy (x ∷ xs) (y ∷ ys) h e (suc k, lt, same) =
     let d = moved_to unit dx dy xs ys h.1 e (k, omega arith, same) in (d.0, (suc d.1.0, omega (arith, d.1.1), d.1.2), d.2)
 
 -- ---- moved back
+comes_back : (old new : PlainBoard) (unit : ℕ) (dx dy : ℤ) → IsMoved unit dx dy old new → returned_board old new ≡ old
+comes_back old new unit dx dy moved = returned_same old new (ap (λ (b : PlainBoard). b.next_id) moved.others) (ap (λ (b : PlainBoard). b.next_unit) moved.others)
+
 module _ (back_law : (unit : ℕ) (dx dy : ℤ) (old new : PlainBoard) → IsMoved unit dx dy old new → IsMoved unit (neg_ℤ dx) (neg_ℤ dy) new old) where
-  leads_back : (old new : PlainBoard) (unit : ℕ) (dx dy : ℤ) → IsSound old → IsNear dx → IsNear dy → IsMoved unit dx dy old new → DeedLeadsBack (shift unit (neg_ℤ dx) (neg_ℤ dy)) new old
-  leads_back old new unit dx dy sound near_x near_y moved = record {
-    fits = (as_near dx 1000000000000 near_x, as_near dy 1000000000000 near_y, unit_stay unit (neg_ℤ dx) (neg_ℤ dy) old new.items old.items (back_law unit dx dy old new moved).items sound.admitted);
-    leads = subst (λ (b : PlainBoard). IsMoved unit (neg_ℤ dx) (neg_ℤ dy) new b) (sym (returned_same old new (ap (λ (b : PlainBoard). b.next_id) moved.others) (ap (λ (b : PlainBoard). b.next_unit) moved.others))) (back_law unit dx dy old new moved);
+  leads_back : (old new : PlainBoard) (unit : ℕ) (dx dy : ℤ) → IsSound old → IsMoved unit dx dy old new → DeedLeadsBack (shift unit (neg_ℤ dx) (neg_ℤ dy)) new old
+  leads_back old new unit dx dy sound moved = record {
+    fits = unit_stay unit (neg_ℤ dx) (neg_ℤ dy) old new.items old.items (back_law unit dx dy old new moved).items sound.admitted;
+    leads = subst (λ (b : PlainBoard). IsMoved unit (neg_ℤ dx) (neg_ℤ dy) new b) (sym (comes_back old new unit dx dy moved)) (back_law unit dx dy old new moved);
   }
+
+adds_none : (unit : ℕ) (dx dy : ℤ) (ids : List ℕ) → AddsNone (shifted_back unit dx dy ids)
+adds_none unit dx dy [] = tt
+adds_none unit dx dy (id ∷ ids) = tt
+
+-- where no item moves, all stay
+none_first : {x : ℕ} {xs : List ℕ} → [] ≡ x ∷ xs → ⊥
+none_first e = cc
+
+all_still : (unit : ℕ) (dx dy : ℤ) (es fs : List Entry) → AllZip (IsMovedEntry unit dx dy) es fs → [] ≡ ids_of (filter (λ (e : Entry). moves unit e.1) es) → fs ≡ es
+all_still unit dx dy [] [] h none = refl
+all_still unit dx dy [] (f ∷ fs) h none = absurd h
+all_still unit dx dy (e ∷ es) [] h none = absurd h
+all_still unit dx dy (e ∷ es) (f ∷ fs) h none = by (λ n. all_still unit dx dy es fs h.1 n) (moves unit e.1) h.0.item none
+  where
+    by : ([] ≡ ids_of (filter (λ (x : Entry). moves unit x.1) es) → fs ≡ es) → (b : Bool) → MatchBool b (IsShiftedItem dx dy e.1 f.1) (f.1 ≡ e.1) → [] ≡ ids_of (cond b (e ∷ filter (λ (x : Entry). moves unit x.1) es) (filter (λ (x : Entry). moves unit x.1) es)) → f ∷ fs ≡ e ∷ es
+    by rest true s n = absurd (none_first n)
+    by rest false s n =
+        let first : f ≡ e = ap (λ (k : ℕ). (k, f.1)) h.0.id ∙ ap (λ (i : Item). (e.0, i)) s in
+        ap (λ (x : Entry). x ∷ fs) first ∙ ap (λ (xs : List Entry). e ∷ xs) (rest n)
 
 -- ---- the edit
 module _ (edit_law : (unit : ℕ) (dx dy : ℤ) (old new : PlainBoard) (ids : List ℕ) → IsSound old → IsSound new → IsMoved unit dx dy old new → ((e : Entry) → Contains old.items e → moves unit e.1 ≡ true → Contains ids e.0) → IsEdit old new ids)
@@ -164,13 +211,31 @@ module _ (edit_law : (unit : ℕ) (dx dy : ℤ) (old new : PlainBoard) (ids : Li
         by true false x y g = edited_far (λ both. true≢false (sym ((Decides-int_eq dy (pos 0)).1 both.1) ∙ y)) bounds g
         by false b x y g = edited_far (λ both. true≢false (sym ((Decides-int_eq dx (pos 0)).1 both.0) ∙ x)) bounds g
 
+    -- by nothing, or none of its items moves
+    none_moved : [] ≡ ids_touched old (shift unit dx dy) → new ≡ old
+    none_moved given = by (int_eq dx (pos 0)) (int_eq dy (pos 0)) refl refl given
+      where
+        rests : [] ≡ ids_of (filter own old.items) → new ≡ old
+        rests none = moved.others ∙ ap (λ (es : List Entry). record old { items = es }) (all_still unit dx dy old.items new.items moved.items none)
+
+        by : (a b : Bool) → int_eq dx (pos 0) ≡ a → int_eq dy (pos 0) ≡ b → [] ≡ cond (a && b) [] (ids_of (filter own old.items)) → new ≡ old
+        by true true x y g = unmoved ((Decides-int_eq dx (pos 0)).0 x) ((Decides-int_eq dy (pos 0)).0 y)
+        by true false x y g = rests g
+        by false b x y g = rests g
+
+    module _ (back_law : (unit : ℕ) (dx dy : ℤ) (old new : PlainBoard) → IsMoved unit dx dy old new → IsMoved unit (neg_ℤ dx) (neg_ℤ dy) new old) where
+      leads_by : (given : List ℕ) → given ≡ ids_touched old (shift unit dx dy) → DeedLeadsBack (shifted_back unit dx dy given) new old
+      leads_by [] same = record { fits = tt; leads = comes_back old new unit dx dy moved ∙ sym (none_moved same) }
+      leads_by (id ∷ more) same = leads_back back_law old new unit dx dy sound moved
+
   pub moved_made : ((unit : ℕ) (dx dy : ℤ) (old new : PlainBoard) → IsMoved unit dx dy old new → IsMoved unit (neg_ℤ dx) (neg_ℤ dy) new old)
-      → (old new : PlainBoard) (unit : ℕ) (dx dy : ℤ) (made : Made) → IsSound old → IsSound new → IsNear dx → IsNear dy → IsMoved unit dx dy old new → All HasBounds (entries_of unit old.items)
-      → plain_deed made.back ≡ shift unit (neg_ℤ dx) (neg_ℤ dy) → made.ids.items ≡ ids_touched old (shift unit dx dy) → IsMade (shift unit dx dy) old new made
-  moved_made back_law old new unit dx dy made sound still near_x near_y moved bounds back given = record {
+      → (old new : PlainBoard) (unit : ℕ) (dx dy : ℤ) (made : Made) → IsSound old → IsSound new → IsMoved unit dx dy old new → All HasBounds (entries_of unit old.items)
+      → plain_deed made.back ≡ shifted_back unit dx dy made.ids.items → made.ids.items ≡ ids_touched old (shift unit dx dy) → IsMade (shift unit dx dy) old new made
+  moved_made back_law old new unit dx dy made sound still moved bounds back given = record {
     after = moved;
-    leads = subst (λ (d : PlainDeed). DeedLeadsBack d new old) (sym back) (leads_back back_law old new unit dx dy sound near_x near_y moved);
-    adds_none = subst AddsNone (sym back) tt;
+    leads = subst (λ (d : PlainDeed). DeedLeadsBack d new old) (sym back) (leads_by old new unit dx dy made.ids.items sound still moved back_law made.ids.items given);
+    adds_none = subst AddsNone (sym back) (adds_none unit dx dy made.ids.items);
+    none = λ gives. absurd gives;
     edited = edited old new unit dx dy made.ids.items sound still moved bounds given;
     known = touched_before given;
   }

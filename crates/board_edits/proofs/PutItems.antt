@@ -96,6 +96,7 @@ module _ (law : (board new : PlainBoard) (items : List Entry) (ids : List ℕ) �
     after = put;
     leads = subst (λ (d : PlainDeed). DeedLeadsBack d new old) (sym back) (leads_back old new sound items fits put);
     adds_none = subst AddsNone (sym back) (adds_none items);
+    none = λ gives. absurd gives;
     edited = record {
       rise = subst IsStrictlyIncreasing (sym given) (ids_rise 0 old.next_id items fits.ids);
       edit = law old new items made.ids.items sound still put listed;

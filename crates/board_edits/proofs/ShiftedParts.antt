@@ -69,10 +69,3 @@ unit_stay unit dx dy board (e ∷ es) (f ∷ fs) h on =
     let first = (and_parts (is_on_board f.1 && is_some (name_of board f.1.net)) (has_layers_of board f.1) on.0).0 in
     let here : is_on_board f.1 ≡ true = (and_parts (is_on_board f.1) (is_some (name_of board f.1.net)) first).0 in
     and_from (cond (moves unit e.1) (item_stays dx dy e.1) true) (unit_stays unit dx dy es) (entry_stay unit dx dy e f h.0 here) (unit_stay unit dx dy board es fs h.1 on.1)
-
--- as far back
-abs_neg : (z : ℤ) → unsigned_abs (neg_ℤ z) ≡ unsigned_abs z
-abs_neg z = omega (arith, ints)
-
-pub as_near : (z : ℤ) (n : ℕ) → unsigned_abs z ≤ n → unsigned_abs (neg_ℤ z) ≤ n
-as_near z n h = subst (λ (k : ℕ). k ≤ n) (sym (abs_neg z)) h

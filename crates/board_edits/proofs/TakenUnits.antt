@@ -30,7 +30,7 @@ units_all : (high : ℕ) (es : List Entry) → UnitsBelow high es → All (λ (e
 units_all high [] h = All-nil (λ (e : Entry). e.1.unit < high)
 units_all high (e ∷ es) h = All-cons (λ (x : Entry). x.1.unit < high) e es h.0 (units_all high es h.1)
 
-admitted_all : (board : PlainBoard) (es : List Entry) → AllAdmitted board es → All (λ (e : Entry). is_admitted board e.1 ≡ true) es
+pub admitted_all : (board : PlainBoard) (es : List Entry) → AllAdmitted board es → All (λ (e : Entry). is_admitted board e.1 ≡ true) es
 admitted_all board [] h = All-nil (λ (e : Entry). is_admitted board e.1 ≡ true)
 admitted_all board (e ∷ es) h = All-cons (λ (x : Entry). is_admitted board x.1 ≡ true) e es h.0 (admitted_all board es h.1)
 
@@ -104,6 +104,7 @@ module _ (law : (board : PlainBoard) (unit : ℕ) (ids : List ℕ) → IsSound b
     after = refl;
     leads = subst (λ (d : PlainDeed). DeedLeadsBack d (without_unit old unit) old) (sym back) (leads_back old unit sound);
     adds_none = subst AddsNone (sym back) tt;
+    none = λ gives. absurd gives;
     edited = record {
       rise = subst IsStrictlyIncreasing (sym given) (ids_rise 0 old.next_id (entries_of unit old.items) (rise_filter (is_of unit) 0 old.next_id old.items sound.ids));
       edit = law old unit made.ids.items sound still listed;

@@ -1,13 +1,13 @@
 -- What is known of a deed while it is done.
-use Rattle.std.specs.Prelude.{ℕ, List, [], ◌∷◌, Option, map}
+use Rattle.std.specs.Prelude.{◌≡◌, ℕ, ℤ, neg_ℤ, List, [], ◌∷◌, Option, map}
 use Rattle.geo_seg.specs.declared.boxes.Bounds.{Bounds}
 use Rattle.board_items.specs.declared.item.Item.{Item}
 use Rattle.board_items.specs.Boards.{PlainBoard}
 use Rattle.board_items.specs.Extents.{AreBoundsOf}
 use Rattle.board_items.specs.Parts.{parts_of}
 use Rattle.board_edits.specs.declared.making.Made.{Made}
-use Rattle.board_edits.specs.Deeds.{PlainDeed, nothing, take_out, After}
-use Rattle.board_edits.specs.Fitting.{plain_deed, DeedLeadsBack, AddsNone}
+use Rattle.board_edits.specs.Deeds.{PlainDeed, nothing, take_out, shift, After}
+use Rattle.board_edits.specs.Fitting.{plain_deed, DeedLeadsBack, GivesNothing, AddsNone}
 use Rattle.board_edits.specs.Touched.{ids_touched, AreEdited, AreKnown}
 
 -- the item has bounds where it has parts
@@ -28,10 +28,16 @@ abbrev pub without_put : List (ℕ × Item) → PlainDeed
 without_put [] = nothing
 without_put (entry ∷ entries) = take_out entry.1.unit
 
+-- what moves the unit back, where the items of these ids were moved
+abbrev pub shifted_back : ℕ → ℤ → ℤ → List ℕ → PlainDeed
+shifted_back unit dx dy [] = nothing
+shifted_back unit dx dy (id ∷ ids) = shift unit (neg_ℤ dx) (neg_ℤ dy)
+
 -- what is known of a deed that was done
 pub record IsMade (deed : PlainDeed) (old new : PlainBoard) (made : Made) : Type 0 where
   pub after : After old deed new
   pub leads : DeedLeadsBack (plain_deed made.back) new old
   pub adds_none : AddsNone (plain_deed made.back)
+  pub none : GivesNothing deed → plain_deed made.back ≡ nothing
   pub edited : AreEdited old new made.ids.items
   pub known : AreKnown old (ids_touched old deed) made.ids.items

@@ -1,15 +1,14 @@
 //! Deeds that are done.
 
-ghost use Rattle.std.specs.Prelude.{◌≡◌, true, map, IfOk, OnOk, All};
+ghost use Rattle.std.specs.Prelude.{◌≡◌, ◌≢◌, ◌≤◌, true, [], map, IfOk, OnOk, All, unsigned_abs};
 ghost use Rattle.board_items.specs.Back.{kept_entry, FitsBack};
 ghost use Rattle.board_items.specs.Boards.{IsSound};
 ghost use Rattle.board_items.specs.Moves.{unit_stays};
 ghost use Rattle.board_items.specs.Walks.{unit_left};
 ghost use Rattle.part_read.specs.Ready.{AreReady};
-ghost use Rattle.edit_script.specs.Fits.{IsNear};
-ghost use Rattle.board_edits.specs.Deeds.{After, append, put_back, take_out, shift};
-ghost use Rattle.board_edits.specs.Fitting.{plain_deed, DeedFits, DeedLeadsBack, AddsNone};
-ghost use Rattle.board_edits.specs.Making.{HasBounds, ids_of, without_added, without_put, IsMade};
+ghost use Rattle.board_edits.specs.Deeds.{After, nothing, append, put_back, take_out, shift};
+ghost use Rattle.board_edits.specs.Fitting.{plain_deed, DeedFits, DeedLeadsBack, GivesNothing, AddsNone};
+ghost use Rattle.board_edits.specs.Making.{HasBounds, ids_of, without_added, without_put, shifted_back, IsMade};
 ghost use Rattle.board_edits.specs.Touched.{ids_touched, AreEdited, AreKnown};
 
 use crate::deed::Deed;
@@ -132,10 +131,24 @@ fn have_bounds(items: UnitIter<'_>)
     }
 }
 
+/// The deed that moves the unit back. `ids` are those of its items that were moved, each from one place on the board to another; where
+/// there are none, nothing is moved back.
+fn shifted_back(unit: u32, dx: Nm, dy: Nm, ids: &[u32]) -> Deed
+    requires { ids.now ≢ [] → (unsigned_abs dx ≤ 1000000000) × (unsigned_abs dy ≤ 1000000000) }
+    ensures { plain_deed result ≡ shifted_back unit dx dy ids.now }
+{
+    if ids.is_empty() {
+        return Deed::Nothing;
+    }
+    Deed::Shift {
+        unit,
+        dx: -dx,
+        dy: -dy,
+    }
+}
+
 /// Moves the unit, which stays on the board. `ids` are those of its items that move.
 fn shift(board: &mut Board, unit: u32, dx: Nm, dy: Nm, ids: Vec<u32>) -> Made
-    requires dx { IsNear dx }
-    requires dy { IsNear dy }
     requires stays { unit_stays unit dx dy board.old.items ≡ true }
     requires ids { ids.items ≡ ids_touched board.old (shift unit dx dy) }
     ensures { IsMade (shift unit dx dy) board.old board.new result }
@@ -149,14 +162,8 @@ fn shift(board: &mut Board, unit: u32, dx: Nm, dy: Nm, ids: Vec<u32>) -> Made
     let moved = board.moved(unit, dx, dy).is_ok();
     prove!(moved);
     is_sound(board);
-    Made {
-        ids,
-        back: Deed::Shift {
-            unit,
-            dx: -dx,
-            dy: -dy,
-        },
-    }
+    let back = shifted_back(unit, dx, dy, &ids);
+    Made { ids, back }
 }
 
 // ---- all deeds
@@ -183,7 +190,7 @@ fn done(alloc: Global, board: &mut Board, deed: Deed, touched: Vec<u32>) -> Resu
 }
 
 /// Does the deed to a board that takes it. `touched` are the ids that [`ids_touched`](crate::ids_touched) gives of it. Only want of
-/// memory fails it, and the board may then hold a part of what was to be added.
+/// memory fails it, and the board may then hold a part of what was to be added. A deed that gives nothing leads back by nothing.
 pub fn make(
     alloc: Global,
     board: &mut Board,
@@ -195,6 +202,7 @@ pub fn make(
     ensures after { OnOk result (After board.old (plain_deed deed) board.new) }
     ensures sound { IsSound board.old × IsSound board.new }
     ensures back { IfOk result (λ made. DeedLeadsBack (plain_deed made.back) board.new board.old × AddsNone (plain_deed made.back)) }
+    ensures none { IfOk result (λ made. GivesNothing (plain_deed deed) → plain_deed made.back ≡ nothing) }
     ensures edited { IfOk result (λ made. AreEdited board.old board.new made.ids.items) }
     ensures known { IfOk result (λ made. AreKnown board.old (ids_touched board.old (plain_deed deed)) made.ids.items) }
 {

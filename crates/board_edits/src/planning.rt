@@ -2,7 +2,7 @@
 
 ghost use Rattle.std.specs.Prelude.{◌≡◌, ◌⊎◌, ◌≤◌, length, MatchResult, IfOk, Result, Ok, Err};
 ghost use Rattle.edit_script.specs.Commands.{plain_command, add};
-ghost use Rattle.edit_script.specs.Fits.{Fits, IsNear};
+ghost use Rattle.edit_script.specs.Fits.{Fits};
 ghost use Rattle.board_edits.specs.declared.refusal.Refusal.{Refusal};
 ghost use Rattle.board_edits.specs.Deeds.{PlainDeed, Does, to_unit, take_out, shifted};
 ghost use Rattle.board_edits.specs.Fitting.{plain_deed, DeedFits};
@@ -62,8 +62,6 @@ fn taken_out(found: Found) -> Result<Deed, Refusal>
 
 /// The deed that moves the unit, where all of it stays on the board, or why there is none. `at` is the place of the command.
 fn shifted(board: &Board, found: Found, dx: Nm, dy: Nm, at: u32) -> Result<Deed, Refusal>
-    requires dx { IsNear dx }
-    requires dy { IsNear dy }
     ensures answer { plain_answer result ≡ to_unit found (shifted board.now dx dy at) }
     ensures fits { IfOk result (λ deed. DeedFits board.now (plain_deed deed)) }
 {

@@ -72,9 +72,9 @@ last_case : (m i : ℕ) → m < i + 1 → (m < i) ⊎ (m ≡ i)
 last_case m i k = grind arith
 
 module _ (nets touched : List ℕ) (place : ℕ) (works : List Work) (r : AreWorksUpTo nets touched place works) where
-  pub work_more : (work : Work) → work.place ≡ place → work.net ≡ get_or nets place 0 → AreWorksUpTo nets touched (place + 1) (works ++ work ∷ [])
-  work_more work e f = record {
-    only = All-push (λ w. (w.place < place + 1) × (w.net ≡ get_or nets w.place 0)) works work (All-weaker (λ w. (w.place < place) × (w.net ≡ get_or nets w.place 0)) (λ w. (w.place < place + 1) × (w.net ≡ get_or nets w.place 0)) (λ w h. (omega (arith, h.0), h.1)) works r.only) (omega arith, f ∙ ap (λ n. get_or nets n 0) (sym e));
+  pub work_more : (work : Work) → work.place ≡ place → work.net ≡ get_or nets place 0 → is_one_of touched work.net ≡ true → AreWorksUpTo nets touched (place + 1) (works ++ work ∷ [])
+  work_more work e f own = record {
+    only = All-push (λ w. (w.place < place + 1) × (w.net ≡ get_or nets w.place 0) × (is_one_of touched w.net ≡ true)) works work (All-weaker (λ w. (w.place < place) × (w.net ≡ get_or nets w.place 0) × (is_one_of touched w.net ≡ true)) (λ w. (w.place < place + 1) × (w.net ≡ get_or nets w.place 0) × (is_one_of touched w.net ≡ true)) (λ w h. (omega (arith, h.0), h.1, h.2)) works r.only) (omega arith, f ∙ ap (λ n. get_or nets n 0) (sym e), own);
     all = λ k lt among. by_place k among (last_case k place lt);
   }
     where
@@ -84,7 +84,7 @@ module _ (nets touched : List ℕ) (place : ℕ) (works : List Work) (r : AreWor
 
   pub work_none : ¬ (is_one_of touched (get_or nets place 0) ≡ true) → AreWorksUpTo nets touched (place + 1) works
   work_none free = record {
-    only = All-weaker (λ w. (w.place < place) × (w.net ≡ get_or nets w.place 0)) (λ w. (w.place < place + 1) × (w.net ≡ get_or nets w.place 0)) (λ w h. (omega (arith, h.0), h.1)) works r.only;
+    only = All-weaker (λ w. (w.place < place) × (w.net ≡ get_or nets w.place 0) × (is_one_of touched w.net ≡ true)) (λ w. (w.place < place + 1) × (w.net ≡ get_or nets w.place 0) × (is_one_of touched w.net ≡ true)) (λ w h. (omega (arith, h.0), h.1, h.2)) works r.only;
     all = λ k lt among. by_place k among (last_case k place lt);
   }
     where

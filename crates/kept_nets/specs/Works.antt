@@ -28,7 +28,7 @@ IsDue works place = Any (λ work. work.place ≡ place) works
 
 -- a work for each of the first nets that is touched, and for no other
 pub record AreWorksUpTo (nets touched : List ℕ) (count : ℕ) (works : List Work) : Type 0 where
-  pub only : All (λ work. (work.place < count) × (work.net ≡ slice_index_or nets work.place 0)) works
+  pub only : All (λ work. (work.place < count) × (work.net ≡ slice_index_or nets work.place 0) × (is_one_of touched work.net ≡ true)) works
   pub all : (k : ℕ) → k < count → is_one_of touched (slice_index_or nets k 0) ≡ true → IsDue works k
 
 -- each part is that of its net, or one of the works brings it

@@ -17,6 +17,6 @@ loop-place-preserved c =
     let own : c.part.inside.net ≡ get_or nets at.place 0 = ap (λ (p : PlainNetPart). p.net) (c.part.view_is ∙ is) ∙ sym (number_at c.args.parts.now at.place _ below) in
     let its : c.index-parts-place.result.net ≡ get_or nets at.place 0 = ap (λ (p : PlainNetPart). p.net) is ∙ sym (number_at c.args.parts.now at.place _ below) in
     elim c.if-is_touched.branch [
-      | then-is_touched+in_ok-push w ↦ subst (AreWorksUpTo nets touched (at.place + 1)) (sym (ap (λ v. v.items) w.works-is ∙ w.in_ok-push.ensures.items)) (work_more nets touched at.place at.works.items at.invariant _ refl own)
+      | then-is_touched+in_ok-push w ↦ subst (AreWorksUpTo nets touched (at.place + 1)) (sym (ap (λ v. v.items) w.works-is ∙ w.in_ok-push.ensures.items)) (work_more nets touched at.place at.works.items at.invariant _ refl own (ap (λ (p : PlainNetPart). is_one_of touched p.net) c.part.view_is ∙ sym w.if-is_touched.ensures))
       | else-is_touched w ↦ subst (AreWorksUpTo nets touched (at.place + 1)) (sym (ap (λ v. v.items) w.works-is)) (work_none nets touched at.place at.works.items at.invariant (λ h. true≢false (sym (ap (is_one_of touched) its ∙ h) ∙ sym w.if-is_touched.ensures)))
     ]
