@@ -1,18 +1,84 @@
 //! The check of a nest: by the definition, all links in order, each kept where no chain of smaller ones joins its ends.
-//! Nothing of it stands in the search that grows the nest but reading an anchor, measuring a link and giving each group a label.
+//! It shares no function with the search for the nest: it reads anchors, measures links and labels groups by functions of its own.
 
-ghost use Rattle.std.specs.Prelude.{◌≡◌, ◌<◌, ◌^◌, ◌↔◌, ℕ, IsTrue, length, OnOk, slice_index, IfOk, [], if◌then◌else◌, ◌==◌};
+ghost use Rattle.std.specs.Prelude.{◌≡◌, ◌<◌, ◌≤◌, ◌^◌, ◌*◌, ◌↔◌, ◌-ℤ◌, ℕ, IsTrue, length, OnOk, slice_index, slice_index_or, unsigned_abs, IfOk, [], if◌then◌else◌, ◌==◌};
 ghost use Rattle.ratsnest.specs.declared.link.Link.{Link};
-ghost use Rattle.ratsnest.specs.NestOf.{AnchorsRise, IsNest, IsLink};
-ghost use Rattle.ratsnest.specs.Grow.{rank, AreAllLinks, AreOwnLabels};
+ghost use Rattle.ratsnest.specs.NestOf.{AnchorsRise, IsNest, IsLink, group_at, group_count, square_between};
+ghost use Rattle.ratsnest.specs.Grow.{rank, link_at, AreAllLinks, AreOwnLabels};
 ghost use Rattle.ratsnest.specs.Mem.{Mem, Climbs};
+ghost use Rattle.ratsnest.specs.Reach.{IsInReach};
 
 use crate::anchor::Anchor;
-use crate::labels::own_labels;
 use crate::link::Link;
 use crate::links::Nest;
-use crate::places::{count_groups, group_of, link_of};
 use std::alloc::{AllocError, Global};
+
+#[tactic(auto, unfolding(crate::specs::NestOf::group_at))]
+fn group_of(anchors: &[Anchor], i: usize) -> u32
+    requires { i < length anchors.now }
+    ensures { result ≡ group_at anchors.now i }
+{
+    anchors[i].group
+}
+
+/// How many groups there are.
+#[tactic(auto, unfolding(crate::specs::NestOf::group_count))]
+fn count_groups(anchors: &[Anchor]) -> usize
+    ensures { result ≡ group_count anchors.now }
+{
+    let mut count = 0;
+    for anchor in anchors {
+        count = count.max(anchor.group as usize + 1);
+    }
+    count
+}
+
+/// Each group has a label of its own.
+fn own_labels(alloc: Global, count: usize) -> Result<Vec<usize>, AllocError>
+    ensures count { IfOk result (λ v. length v.items ≡ count) }
+    ensures own { IfOk result (λ v. (g : ℕ) → g < length v.items → slice_index_or v.items g 0 ≡ g) }
+{
+    let mut labels = Vec::new(alloc);
+    for g in 0..count {
+        labels.push(g)?;
+    }
+    Ok(labels)
+}
+
+/// The square of how far two coordinates are apart.
+fn square_apart(a: i64, b: i64) -> u64
+    requires a { IsInReach a }
+    requires b { IsInReach b }
+    ensures value { result ≡ unsigned_abs (a -ℤ b) * unsigned_abs (a -ℤ b) }
+    ensures bound { result ≤ 1000000000000000000 }
+{
+    let apart = a.abs_diff(b);
+    apart * apart
+}
+
+#[tactic(auto, unfolding(crate::specs::NestOf::square_between))]
+fn square_at(anchors: &[Anchor], i: usize, j: usize) -> u64
+    requires i { i < length anchors.now }
+    requires j { j < length anchors.now }
+    ensures { result ≡ square_between anchors.now i j }
+{
+    square_apart(anchors[i].x, anchors[j].x) + square_apart(anchors[i].y, anchors[j].y)
+}
+
+/// The link of two anchors, of which the first stands before the second.
+#[tactic(auto, unfolding(crate::specs::Grow::link_at))]
+fn link_of(anchors: &[Anchor], i: usize, j: usize) -> Link
+    requires few { length anchors.now < 2 ^ 32 }
+    requires in_order { i < j }
+    requires within { j < length anchors.now }
+    ensures { result ≡ link_at anchors.now i j }
+{
+    Link {
+        square: square_at(anchors, i, j),
+        first: i as u32,
+        second: j as u32,
+    }
+}
 
 /// All links, the shorter second place first.
 fn all_links(alloc: Global, anchors: &[Anchor]) -> Result<Vec<Link>, AllocError>
