@@ -34,10 +34,10 @@ module _ (stance : Stance) (spot : Spot) (t : ℤ × ℤ) (at : IsWithin 3000000
       given ∙ ap (λ (z : ℤ). turned z (passed spot.y) stance.quarter) (passed_is spot.x (let h = near.x in omega (arith, h)))
       ∙ ap (λ (z : ℤ). turned spot.x z stance.quarter) (passed_is spot.y (let h = near.y in omega (arith, h)))
 
-  in_x : unsigned_abs t.0 ≤ 1000000000000
+  pub in_x : unsigned_abs t.0 ≤ 1000000000000
   in_x = subst (λ (p : ℤ × ℤ). unsigned_abs p.0 ≤ 1000000000000) (sym e) (turned_within spot.x spot.y stance.quarter _ near.x near.y).0
 
-  in_y : unsigned_abs t.1 ≤ 1000000000000
+  pub in_y : unsigned_abs t.1 ≤ 1000000000000
   in_y = subst (λ (p : ℤ × ℤ). unsigned_abs p.1 ≤ 1000000000000) (sym e) (turned_within spot.x spot.y stance.quarter _ near.x near.y).1
 
   pub stand_is : (let s : Spot = record { x = passed (passed stance.at.x +ℤ passed t.0); y = passed (passed stance.at.y +ℤ passed t.1) } in s) ≡ stood stance spot
