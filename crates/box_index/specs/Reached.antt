@@ -1,5 +1,5 @@
 -- The ids of entries whose boxes meet a box.
-use Rattle.std.specs.Prelude.{◌≡◌, ◌⊎◌, ℕ, List, Contains}
+use Rattle.std.specs.Prelude.{◌≡◌, ◌⊎◌, ℕ, List, Contains, length, take}
 use Rattle.std.specs.List.Sorted.{IsStrictlyIncreasing}
 use Rattle.geo_seg.specs.declared.boxes.Bounds.{Bounds}
 use Rattle.geo_seg.specs.Boxes.{BoxesMeet}
@@ -17,6 +17,10 @@ pub record HasReached (box : Bounds) (entries : List Entry) (old new : List ℕ)
   pub kept : (id : ℕ) → Contains old id → Contains new id
   pub met : (entry : Entry) → Contains entries entry → BoxesMeet box entry.bounds → Contains new entry.id
   pub only : (id : ℕ) → Contains new id → Contains old id ⊎ IsMet box entries id
+
+-- the list begins with what was there
+abbrev pub BeginsWith : List ℕ → List ℕ → Type 0
+BeginsWith old new = take (length old) new ≡ old
 
 -- the ids in order, each once
 pub record AreSorted (old new : List ℕ) : Type 0 where

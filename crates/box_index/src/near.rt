@@ -3,7 +3,7 @@
 ghost use Rattle.std.specs.Prelude.{pos, OnOk};
 ghost use Rattle.geo_seg.specs.Boxes.{FitsWithin};
 ghost use Rattle.box_index.specs.Tiles.{near_of};
-ghost use Rattle.box_index.specs.Reached.{HasReached, AreSorted};
+ghost use Rattle.box_index.specs.Reached.{BeginsWith, HasReached, AreSorted};
 
 use crate::boxes::do_boxes_meet;
 use crate::index::TileIndex;
@@ -17,7 +17,8 @@ fn push_tile(
     bounds: Bounds,
     ids: &mut Vec<u32>,
 ) -> Result<(), AllocError>
-    ensures { OnOk result (HasReached bounds (near_of index.now tile) ids.old.items ids.new.items) }
+    ensures reached { OnOk result (HasReached bounds (near_of index.now tile) ids.old.items ids.new.items) }
+    ensures front { BeginsWith ids.old.items ids.new.items }
 {
     for entry in index.near(tile) {
         if do_boxes_meet(bounds, entry.bounds) {
@@ -28,14 +29,16 @@ fn push_tile(
 }
 
 /// Appends the ids of all entries whose boxes meet this one, also by touching; the reach is of no matter. An id comes once for
-/// each tile that both meet: `put_in_order` leaves each once. Only want of memory fails it, and some ids are then missing.
+/// each tile that both meet: `put_in_order` leaves each once. Only want of memory fails it, and some ids are then missing. What was
+/// in the list stays at its front, also then.
 pub fn push_ids_near(
     index: &TileIndex,
     bounds: Bounds,
     ids: &mut Vec<u32>,
 ) -> Result<(), AllocError>
     requires { FitsWithin (pos 2000000000) bounds }
-    ensures { OnOk result (HasReached bounds index.now.entries ids.old.items ids.new.items) }
+    ensures reached { OnOk result (HasReached bounds index.now.entries ids.old.items ids.new.items) }
+    ensures front { BeginsWith ids.old.items ids.new.items }
 {
     let area = index.area(bounds);
     let end = area.end();

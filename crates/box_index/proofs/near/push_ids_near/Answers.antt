@@ -1,13 +1,17 @@
 use Rattle.std.proofs.Common.{arith}
+use Rattle.box_index.proofs.Fronts.{front_then}
 use Rattle.box_index.proofs.Reaching.{walk_more, walk_done}
 use Rattle.box_index.proofs.near.push_ids_near.Goals as goal
 
 pub tiles-preserved : goal.tiles-preserved
-tiles-preserved c =
-    walk_more c.args.index.now c.area-area.result c.args.bounds c.args.ids.now.items c.tiles.ids.items c.push_tile.new.ids.items c.tiles.tile c.tiles.invariant c.in_ok-push_tile.ensures
-    c.after-tile.result c.after-tile.ensures.rises c.after-tile.ensures.none_between c.after-tile.ensures.inside
+tiles-preserved c = record {
+  walked =
+      walk_more c.args.index.now c.area-area.result c.args.bounds c.args.ids.now.items c.tiles.ids.items c.push_tile.new.ids.items c.tiles.tile c.tiles.invariant.walked c.in_ok-push_tile.ensures.reached
+      c.after-tile.result c.after-tile.ensures.rises c.after-tile.ensures.none_between c.after-tile.ensures.inside;
+  front = front_then c.args.ids.now.items c.tiles.ids.items c.push_tile.new.ids.items c.tiles.invariant.front c.push_tile.ensures.front;
+}
 
-pub returns : goal.returns
-returns c =
-    walk_done c.args.index.now c.area-area.result c.args.bounds c.args.ids.now.items c.tiles.ids.items c.tiles.tile c.tiles.invariant c.area-area.ensures.sound c.requires c.area-area.ensures.tiles
+pub returns-clause-reached : goal.returns-clause-reached
+returns-clause-reached c =
+    walk_done c.args.index.now c.area-area.result c.args.bounds c.args.ids.now.items c.tiles.ids.items c.tiles.tile c.tiles.invariant.walked c.area-area.ensures.sound c.requires c.area-area.ensures.tiles
     (λ tile past. c.end-end.ensures.none_after tile (omega arith))
