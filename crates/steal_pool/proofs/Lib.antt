@@ -5,4 +5,5 @@ pub mod Related
 pub mod Parts
 pub mod Passes
 pub mod Workers
+pub mod Turns
 pub mod LastHand

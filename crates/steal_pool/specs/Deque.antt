@@ -12,24 +12,30 @@ hand parts limit put taken = record { parts = parts; limit = limit; put = put; t
 abbrev pub IsIdle : Hand → Type 0
 IsIdle v = v.parts ≡ 0 → (v.put ≡ []) × (v.taken ≡ [])
 
+-- how often a number was pushed
+abbrev pub pushed : ℕ → List Hand → ℕ
+pushed x views = sum_by (λ (v : Hand). times x v.put) views
+
 -- a pass with a part knows a number above all that were pushed
-abbrev pub IsAbove : List ℕ → Hand → Type 0
-IsAbove items v = 0 < v.parts → All (λ x. x < v.limit) items
+abbrev pub IsAbove : List Hand → Hand → Type 0
+IsAbove views v = 0 < v.parts → (x : ℕ) → v.limit ≤ x → pushed x views ≡ 0
 
 pub record Balanced (items : List ℕ) (views : List Hand) : Type 0 where
   -- each of 1024 parts is one pass's
   pub parts : sum_by (λ (v : Hand). v.parts) views ≡ 1024
   -- what was pushed was taken or is there, however numbers are weighed
   pub same : (h : ℕ → ℕ) → sum_by (λ (v : Hand). sum_by h v.put) views ≡ sum_by (λ (v : Hand). sum_by h v.taken) views + sum_by h items
+  -- no number was pushed twice
+  pub once : (x : ℕ) → pushed x views ≤ 1
   pub idle : (port : ℕ) (v : Hand) → get_elem? views port ≡ some v → IsIdle v
-  pub above : (port : ℕ) (v : Hand) → get_elem? views port ≡ some v → IsAbove items v
+  pub above : (port : ℕ) (v : Hand) → get_elem? views port ≡ some v → IsAbove views v
 
 -- ---- the kinds of step
 
 -- the owner, while it has every part, pushes a number above all that were pushed
 abbrev pub Put : Hand → List ℕ → Hand → Type 0
 Put v [] w = w ≡ v
-Put v (x ∷ xs) w = w ≡ hand v.parts (x + 1) (v.put ++ x ∷ xs) v.taken
+Put v (x ∷ xs) w = (v.parts ≡ 1024) × (v.limit ≤ x) × Put (hand v.parts (x + 1) (v.put ++ x ∷ []) v.taken) xs w
 
 -- numbers taken are below the limit. Who has every part knows that no more was taken than pushed
 abbrev pub Took : Hand → List ℕ → Hand → Type 0
@@ -48,6 +54,6 @@ both v w = hand (v.parts + w.parts) v.limit (v.put ++ w.put) (v.taken ++ w.taken
 
 -- ---- what the rule says
 
--- each number stands in the deque and among what was taken as often as it was pushed
+-- each number that was pushed stands once, in the deque or among what was taken, and no other stands there
 abbrev pub KeepsEach : Type 0
-KeepsEach = (items : List ℕ) (views : List Hand) → Balanced items views → (x : ℕ) → sum_by (λ (v : Hand). times x v.taken) views + times x items ≡ sum_by (λ (v : Hand). times x v.put) views
+KeepsEach = (items : List ℕ) (views : List Hand) → Balanced items views → (x : ℕ) → (sum_by (λ (v : Hand). times x v.taken) views + times x items ≡ pushed x views) × (pushed x views ≤ 1)

@@ -1,5 +1,6 @@
 -- What is known of all deques, of the owners of them, and of the passes that seats have.
-use Rattle.std.specs.Prelude.{◌≡◌, ℕ, ◌<◌, ◌≤◌, List, [], length, sum_by, slice_index_or}
+use Rattle.std.specs.Prelude.{◌≡◌, ℕ, ◌<◌, ◌≤◌, ◌%◌, List, [], length, filter, nat_eq, sum_by, slice_index_or}
+use Rattle.std.specs.List.{range_with_len}
 use Rattle.crossbeam_deque.specs.Handles.{view, IsPassOf, stealer_deque, stealer_flavor, worker_deque, worker_flavor, worker_view}
 use Rattle.crossbeam_deque.specs.declared.handles.Stealer.{Stealer}
 use Rattle.crossbeam_deque.specs.declared.handles.Worker.{Worker}
@@ -25,6 +26,22 @@ module _ {P : Type 0} (tiles : ℕ) where
   -- the passes of the first deques
   abbrev pub AreFirstLines : List (Stealer ℕ Global Hand P) → List Line → Type 0
   AreFirstLines others lines = (length lines ≤ length others) × ((k : ℕ) (s : Stealer ℕ Global Hand P) (l : Line) → k < length lines → IsLine (slice_index_or others k s) (slice_index_or lines k l))
+
+-- the numbers that an owner pushed, in its order
+abbrev pub put_by : {P : Type 0} → Worker ℕ Global Hand P → List ℕ
+put_by {P} o = let v : Hand = worker_view o in v.put
+
+-- the numbers below the count that leave w over when they are divided by the number of workers, rising
+abbrev pub turns_of : ℕ → ℕ → ℕ → List ℕ
+turns_of workers w count = filter (λ n. nat_eq (n % workers) w) (range_with_len 0 count)
+
+-- of the numbers below the count each worker was given those of its turns, and no others
+abbrev pub AreGiven : {P : Type 0} → ℕ → List (Worker ℕ Global Hand P) → Type 0
+AreGiven {P} count owners = (w : ℕ) (o : Worker ℕ Global Hand P) → w < length owners → put_by (slice_index_or owners w o) ≡ turns_of (length owners) w count
+
+-- each owner has pushed what it had pushed before
+abbrev pub PutAlike : {P : Type 0} → List (Worker ℕ Global Hand P) → List (Worker ℕ Global Hand P) → Type 0
+PutAlike {P} old new = (k : ℕ) (a b : Worker ℕ Global Hand P) → k < length new → put_by (slice_index_or new k b) ≡ put_by (slice_index_or old k a)
 
 -- what was pushed by an owner, and what it took, weighed
 abbrev pub put_of : {P : Type 0} → (ℕ → ℕ) → Worker ℕ Global Hand P → ℕ

@@ -3,7 +3,7 @@
 ghost use Rattle.std.specs.Prelude.{◌≡◌, ℕ, ◌+◌, ◌-◌, ◌<◌, ◌≤◌, [], false, length, map, sum_by, All, IfOk};
 ghost use Rattle.tile_pool.specs.Answers.{AreBatches};
 ghost use Rattle.steal_pool.specs.Members.{IsReady, HaveRun};
-ghost use Rattle.steal_pool.specs.Seats.{AreOwners, AreLines, AreUnused, pushed_by, taken_by, taken_with};
+ghost use Rattle.steal_pool.specs.Seats.{AreOwners, AreLines, AreUnused, AreGiven, pushed_by, taken_by, taken_with};
 
 use crate::job::Job;
 use crate::member::{Member, run_all};
@@ -122,6 +122,7 @@ pub(crate) fn run_crew<R: Threads + Sync, T: TileWork, G: Gate>(
     requires count { job.now.tiles ≤ T.count job.now.work.now }
     requires workers { (0 < length owners.items) × (length owners.items ≤ 64) }
     requires owners { AreOwners job.now.tiles (1024 - length owners.items) job.now.others.now owners.items × ((h : ℕ → ℕ) → taken_by h owners.items ≡ 0) }
+    requires given { AreGiven job.now.tiles owners.items }
     requires lines { (length all.items ≡ length owners.items) × All (λ v. AreUnused job.now.tiles job.now.others.now v.items) all.items }
     ensures owners { IfOk result (λ left. AreOwners job.now.tiles (1024 - length owners.items) job.now.others.now left.owners.items × ((h : ℕ → ℕ) → pushed_by h left.owners.items ≡ pushed_by h owners.items)) }
     ensures lines { IfOk result (λ left. (length left.all.items ≡ length owners.items) × All (λ v. AreLines job.now.tiles job.now.others.now v.items) left.all.items) }

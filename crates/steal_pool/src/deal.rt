@@ -3,7 +3,7 @@
 ghost use Rattle.std.specs.Prelude.{◌≡◌, ℕ, ◌+◌, ◌-◌, ◌<◌, ◌≤◌, length, sum_by, All, IfOk};
 ghost use Rattle.std.specs.Vec.{vec_len};
 ghost use Rattle.claim_board.specs.DealMachine.{sum_below};
-ghost use Rattle.steal_pool.specs.Seats.{AreOwners, AreLines, AreUnused, pushed_by, taken_by, taken_with};
+ghost use Rattle.steal_pool.specs.Seats.{AreOwners, AreLines, AreUnused, AreGiven, PutAlike, pushed_by, taken_by, taken_with};
 
 use crate::rule::{Line, Other, Own, Puts, Share};
 use std::alloc::{AllocError, Global};
@@ -34,6 +34,7 @@ pub(crate) fn give_out(others: &[Other], owners: &mut [Own], tiles: u32) -> Resu
     requires owners { AreOwners 0 1024 others.now owners.old }
     requires fresh { (h : ℕ → ℕ) → (pushed_by h owners.old ≡ 0) × (taken_by h owners.old ≡ 0) }
     ensures owners { IfOk result (λ _. AreOwners tiles 1024 others.now owners.new) }
+    ensures given { IfOk result (λ _. AreGiven tiles owners.new) }
     ensures pushed { IfOk result (λ _. (h : ℕ → ℕ) → (pushed_by h owners.new ≡ sum_below h tiles) × (taken_by h owners.new ≡ 0)) }
 {
     for number in 0..tiles {
@@ -57,6 +58,7 @@ pub(crate) fn lines_of(
     requires parts { 0 < parts }
     requires owners { AreOwners tiles (parts + 1) others.now owners.old }
     ensures owners { IfOk result (λ _. AreOwners tiles parts others.now owners.new) }
+    ensures alike { IfOk result (λ _. PutAlike owners.old owners.new) }
     ensures same { IfOk result (λ _. (h : ℕ → ℕ) → (pushed_by h owners.new ≡ pushed_by h owners.old) × (taken_by h owners.new ≡ taken_by h owners.old)) }
     ensures lines { IfOk result (λ lines. AreLines tiles others.now lines.items × ((h : ℕ → ℕ) → taken_with h lines.items ≡ 0)) }
 {
@@ -99,6 +101,7 @@ fn all_lines(
     requires workers { workers ≤ 64 }
     requires owners { AreOwners tiles 1024 others.now owners.old }
     ensures owners { IfOk result (λ _. AreOwners tiles (1024 - workers) others.now owners.new) }
+    ensures alike { IfOk result (λ _. PutAlike owners.old owners.new) }
     ensures same { IfOk result (λ _. (h : ℕ → ℕ) → (pushed_by h owners.new ≡ pushed_by h owners.old) × (taken_by h owners.new ≡ taken_by h owners.old)) }
     ensures lines { IfOk result (λ all. (length all.items ≡ workers) × All (λ v. AreUnused tiles others.now v.items) all.items) }
 {
@@ -136,6 +139,7 @@ pub(crate) struct Dealing {
 pub(crate) fn deal_out(alloc: Global, workers: u32, tiles: u32) -> Result<Dealing, AllocError>
     requires workers { (0 < workers) × (workers ≤ 64) }
     ensures owners { IfOk result (λ dealing. AreOwners tiles (1024 - workers) dealing.others.items dealing.owners.items × (length dealing.owners.items ≡ workers)) }
+    ensures given { IfOk result (λ dealing. AreGiven tiles dealing.owners.items) }
     ensures pushed { IfOk result (λ dealing. (h : ℕ → ℕ) → (pushed_by h dealing.owners.items ≡ sum_below h tiles) × (taken_by h dealing.owners.items ≡ 0)) }
     ensures lines { IfOk result (λ dealing. (length dealing.all.items ≡ workers) × All (λ v. AreUnused tiles dealing.others.items v.items) dealing.all.items) }
 {

@@ -4,7 +4,7 @@ ghost use Rattle.std.specs.Prelude.{◌≡◌, ℕ, ◌+◌, ◌-◌, ◌<◌, �
 ghost use Rattle.std.specs.Vec.{vec_len};
 ghost use Rattle.claim_board.specs.DealMachine.{sum_below, times, once_below};
 ghost use Rattle.tile_pool.specs.Answers.{AreAnswers, AreBatches, AreFull};
-ghost use Rattle.steal_pool.specs.Seats.{AreOwners, AreUnused, pushed_by, taken_by};
+ghost use Rattle.steal_pool.specs.Seats.{AreOwners, AreUnused, AreGiven, pushed_by, taken_by};
 ghost use Rattle.steal_pool.specs.Views.{stolen_tiles, stolen_hands};
 
 use crate::crew::run_crew;
@@ -29,6 +29,7 @@ fn run_seats<R: Threads + Sync, T: TileWork, G: Gate>(
     requires count { job.now.tiles ≤ T.count job.now.work.now }
     requires workers { (0 < length owners.items) × (length owners.items ≤ 64) }
     requires owners { AreOwners job.now.tiles (1024 - length owners.items) job.now.others.now owners.items × ((h : ℕ → ℕ) → (pushed_by h owners.items ≡ sum_below h job.now.tiles) × (taken_by h owners.items ≡ 0)) }
+    requires given { AreGiven job.now.tiles owners.items }
     requires lines { (length all.items ≡ length owners.items) × All (λ v. AreUnused job.now.tiles job.now.others.now v.items) all.items }
     ensures once { IfOk result (λ taken. (x : ℕ) → sum_by (times x) (map (λ v. v.items) taken.hands.items) ≡ once_below x job.now.tiles) }
     ensures values { IfOk result (λ taken. taken.failed ≡ false → AreBatches (T.gives job.now.work.now) (map (λ v. v.items) taken.hands.items) taken.batches.items) }

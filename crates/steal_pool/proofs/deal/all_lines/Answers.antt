@@ -1,8 +1,19 @@
-use Rattle.std.proofs.Common.{rules, ◌≡◌, ℕ, ◌+◌, ◌-◌, ◌<◌, ◌++◌, ◌∷◌, [], All, Vec, Global, length, sym, ap, ◌∙◌, subst, arith, length-append}
+use Rattle.std.proofs.Common.{rules, ◌≡◌, ℕ, ◌+◌, ◌-◌, ◌<◌, ◌++◌, ◌∷◌, [], All, Vec, Global, length, refl, sym, ap, ◌∙◌, subst, arith, length-append}
 use Rattle.steal_pool.specs.declared.rule.Line.{Line}
 use Rattle.steal_pool.specs.Seats.{AreOwners, AreLines, taken_with}
 use Rattle.steal_pool.proofs.Related.{all_push}
+use Rattle.steal_pool.proofs.Turns.{alike_start, alike_twice}
 use Rattle.steal_pool.proofs.deal.all_lines.Goals as goal
+
+pub loop-seat-init : goal.loop-seat-init
+loop-seat-init c = (
+  c.requires.owners,
+  λ h. (refl, refl),
+  ap length c.in_ok-all.ensures.items,
+  λ k d l. absurd (omega (arith, l, ap length c.in_ok-all.ensures.items)),
+  omega (arith, c.in_ok-all.ensures.capacity),
+  alike_start c.args.owners.now,
+)
 
 pub lines_of-requires-clause-owners : goal.lines_of-requires-clause-owners
 lines_of-requires-clause-owners c =
@@ -23,6 +34,7 @@ loop-seat-preserved c =
       omega (arith, ap length pushed, length-append all (lines ∷ []), inv.2),
       subst (All (λ (v : Vec Line Global). AreLines c.args.tiles c.args.others.now v.items × ((h : ℕ → ℕ) → taken_with h v.items ≡ 0))) (sym pushed) (all_push (λ (v : Vec Line Global). AreLines c.args.tiles c.args.others.now v.items × ((h : ℕ → ℕ) → taken_with h v.items ≡ 0)) all lines inv.3 of.lines),
       omega (arith, c.push_reserved.ensures.capacity, inv.4),
+      alike_twice c.args.owners.now c.loop-seat.owners c.lines_of.new.owners c.lines_of.auto.owners inv.5 of.alike,
     )
 
 pub returns-clause-owners : goal.returns-clause-owners

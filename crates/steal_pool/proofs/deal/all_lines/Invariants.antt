@@ -1,5 +1,5 @@
 use Rattle.std.proofs.Common.{◌≡◌, ℕ, ◌-◌, ◌≤◌, length, All, vec_capacity}
-use Rattle.steal_pool.specs.Seats.{AreOwners, AreUnused, pushed_by, taken_by}
+use Rattle.steal_pool.specs.Seats.{AreOwners, AreUnused, PutAlike, pushed_by, taken_by}
 use Rattle.steal_pool.proofs.deal.all_lines.Given as goal
 
 abbrev pub invariant-loop-seat : goal.invariant-loop-seat
@@ -9,3 +9,4 @@ invariant-loop-seat l =
     × (length l.all.items ≡ l.seat)
     × All (λ v. AreUnused l.tiles l.others v.items) l.all.items
     × (l.workers ≤ vec_capacity l.all)
+    × PutAlike l.initial.owners l.owners

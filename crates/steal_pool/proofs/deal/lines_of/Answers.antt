@@ -8,6 +8,7 @@ use Rattle.steal_pool.specs.Seats.{IsOwner, IsLine, put_of, taken_of, taken_thro
 use Rattle.steal_pool.proofs.Moves.{forks}
 use Rattle.steal_pool.proofs.Parts.{past, past_below, past_from, past_next}
 use Rattle.steal_pool.proofs.Related.{entry_at, each_set, each_next, sum_set_or}
+use Rattle.steal_pool.proofs.Turns.{alike_start, alike_set}
 use Rattle.steal_pool.proofs.deal.lines_of.Goals as goal
 
 pub loop-at-init : goal.loop-at-init
@@ -18,6 +19,7 @@ loop-at-init c = (
   ap length c.in_ok-lines.ensures.items,
   omega (arith, c.in_ok-lines.ensures.capacity),
   λ h. ap (taken_with h) c.in_ok-lines.ensures.items,
+  alike_start c.args.owners.now,
 )
 
 pub another-ticket-requires : goal.another-ticket-requires
@@ -79,6 +81,7 @@ loop-at-preserved c =
       omega (arith, ap length pushed, length-append lines (line ∷ []), inv.3),
       omega (arith, c.push_reserved.ensures.capacity, inv.4),
       λ h. ap (taken_with h) pushed ∙ sum_by_push (taken_through h) lines line ∙ omega (arith, inv.5 h, ap (λ (v : Hand). sum_by h v.taken) rule.1),
+      alike_set c.args.owners.now owners at new d inv.6 l' (ap (λ (v : Hand). v.put) rule.0),
     )
 
 pub returns-clause-owners : goal.returns-clause-owners

@@ -1,5 +1,5 @@
 use Rattle.std.proofs.Common.{◌≡◌, ℕ, ◌+◌, ◌<◌, ◌≤◌, length, vec_capacity, slice_index_or, if◌then◌else◌, nat_lt}
-use Rattle.steal_pool.specs.Seats.{IsOwner, AreFirstLines, pushed_by, taken_by, taken_with}
+use Rattle.steal_pool.specs.Seats.{IsOwner, AreFirstLines, PutAlike, pushed_by, taken_by, taken_with}
 use Rattle.steal_pool.proofs.deal.lines_of.Given as goal
 
 abbrev pub invariant-loop-at : goal.invariant-loop-at
@@ -10,3 +10,4 @@ invariant-loop-at l =
     × (length l.lines.items ≡ l.at)
     × (length l.others ≤ vec_capacity l.lines)
     × ((h : ℕ → ℕ) → taken_with h l.lines.items ≡ 0)
+    × PutAlike l.initial.owners l.owners

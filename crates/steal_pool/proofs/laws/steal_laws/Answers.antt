@@ -6,4 +6,4 @@ pub returns-clause-machine : goal.returns-clause-machine
 returns-clause-machine c = loses_none
 
 pub returns-clause-deque : goal.returns-clause-deque
-returns-clause-deque c items views b x = sym (b.same (λ y. if nat_eq y x then 1 else 0))
+returns-clause-deque c items views b x = (sym (b.same (λ y. if nat_eq y x then 1 else 0)), b.once x)
