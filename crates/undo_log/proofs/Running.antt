@@ -26,16 +26,16 @@ module _ (was is : PlainSession) (back back_now on on_now : List PlainChange) (a
   pub edit_goes_on : (command : PlainCommand) → IsCarriedOut was is command applied → IsNoted was.state is.state command back back_now on on_now → IsRunning was back on → IsRunning is back_now on_now
   edit_goes_on command carried noted running =
       still_running (plain was back on false) (plain is back_now on_now false) (edit command) applied
-      (edit_taken (plain was back on false) (plain is back_now on_now false) command applied carried noted refl refl) carried.running.1 running
+      (edit_taken (plain was back on false) (plain is back_now on_now false) command applied carried noted refl refl (running.past, running.ways)) carried.running.1 running
 
   pub undo_goes_on : ((s t : State) (change other : PlainChange) (back on : List PlainChange) (past : Past) → AreWays s (change ∷ back) on past → Makes change s t → Leads other t (record { state = s; replaced = is_replace change })
       → (next : Past) × (undone past ≡ Ok next) × AreWays t back (other ∷ on) next) → IsSwitched was is back back_now on on_now applied → IsRunning was back on → IsRunning is back_now on_now
   undo_goes_on one_undo switched running =
       still_running (plain was back on false) (plain is back_now on_now false) (undo 0) applied
-      (undo_taken (plain was back on false) (plain is back_now on_now false) applied one_undo switched refl refl 0) switched.turned.running running
+      (undo_taken (plain was back on false) (plain is back_now on_now false) applied one_undo switched refl refl (running.past, running.ways) 0) switched.turned.running running
 
   pub redo_goes_on : ((s t : State) (change other : PlainChange) (back on : List PlainChange) (past : Past) → AreWays s back (change ∷ on) past → Makes change s t → Leads other t (record { state = s; replaced = is_replace change })
       → (next : Past) × (redone past ≡ Ok next) × AreWays t (other ∷ back) on next) → IsSwitched was is on on_now back back_now applied → IsRunning was back on → IsRunning is back_now on_now
   redo_goes_on one_redo switched running =
       still_running (plain was back on false) (plain is back_now on_now false) (redo 0) applied
-      (redo_taken (plain was back on false) (plain is back_now on_now false) applied one_redo switched refl refl 0) switched.turned.running running
+      (redo_taken (plain was back on false) (plain is back_now on_now false) applied one_redo switched refl refl (running.past, running.ways) 0) switched.turned.running running

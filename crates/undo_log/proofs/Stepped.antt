@@ -7,7 +7,7 @@ use Rattle.drc_state.specs.Changes.{PlainChange, is_replace, Makes}
 use Rattle.drc_session.specs.declared.applied.Applied.{Applied}
 use Rattle.drc_session.specs.Sessions.{IsApplied, IsCarriedOut}
 use Rattle.undo_log.specs.Past.{Past, Passed, is_again, edited, undone, redone, nearest_replaced}
-use Rattle.undo_log.specs.Ways.{PlainHistory, Leads, DoLead, AreWays, IsPastOf}
+use Rattle.undo_log.specs.Ways.{PlainHistory, Leads, DoLead, AreWays, IsPastOf, HasPast}
 use Rattle.undo_log.specs.Keeping.{IsNoted, IsSwitched}
 use Rattle.undo_log.specs.Taking.{IsStepFrom, IsTaken}
 use Rattle.undo_log.proofs.Answers.{more_answered, one_again}
@@ -56,8 +56,8 @@ module _ (old new : PlainHistory) (command : PlainCommand) (applied : Applied) (
         applied_is = applied_on s t past.now (edited past command t).now (is_rules command) (is_rules command) applied ways.present after.present refl carried.applied_is;
       }
 
-  pub edit_taken : old.stopped ≡ false → new.stopped ≡ false → IsTaken old new (edit command) applied
-  edit_taken was runs = record { running = (was, runs); steps = step_edited }
+  pub edit_taken : old.stopped ≡ false → new.stopped ≡ false → HasPast old → IsTaken old new (edit command) applied
+  edit_taken was runs past = record { running = (was, runs); past = past; steps = step_edited }
 
 -- ---- steps back and on
 
@@ -87,8 +87,8 @@ module _ (old new : PlainHistory) (applied : Applied) where
           applied_is = applied_on was is past.now found.0.now (is_replace switched.change) (nearest_replaced past.earlier) applied ways.present found.2.present (nearest_kind was switched.change new.back past.earlier here.earlier) switched.turned.applied_is;
         }
 
-    pub undo_taken : old.stopped ≡ false → new.stopped ≡ false → (at : ℕ) → IsTaken old new (undo at) applied
-    undo_taken w r at = record { running = (w, r); steps = step_undone at }
+    pub undo_taken : old.stopped ≡ false → new.stopped ≡ false → HasPast old → (at : ℕ) → IsTaken old new (undo at) applied
+    undo_taken w r past at = record { running = (w, r); past = past; steps = step_undone at }
 
   module _ (one_redo : (s t : State) (change other : PlainChange) (back on : List PlainChange) (past : Past) → AreWays s back (change ∷ on) past → Makes change s t → Leads other t (record { state = s; replaced = is_replace change })
       → (next : Past) × (redone past ≡ Ok next) × AreWays t (other ∷ back) on next)
@@ -104,5 +104,5 @@ module _ (old new : PlainHistory) (applied : Applied) where
           applied_is = applied_on was is past.now found.0.now (is_replace switched.change) (nearest_replaced past.later) applied ways.present found.2.present (nearest_kind was switched.change new.on past.later here.later) switched.turned.applied_is;
         }
 
-    pub redo_taken : old.stopped ≡ false → new.stopped ≡ false → (at : ℕ) → IsTaken old new (redo at) applied
-    redo_taken w r at = record { running = (w, r); steps = step_redone at }
+    pub redo_taken : old.stopped ≡ false → new.stopped ≡ false → HasPast old → (at : ℕ) → IsTaken old new (redo at) applied
+    redo_taken w r past at = record { running = (w, r); past = past; steps = step_redone at }

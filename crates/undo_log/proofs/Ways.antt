@@ -1,5 +1,6 @@
 -- What a history keeps leads through its past.
 use Rattle.std.proofs.Common.{◌≡◌, refl, sym, ap, subst, ◌∙◌, ℕ, ◌+◌, ◌<◌, ◌≤◌, Bool, false, List, [], ◌∷◌, Ok, if◌then◌else◌, arith}
+use Rattle.std.specs.List.{AllZip}
 use Rattle.std.proofs.lemmas.List.Elements.{All-weaker}
 use Rattle.board_items.specs.declared.item.Item.{Item}
 use Rattle.board_items.specs.Boards.{PlainBoard, Rise}
@@ -8,8 +9,8 @@ use Rattle.edit_script.specs.Commands.{PlainCommand}
 use Rattle.drc_state.specs.States.{State}
 use Rattle.drc_state.specs.Steps.{is_rules}
 use Rattle.drc_state.specs.Changes.{PlainChange, edit, replace, is_replace, Makes, ChangeFits, returned}
-use Rattle.undo_log.specs.Past.{Past, Passed, is_again, edited, undone, undone_to, redone, redone_to}
-use Rattle.undo_log.specs.Ways.{AddsNoItems, Leads, DoLead, AreWays}
+use Rattle.undo_log.specs.Past.{Past, Passed, IsPassedAlike, ArePastsAlike, is_again, edited, undone, undone_to, redone, redone_to}
+use Rattle.undo_log.specs.Ways.{PlainHistory, AddsNoItems, Leads, DoLead, AreWays, IsPastOf}
 
 -- the board, or the state, with other numbers that come next
 abbrev pub numbered : PlainBoard → ℕ → ℕ → PlainBoard
@@ -99,6 +100,26 @@ one_edit old new command change back on past ways other i u leads =
 -- ---- steps back and on
 
 module _ (one_state : (change : PlainChange) (old a b : State) → Makes change old a → Makes change old b → a ≡ b) where
+  -- changes lead through states that are alike
+  lead_alike : (state : State) (changes : List PlainChange) (passed others : List Passed) → DoLead state changes passed → DoLead state changes others → AllZip IsPassedAlike passed others
+  lead_alike state [] [] [] h k = tt
+  lead_alike state [] [] (q ∷ qs) h k = absurd k
+  lead_alike state [] (p ∷ ps) others h k = absurd h
+  lead_alike state (change ∷ changes) [] others h k = absurd h
+  lead_alike state (change ∷ changes) (p ∷ ps) [] h k = absurd k
+  lead_alike state (change ∷ changes) (p ∷ ps) (q ∷ qs) h k =
+      let same : returned p.state state ≡ returned q.state state = one_state change state (returned p.state state) (returned q.state state) h.0.back.leads k.0.back.leads in (
+        record { state = ap (λ (x : State). returned x p.state) same; replaced = sym h.0.kind ∙ k.0.kind },
+        lead_alike (returned q.state state) changes ps qs (subst (λ (x : State). DoLead x changes ps) same h.1) k.1,
+      )
+
+  pub one_past : (history : PlainHistory) (past other : Past) → IsPastOf history past → IsPastOf history other → ArePastsAlike past other
+  one_past history past other h k = record {
+    now = h.present ∙ sym k.present;
+    earlier = lead_alike history.session.state history.back past.earlier other.earlier h.earlier k.earlier;
+    later = lead_alike history.session.state history.on past.later other.later h.later k.later;
+  }
+
   -- the nearest change on one side is made, and the one that leads back goes to the other
   turn : (old new : State) (change other : PlainChange) (changes others : List PlainChange) (passed : Passed) (far near : List Passed)
       → DoLead old (change ∷ changes) (passed ∷ far) → DoLead old others near → Makes change old new → Leads other new (record { state = old; replaced = is_replace change })

@@ -1,5 +1,6 @@
 -- The past of what is edited: the states before the present one, and those that were undone and may come again.
 use Rattle.std.specs.Prelude.{◌≡◌, Bool, true, false, List, [], ◌∷◌, Result, Ok, Err, if◌then◌else◌}
+use Rattle.std.specs.List.{AllZip}
 use Rattle.edit_script.specs.Commands.{PlainCommand, again, PlainStep, edit, undo, redo}
 use Rattle.drc_state.specs.declared.error.EditError.{EditError}
 use Rattle.drc_state.specs.States.{State}
@@ -22,6 +23,19 @@ pub record Past : Type 0 where
 -- at the opening
 abbrev pub begun : State → Past
 begun state = record { earlier = []; now = state; later = [] }
+
+-- ---- two pasts
+
+-- the states are equal but for the numbers that come next, and so is whether the rules were replaced
+pub record IsPassedAlike (one other : Passed) : Type 0 where
+  pub state : one.state ≡ returned other.state one.state
+  pub replaced : one.replaced ≡ other.replaced
+
+-- the present is one, and the other states are alike, each to each
+pub record ArePastsAlike (one other : Past) : Type 0 where
+  pub now : one.now ≡ other.now
+  pub earlier : AllZip IsPassedAlike one.earlier other.earlier
+  pub later : AllZip IsPassedAlike one.later other.later
 
 -- ---- steps
 

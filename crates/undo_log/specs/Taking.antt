@@ -1,12 +1,13 @@
--- What the calls of a history do. The first two are of every past that the history may be said to have.
+-- What the calls of a history do. A history that runs has a past, and what is said of it is said of every past that it may be said to have.
+-- They are alike but for numbers that come next.
 use Rattle.std.specs.Prelude.{◌≡◌, ◌⊎◌, true, false, List, [], ◌∷◌, Ok, Err}
 use Rattle.edit_script.specs.Commands.{PlainStep}
 use Rattle.drc_session.specs.declared.applied.Applied.{Applied}
-use Rattle.drc_session.specs.Sessions.{IsApplied}
+use Rattle.drc_session.specs.Sessions.{PlainSession, IsApplied}
 use Rattle.undo_log.specs.declared.error.HistoryError.{HistoryError}
 use Rattle.undo_log.specs.declared.error.HistoryError.TheVariants.{Stopped, OutOfMemory}
 use Rattle.undo_log.specs.Past.{Past, StepAnswers, does_replace}
-use Rattle.undo_log.specs.Ways.{PlainHistory, IsPastOf}
+use Rattle.undo_log.specs.Ways.{PlainHistory, IsPastOf, HasPast}
 
 -- the step leads from this past to the one that the history then has
 pub record IsStepFrom (past : Past) (new : PlainHistory) (step : PlainStep) (applied : Applied) : Type 0 where
@@ -18,12 +19,17 @@ pub record IsStepFrom (past : Past) (new : PlainHistory) (step : PlainStep) (app
 -- the step was taken
 pub record IsTaken (old new : PlainHistory) (step : PlainStep) (applied : Applied) : Type 0 where
   pub running : (old.stopped ≡ false) × (new.stopped ≡ false)
+  pub past : HasPast old
   pub steps : (past : Past) → IsPastOf old past → IsStepFrom past new step applied
+
+-- what want of memory leaves of a session: it is stopped, or it is as it was
+abbrev pub IsStoppedOrSame : PlainSession → PlainSession → Type 0
+IsStoppedOrSame old new = (new.stopped ≡ true) ⊎ (new ≡ old)
 
 -- why it was not: the history is stopped, or memory ran out, or the step is refused and all is as it was
 abbrev pub IsRefused : PlainHistory → PlainHistory → PlainStep → HistoryError → Type 0
 IsRefused old new step Stopped = (old.stopped ≡ true) × (new ≡ old)
-IsRefused old new step OutOfMemory = (old.stopped ≡ false) × (new.stopped ≡ true)
+IsRefused old new step OutOfMemory = (old.stopped ≡ false) × (new.stopped ≡ true) × IsStoppedOrSame old.session new.session
 IsRefused old new step why = (old.stopped ≡ false) × ((past : Past) → IsPastOf old past → StepAnswers past step (Err why)) × (new ≡ old)
 
 -- ---- one call after another

@@ -55,3 +55,7 @@ pub record AreWays (now : State) (back on : List PlainChange) (past : Past) : Ty
 -- the history is one of this past
 abbrev pub IsPastOf : PlainHistory → Past → Type 0
 IsPastOf history past = AreWays history.session.state history.back history.on past
+
+-- there is such a past
+abbrev pub HasPast : PlainHistory → Type 0
+HasPast history = (past : Past) × IsPastOf history past

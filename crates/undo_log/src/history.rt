@@ -2,7 +2,7 @@
 
 ghost use Rattle.std.specs.Prelude.{◌≡◌, false, []};
 ghost use Rattle.undo_log.specs.Past.{begun};
-ghost use Rattle.undo_log.specs.Ways.{IsPastOf};
+ghost use Rattle.undo_log.specs.Ways.{IsPastOf, HasPast};
 
 use drc_session::Session;
 use drc_state::Change;
@@ -58,9 +58,10 @@ impl History {
         &self.session
     }
 
-    /// Whether an earlier call met a want of memory. It takes no memory.
+    /// Whether an earlier call met a want of memory. A history that is not stopped has a past. It takes no memory.
     pub fn stopped(&self) -> bool
-        ensures { result ≡ self.now.stopped }
+        ensures same { result ≡ self.now.stopped }
+        ensures past { self.now.stopped ≡ false → HasPast self.now }
     {
         self.stopped
     }

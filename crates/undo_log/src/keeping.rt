@@ -9,6 +9,7 @@ ghost use Rattle.drc_state.specs.Changes.{PlainChange, ChangeFits};
 ghost use Rattle.drc_session.specs.Sessions.{IsDealt, IsCarriedOut};
 ghost use Rattle.undo_log.specs.Past.{is_again};
 ghost use Rattle.undo_log.specs.Ways.{nearest_first};
+ghost use Rattle.undo_log.specs.Taking.{IsStoppedOrSame};
 ghost use Rattle.undo_log.specs.Keeping.{IsNoted, IsSwitched};
 
 use drc_session::{Applied, Session};
@@ -49,6 +50,7 @@ pub(crate) fn carry_out<R: Threads + Sync + AllocGlobal, G: Gate>(
     ensures carried { IfOk result (λ applied. IsCarriedOut session.old session.new (plain_command command.now) applied × IsDealt workers applied) }
     ensures noted { OnOk result (IsNoted session.old.state session.new.state (plain_command command.now) (nearest_first back.old.items) (nearest_first back.new.items) (nearest_first on.old.items) (nearest_first on.new.items)) }
     ensures refused { IfErr result (λ why. (why ≡ EditError.OutOfMemory) ⊎ (Answers session.old.state (plain_command command.now) (Err why) × (session.new ≡ session.old))) }
+    ensures wanting { OnErr result (IsStoppedOrSame session.old session.new) }
     ensures unchanged { OnErr result ((back.new.items ≡ back.old.items) × (on.new.items ≡ on.old.items)) }
 {
     back.reserve(1)?;
@@ -70,7 +72,8 @@ pub(crate) fn switch<R: Threads + Sync + AllocGlobal, G: Gate>(
     requires running { session.old.stopped ≡ false }
     requires some { 0 < vec_len from.old }
     requires fits { (nearest : PlainChange) (others : List PlainChange) → nearest_first from.old.items ≡ nearest ∷ others → ChangeFits session.old.state nearest }
-    ensures { IfOk result (λ applied. IsSwitched session.old session.new (nearest_first from.old.items) (nearest_first from.new.items) (nearest_first to.old.items) (nearest_first to.new.items) applied × IsDealt workers applied) }
+    ensures switched { IfOk result (λ applied. IsSwitched session.old session.new (nearest_first from.old.items) (nearest_first from.new.items) (nearest_first to.old.items) (nearest_first to.new.items) applied × IsDealt workers applied) }
+    ensures wanting { OnErr result (IsStoppedOrSame session.old session.new) }
 {
     to.reserve(1)?;
     let Some(change) = from.pop() else {

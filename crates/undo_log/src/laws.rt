@@ -10,7 +10,7 @@ ghost use Rattle.drc_state.specs.Steps.{is_rules, Answers};
 ghost use Rattle.drc_state.specs.Changes.{PlainChange, is_replace, Makes, returned};
 ghost use Rattle.drc_session.specs.Sessions.{PlainSession, IsChecked};
 ghost use Rattle.undo_log.specs.declared.error.HistoryError.{HistoryError};
-ghost use Rattle.undo_log.specs.Past.{Past, is_again, edited, undone, redone, StepAnswers, AreStepsTo};
+ghost use Rattle.undo_log.specs.Past.{Past, ArePastsAlike, is_again, edited, undone, redone, StepAnswers, AreStepsTo};
 ghost use Rattle.undo_log.specs.Ways.{PlainHistory, IsEdited, LeadsTo, AreWays, IsPastOf};
 ghost use Rattle.undo_log.specs.Taking.{AreCalls};
 
@@ -81,6 +81,13 @@ pub fn one_undo()
 /// And after what was undone last is done again.
 pub fn one_redo()
     ensures { (old new : State) (change other : PlainChange) (back on : List PlainChange) (past : Past) → AreWays old back (change ∷ on) past → Makes change old new → LeadsTo other new old (is_replace change) → (next : Past) × (redone past ≡ Ok next) × AreWays new (other ∷ back) on next }
+{
+    one_state();
+}
+
+/// A history has one past, but for the numbers that come next in the states that were passed.
+pub fn one_past()
+    ensures { (history : PlainHistory) (past other : Past) → IsPastOf history past → IsPastOf history other → ArePastsAlike past other }
 {
     one_state();
 }

@@ -1,9 +1,10 @@
 //! Steps of a history.
 
-ghost use Rattle.std.specs.Prelude.{◌<◌, ◌≤◌, ℕ, IfOk, IfErr};
+ghost use Rattle.std.specs.Prelude.{◌≡◌, ◌<◌, ◌≤◌, ◌↔◌, ℕ, false, [], IfOk, IfErr, Err};
 ghost use Rattle.edit_script.specs.Commands.{plain_command, edit, undo, redo};
 ghost use Rattle.edit_script.specs.Fits.{Fits};
 ghost use Rattle.drc_session.specs.Sessions.{IsDealt};
+ghost use Rattle.undo_log.specs.declared.error.HistoryError.TheVariants.{NothingToUndo, NothingToRedo};
 ghost use Rattle.undo_log.specs.Taking.{IsTaken, IsRefused};
 
 use crate::error::HistoryError;
@@ -20,7 +21,7 @@ use tile_pool::Gate;
 impl History {
     /// Carries the command out, or says why it is not carried out. What was undone before is forgotten, but for a report again, which is
     /// no step. The tiles that it stirs are dealt to so many workers, from 1 to 64. After each refusal but want of memory all is as it
-    /// was. After want of memory the history is stopped.
+    /// was. After want of memory the history is stopped, and its session is stopped or as it was.
     pub fn apply<R: Threads + Sync + AllocGlobal, G: Gate>(
         &mut self,
         rt: &R,
@@ -54,7 +55,8 @@ impl History {
         }
     }
 
-    /// Goes back by one step, or says that there is none, or that memory is wanting. After want of memory the history is stopped.
+    /// Goes back by one step, or says that there is none, or that memory is wanting. `NothingToUndo` says exactly that nothing leads back.
+    /// After want of memory the history is stopped, and its session is stopped or as it was.
     pub fn undo<R: Threads + Sync + AllocGlobal, G: Gate>(
         &mut self,
         rt: &R,
@@ -64,6 +66,7 @@ impl History {
         requires workers { (0 < workers) × (workers ≤ 64) }
         ensures taken { (at : ℕ) → IfOk result (λ applied. IsTaken self.old self.new (undo at) applied × IsDealt workers applied) }
         ensures refused { (at : ℕ) → IfErr result (IsRefused self.old self.new (undo at)) }
+        ensures none { (result ≡ Err NothingToUndo) ↔ ((self.old.stopped ≡ false) × (self.old.back ≡ [])) }
     {
         one_undo();
         if self.stopped {
@@ -85,8 +88,8 @@ impl History {
         Ok(applied)
     }
 
-    /// Goes on by one step that was undone, or says that there is none, or that memory is wanting. After want of memory the history is
-    /// stopped.
+    /// Goes on by one step that was undone, or says that there is none, or that memory is wanting. `NothingToRedo` says exactly that nothing
+    /// leads on. After want of memory the history is stopped, and its session is stopped or as it was.
     pub fn redo<R: Threads + Sync + AllocGlobal, G: Gate>(
         &mut self,
         rt: &R,
@@ -96,6 +99,7 @@ impl History {
         requires workers { (0 < workers) × (workers ≤ 64) }
         ensures taken { (at : ℕ) → IfOk result (λ applied. IsTaken self.old self.new (redo at) applied × IsDealt workers applied) }
         ensures refused { (at : ℕ) → IfErr result (IsRefused self.old self.new (redo at)) }
+        ensures none { (result ≡ Err NothingToRedo) ↔ ((self.old.stopped ≡ false) × (self.old.on ≡ [])) }
     {
         one_redo();
         if self.stopped {

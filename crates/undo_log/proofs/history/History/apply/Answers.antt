@@ -14,9 +14,10 @@ invariant_of-self g c = λ runs.
 pub returns-in-Ok-clause-taken : goal.returns-in-Ok-clause-taken
 returns-in-Ok-clause-taken g c =
     let command = plain_command c.args.command.now in
+    let was = c.self.invariant c.if-self.false in
     let before = plain c.self.inside.session (nearest_first c.self.inside.back.items) (nearest_first c.self.inside.on.items) c.self.inside.stopped in
     let after = plain c.carry_out.new.session (nearest_first c.carry_out.new.back.items) (nearest_first c.carry_out.new.on.items) c.self.inside.stopped in (
       subst (λ (h : PlainHistory). IsTaken h after (edit command) c.in-Ok.applied) c.self.view_is
-          (edit_taken before after command c.in-Ok.applied c.in-Ok.ensures.carried.0 c.in-Ok.ensures.noted c.if-self.false c.if-self.false),
+          (edit_taken before after command c.in-Ok.applied c.in-Ok.ensures.carried.0 c.in-Ok.ensures.noted c.if-self.false c.if-self.false (was.past, was.ways)),
       c.in-Ok.ensures.carried.1,
     )
