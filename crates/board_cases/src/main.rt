@@ -5,6 +5,7 @@
 //! format.
 #![tactic(auto)]
 
+mod apart;
 mod asked;
 mod boards;
 mod edits;
@@ -19,6 +20,7 @@ use std::process::ExitCode;
 fn answer(alloc: Global, call: &str) -> Result<Vec<u8>, Fault> {
     let (name, written) = first_word(call);
     match name {
+        "groups" => apart::answer(alloc, written),
         "add" => boards::filled(alloc, written),
         "read_board" => boards::read(alloc, written),
         "read_with_spans" => boards::spanned(alloc, written),
