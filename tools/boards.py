@@ -16,7 +16,7 @@ GRAPHICS = ('gr_line', 'gr_rect', 'gr_circle', 'gr_poly', 'gr_arc', 'gr_curve', 
 HEADS = {'track': ('segment', 'arc'), 'via': ('via',), 'zone': ('zone',), 'area': ('zone',), 'graphic': GRAPHICS + ('footprint',),
          'edge': GRAPHICS + ('footprint',), 'text': GRAPHICS + ('footprint',), 'dimension': GRAPHICS, 'pad': ('footprint',),
          'footprint': ('footprint',), 'footprint-zone': ('footprint',)}
-NAMES = re.compile(rb'\(\s*(?:tstamp|uuid)\s+(?:"((?:\\.|[^"\\])*)"|([^\s()"]+))', re.S)
+NAMES = re.compile(rb'\(\s*"?(?:tstamp|uuid)(?:"?\s*"((?:\\.|[^"\\])*)"|"?\s+([^\s()"]+)|"([^\s()"]+))', re.S)
 # A line on silk or fabrication layers, in the two forms that KiCad writes.
 LINE = re.compile(rb'\(fp_line\s+\(start (\S+) (\S+)\)\s+\(end (\S+) (\S+)\)\s+(?:\(stroke\s+\(width (\S+)\)\s+\(type \w+\)\s*\)\s+\(layer "?([^\s()"]+)"?\)|'
                   rb'\(layer "?([^\s()"]+)"?\)\s+\(width (\S+)\))')
@@ -156,8 +156,9 @@ class Board:
             for match in NAMES.finditer(self.text):
                 at = bisect.bisect_right(starts, match.start()) - 1
                 if at >= 0:
-                    word = (match.group(1) if match.group(1) is not None else match.group(2)).decode('utf-8', 'replace')
-                    known = self.names.setdefault(unescaped(word) if match.group(1) is not None else word, [])
+                    quoted = match.group(1) is not None
+                    word = (match.group(1) if quoted else match.group(2) or match.group(3)).decode('utf-8', 'replace')
+                    known = self.names.setdefault(unescaped(word) if quoted else word, [])
                     if not known or known[-1] is not self.units[at]:
                         known.append(self.units[at])
         return self.names.get(name, []) + self.added
