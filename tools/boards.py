@@ -16,7 +16,7 @@ GRAPHICS = ('gr_line', 'gr_rect', 'gr_circle', 'gr_poly', 'gr_arc', 'gr_curve', 
 HEADS = {'track': ('segment', 'arc'), 'via': ('via',), 'zone': ('zone',), 'area': ('zone',), 'graphic': GRAPHICS + ('footprint',),
          'edge': GRAPHICS + ('footprint',), 'text': GRAPHICS + ('footprint',), 'dimension': GRAPHICS, 'pad': ('footprint',),
          'footprint': ('footprint',), 'footprint-zone': ('footprint',)}
-NAMES = re.compile(rb'\(\s*(?:tstamp|uuid)\s+(?:"((?:\\.|[^"\\])*)"|([^\s()"]+))', re.S)
+NAMES = re.compile(rb'\(\s*"?(?:tstamp|uuid)(?:"?\s*"((?:\\.|[^"\\])*)"|"?\s+([^\s()"]+)|"([^\s()"]+))', re.S)
 # A line on silk or fabrication layers, in the two forms that KiCad writes.
 LINE = re.compile(rb'\(fp_line\s+\(start (\S+) (\S+)\)\s+\(end (\S+) (\S+)\)\s+(?:\(stroke\s+\(width (\S+)\)\s+\(type \w+\)\s*\)\s+\(layer "?([^\s()"]+)"?\)|'
                   rb'\(layer "?([^\s()"]+)"?\)\s+\(width (\S+)\))')
@@ -24,6 +24,8 @@ LINE = re.compile(rb'\(fp_line\s+\(start (\S+) (\S+)\)\s+\(end (\S+) (\S+)\)\s+(
 N = rb'(-?\d{1,4}(?:\.\d{1,6})?)'
 SEGMENT = re.compile(rb'\(segment\s+\(start ' + N + rb' ' + N + rb'\)\s+\(end ' + N + rb' ' + N + rb'\)\s+\(width ' + N + rb'\)\s+\(layer "([^"\\]*)"\)\s+'
                      rb'\(net (\d+)\)\s+\((?:tstamp|uuid) "?([^\s()"\\]+)"?\)\s*\)')
+VIA = re.compile(rb'\(via(?: blind| micro)?\s+\(at ' + N + rb' ' + N + rb'\)\s+\(size ' + N + rb'\)\s+\(drill ' + N + rb'\)\s+\(layers "([^"\\]*)" "([^"\\]*)"\)\s+'
+                 rb'(?:\(free\)\s+)?\(net (\d+)\)\s+\((?:tstamp|uuid) "?([^\s()"\\]+)"?\)\s*\)')
 SORTS = {'track': 'Track', 'via': 'Via', 'graphic': 'Graphic', 'zone': 'Zone', 'edge': 'Board edge', 'area': 'Rule area',
          'footprint': 'Footprint', 'pad': 'Pad', 'text': 'Text', 'dimension': 'Dimension', 'footprint-zone': 'Zone of footprint'}
 SIGNS = (('slash', '/'), ('backslash', '\\'), ('lt', '<'), ('gt', '>'), ('colon', ':'), ('dblquote', '"'), ('quote', "'"), ('space', ' '),
@@ -88,6 +90,8 @@ class Unit:
         if self.read is None:
             self.read = []
             self.board.fill(self)
+            # What is drawn later is taken apart again, so that a large board fits.
+            self.node.forget()
         return self.read
 
     def take(self, item):
@@ -139,6 +143,7 @@ class Board:
             elif head in ('segment', 'arc', 'via', 'zone', 'footprint') or head in GRAPHICS:
                 self.units.append(Unit(self, node, source))
         self.names = self.references = None
+        self.stacks = {}
 
     # ---- which units there are
     def read(self, node, source):
@@ -156,8 +161,9 @@ class Board:
             for match in NAMES.finditer(self.text):
                 at = bisect.bisect_right(starts, match.start()) - 1
                 if at >= 0:
-                    word = (match.group(1) if match.group(1) is not None else match.group(2)).decode('utf-8', 'replace')
-                    known = self.names.setdefault(unescaped(word) if match.group(1) is not None else word, [])
+                    quoted = match.group(1) is not None
+                    word = (match.group(1) if quoted else match.group(2) or match.group(3)).decode('utf-8', 'replace')
+                    known = self.names.setdefault(unescaped(word) if quoted else word, [])
                     if not known or known[-1] is not self.units[at]:
                         known.append(self.units[at])
         return self.names.get(name, []) + self.added
@@ -226,18 +232,30 @@ class Board:
         item.draw = draw
 
     def via(self, node, unit):
-        at, ends = point(node, 'at'), [atom for atom in (node.first('layers') or Node(0)).atoms()]
+        plain_one = VIA.fullmatch(node.text, node.at, node.end)
+        if plain_one:
+            x, y, size, drill, first, last, net, name = plain_one.groups()
+            at, size, drill, ends = (round(float(x) * 1e6), round(float(y) * 1e6)), float(size), float(drill), (first.decode('utf-8', 'replace'), last.decode('utf-8', 'replace'))
+            net, unit.known = self.nets.get(net.decode(), ''), name.decode('utf-8', 'replace')
+        else:
+            at, ends, net = point(node, 'at'), (node.first('layers') or Node(0)).atoms(), self.net_of(node)
+            size, drill = (node.lengths('size') or [0])[0] / 1e6, (node.lengths('drill') or [0])[0] / 1e6
         if not at:
             return
-        marks = sorted(COPPER.index(name) for name in ends if name in COPPER)
-        layers = [name for name in self.copper if marks and marks[0] <= COPPER.index(name) <= marks[-1]]
-        size, drill = (node.lengths('size') or [0])[0] / 1e6, (node.lengths('drill') or [0])[0] / 1e6
+        layers = self.through(tuple(ends))
 
         def draw():
             place = Stance().draw([at])
             return [strip('Vias', 'via', size, place)] + ([strip('Holes', 'via-hole', drill, place)] if drill else [])
         item = unit.take(Item('via', unit.name, node.at, at, layers=layers, draw=draw))
-        item.net, item.uuid, item.width = self.net_of(node), unit.name, size
+        item.net, item.uuid, item.width = net, unit.name, size
+
+    def through(self, ends):
+        """the copper layers of the board from the first of these layers to the last"""
+        if ends not in self.stacks:
+            marks = sorted(COPPER.index(name) for name in ends if name in COPPER)
+            self.stacks[ends] = [name for name in self.copper if marks and marks[0] <= COPPER.index(name) <= marks[-1]]
+        return self.stacks[ends]
 
     def zone(self, node, unit):
         polygon = node.first('polygon')

@@ -94,6 +94,11 @@ def text_fault(text):
     return ('Text.EndInside', len(text)) if depth else None if lists else ('Text.EmptyText', 0)
 
 
+def written_oddly(node, atom):
+    """whether a number stands in quotes with a backslash in it: numbers are read as they stand"""
+    return node.text[atom.at:atom.at + 1] == b'"' and b'\\' in node.text[atom.at:atom.at + len(atom) + 2]
+
+
 class Item:
     """the list of an item while its elements are looked at"""
 
@@ -124,7 +129,7 @@ class Item:
         if atom is None:
             return None
         value = nanometres(atom)
-        if value is None or not LENGTH.fullmatch(atom) or abs(value) > 10**12 or least is not None and value < least:
+        if value is None or written_oddly(list_, atom) or not LENGTH.fullmatch(atom) or abs(value) > 10**12 or least is not None and value < least:
             self.tell('BadNumber', atom.at, 'no %s: %s' % (what, atom), 'number')
             return None
         self.leaves = self.leaves or least is not None and value > FAR
@@ -150,7 +155,7 @@ class Item:
     def net(self):
         found = self.element('net', demanded=False)
         atom = self.atom(found, 1, 'net') if found else None
-        if atom is not None and not (COUNT.fullmatch(atom) and int(atom) < 2**32):
+        if atom is not None and (written_oddly(found, atom) or not (COUNT.fullmatch(atom) and int(atom) < 2**32)):
             self.tell('BadNumber', atom.at, 'no number of a net: %s' % atom, 'number')
         elif atom is not None and int(atom) not in self.finder.nets:
             self.tell('UnknownNet', atom.at, 'the list of nets has no net %s' % atom, 'net')
@@ -294,7 +299,7 @@ class Finder:
 
     def net(self, item):
         number = item.atom(item.node, 1, 'number of the net')
-        if number is not None and not (COUNT.fullmatch(number) and int(number) < 2**32):
+        if number is not None and (written_oddly(item.node, number) or not (COUNT.fullmatch(number) and int(number) < 2**32)):
             item.tell('BadNumber', number.at, 'no number of a net: %s' % number, 'number')
         elif number is not None:
             item.atom(item.node, 2, 'name of the net')
@@ -495,7 +500,7 @@ class Finder:
         ratio = item.node.first('roundrect_rratio') if shape == 'roundrect' else None
         if ratio:
             atom = item.atom(ratio, 1, 'ratio')
-            if atom is not None and not (LENGTH.fullmatch(atom) and 0 <= float(atom) <= 0.5):
+            if atom is not None and (written_oddly(ratio, atom) or not (LENGTH.fullmatch(atom) and 0 <= float(atom) <= 0.5)):
                 item.tell('BadNumber', atom.at, 'no ratio from 0 to one half: %s' % atom, 'number')
         if shape != 'custom':
             return

@@ -25,15 +25,14 @@ def bare(name):
 
 class Named:
     """an item as a report names it"""
+    __slots__ = ('text', 'word', 'name', 'reference', 'position')
 
     def __init__(self, match):
         self.text = match.group()
-        self.word, self.name, self.reference = match.group(1), bare(match.group(2)), bare(match.group(3))
-        self.x, self.y = match.group(4), match.group(5)
-
-    @property
-    def position(self):
-        return nanometres(self.x), nanometres(self.y)
+        self.word, name, reference, x, y = match.groups()
+        self.name, self.reference = bare(name), bare(reference)
+        # A report has six digits, so whole nanometres.
+        self.position = int(x[:-7] + x[-6:]), int(y[:-7] + y[-6:])
 
 
 class Row:

@@ -72,6 +72,10 @@ class Node:
                 self.named = first if isinstance(first, Atom) else ''
         return self.named
 
+    def forget(self):
+        """lets go of its parts, which are taken apart again when they are asked for"""
+        self.taken = self.index = None
+
     def lists(self):
         """the lists in it, in their order"""
         return [part for part in self.parts if isinstance(part, Node)]

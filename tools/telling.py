@@ -110,11 +110,16 @@ class Teller:
             items = [self.item(named) for named in ends]
             link = {'length_nm': math.isqrt(square), 'square': str(square), 'ends': items}
             link['message'] = 'unconnected: %s | %s: %s apart' % (*(item['said'] for item in items), millimetres(round(math.isqrt(square), -3)))
+            if self.wishes:
+                link['project'] = self.wishes.of('open-net', items)
             links.append(link)
         told = {'net': net.name, 'groups': groups, 'links': links, 'text': net.line, 'fingerprint': self.print_of('open-net', [], net.name)}
         told['message'] = 'unconnected: net [%s] is in %s, %s' % (plain(net.name), count_of(len(groups), 'piece'), count_of(len(links), 'connection') + ' to be routed')
         if self.wishes:
             told['project'] = self.wishes.of('open-net', [])
+            # A net is left aside where each of its links is.
+            if links and all(link['project']['off'] for link in links):
+                told['project'] = links[0]['project']
         return told
 
     def note(self, note, notes):
@@ -225,7 +230,7 @@ def findings(state, by_link=False):
         yield Finding(row['severity'], row['kind'], row['message'], row['items'][0], row['items'][1:], row['fingerprint'], row.get('project'))
     for net in state['open_nets']:
         for link in net['links'] if by_link else []:
-            yield Finding('open', 'open-net', link['message'], link['ends'][0], link['ends'][1:], net['fingerprint'], net.get('project'))
+            yield Finding('open', 'open-net', link['message'], link['ends'][0], link['ends'][1:], net['fingerprint'], link.get('project'))
         ends = [item for link in net['links'] for item in link['ends']] or [group['first'] for group in net['groups']]
         if not by_link or not net['links']:
             yield Finding('open', 'open-net', net['message'], ends[0] if ends else {}, ends[1:], net['fingerprint'], net.get('project'))

@@ -40,7 +40,7 @@ class Teller:
                 print('%d more of %s; --all shows them' % (count - self.most, key))
         for line in fits.sum_lines(one.result.faults):
             print('  ' + line)
-        told = '%s: %s. %.2f s' % (one.files['board'], one.verdict.sum(), one.seconds)
+        told = '%s: %s%s. %.2f s' % (one.files['board'], {0: 'passes: ', 1: 'fails: '}.get(one.status, ''), one.verdict.sum(), one.seconds)
         print(self.paint(told, 'error' if one.status else 'good'), flush=True)
 
     def found(self, one):

@@ -186,7 +186,7 @@ class Page:
                 'text': row.line, 'items': items, 'focus': focus, 'spot': spot_of(focus), 'came': came, 'off': (told.get('project') or {}).get('off') or ''}
 
     def net(self, net, told):
-        links = [{'line': [float(ends[0].x), float(ends[0].y), float(ends[1].x), float(ends[1].y)], 'said': link['message']} for (_, ends), link in zip(net.links, told['links'])]
+        links = [{'line': [n / 1e6 for end in ends for n in end.position], 'said': link['message']} for (_, ends), link in zip(net.links, told['links'])]
         return {'text': told['message'], 'groups': ['%d: %s' % (group['count'], group['first']['said']) for group in told['groups']], 'links': links}
 
     def note(self, told):
