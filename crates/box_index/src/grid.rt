@@ -1,6 +1,6 @@
 //! The entries of each tile. Tiles that have the same may share a list: an area or a fill lies in thousands of tiles.
 
-ghost use Rattle.std.specs.Prelude.{◌≡◌, ℕ, ◌<◌, ◌≤◌, true, List, [], length, pos, IfOk, OnOk};
+ghost use Rattle.std.specs.Prelude.{◌≡◌, ℕ, ◌<◌, ◌≤◌, true, List, [], ◌∷◌, ◌++◌, length, pos, IfOk, OnOk};
 ghost use Rattle.std.specs.List.{AllZip};
 ghost use Rattle.geo_seg.specs.Boxes.{FitsWithin};
 ghost use Rattle.box_index.specs.declared.entry.Entry.{Entry};
@@ -192,13 +192,21 @@ fn copy_numbers(alloc: Global, numbers: &[u32]) -> Result<Vec<u32>, AllocError>
     Ok(copy)
 }
 
+/// Appends an equal list.
+fn push_copy(copies: &mut Vec<Shared>, list: &Shared) -> Result<(), AllocError>
+    ensures { OnOk result ((lists : List Shared) → AllZip IsEqual lists copies.old.items → AllZip IsEqual (lists ++ list.now ∷ []) copies.new.items) }
+{
+    copies.push(list.copy()?)?;
+    Ok(())
+}
+
 /// Equal lists.
 fn copy_lists(lists: &Vec<Shared>) -> Result<Vec<Shared>, AllocError>
     ensures { IfOk result (λ copy. AllZip IsEqual lists.now.items copy.items) }
 {
     let mut copies = Vec::with_capacity(*lists.allocator(), lists.len())?;
     for list in lists {
-        copies.push(list.copy()?)?;
+        push_copy(&mut copies, list)?;
     }
     Ok(copies)
 }

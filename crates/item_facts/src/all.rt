@@ -1,11 +1,12 @@
 //! The facts of items. What makes those of one item is inlined, so that they are made where they stay.
 
-ghost use Rattle.std.specs.Prelude.{◌≡◌, IfOk, OnOk, IsSome};
+ghost use Rattle.std.specs.Prelude.{◌≡◌, ℕ, None, IfOk, OnOk, IsSome};
 ghost use Rattle.board_items.specs.Boards.{IsSound, marks_of, item_at};
 ghost use Rattle.net_class.specs.Classes.{PlainClasses};
 ghost use Rattle.net_class.specs.Views.{plain_class};
 ghost use Rattle.rule_pick.specs.FactsOf.{AreFactsOf, AreFacts, class_of_net};
 ghost use Rattle.rule_pick.specs.AllFacts.{HasFacts};
+ghost use Rattle.rule_pick.specs.ById.{facts_at};
 ghost use Rattle.item_facts.specs.Known.{AreKnown};
 ghost use Rattle.item_facts.specs.Near.{AreEnough, HoldsMarks};
 
@@ -26,7 +27,8 @@ const MOST_ITEMS: u32 = 200_000;
 /// How many tests of an item against an area or a body are few.
 const FEW_TESTS: usize = 8_192;
 
-/// The class of a net, sought once for each net: patterns are dear.
+/// The class of a net, sought once for each net: patterns are dear. Only want of memory refuses it; also then each net in `known` has
+/// its class.
 pub fn known_class<'c>(
     known: &mut IndexMap<u32, &'c Class>,
     board: &Board,
@@ -34,7 +36,7 @@ pub fn known_class<'c>(
     net: u32,
 ) -> Result<&'c Class, AllocError>
     requires { AreKnown classes.now board.now known.old }
-    ensures known { OnOk result (AreKnown classes.now board.now known.new) }
+    ensures known { AreKnown classes.now board.now known.new }
     ensures value { IfOk result (λ class. plain_class class.now ≡ class_of_net classes.now board.now net) }
 {
     if let Some(class) = known.get(&net) {
@@ -65,7 +67,7 @@ pub fn facts_among(
 
 /// The facts of an item, which is asked only against the areas and bodies near it. The index has all areas and bodies of the
 /// board, and may have its other items. `known` are classes of nets that were sought, and `room` is room for ids; a walk over
-/// many items hands both on. Only want of memory refuses it.
+/// many items hands both on. Only want of memory refuses it; also then each net in `known` has its class.
 #[inline(always)]
 pub fn facts_near<'c>(
     alloc: Global,
@@ -78,7 +80,7 @@ pub fn facts_near<'c>(
 ) -> Result<Facts, AllocError>
     requires index { HoldsMarks board.now.items index.now }
     requires known { AreKnown classes.now board.now known.old }
-    ensures known { OnOk result (AreKnown classes.now board.now known.new) }
+    ensures known { AreKnown classes.now board.now known.new }
     ensures facts { IfOk result (AreFactsOf board.now classes.now item.now) }
 {
     let class = known_class(known, board, classes, item.net)?;
@@ -128,16 +130,76 @@ fn are_few(board: &Board) -> bool {
     board.marks().len().saturating_mul(slots_of(board)) <= FEW_TESTS
 }
 
-/// The facts of all items of a board with few of them: each is asked against all areas and bodies.
-fn few_facts(alloc: Global, board: &Board, classes: &Classes) -> Result<FactsById, AllocError>
-    ensures { IfOk result (HasFacts board.now classes.now) }
+/// Puts in the facts of all items of a board with few of them: each is asked against all areas and bodies.
+fn put_few(
+    alloc: Global,
+    board: &Board,
+    classes: &Classes,
+    all: &mut FactsById,
+) -> Result<(), AllocError>
+    requires { (id : ℕ) → facts_at all.old id ≡ None }
+    ensures { OnOk result (HasFacts board.now classes.now all.new) }
 {
-    let mut all = FactsById::with_room(alloc, slots_of(board))?;
     for (id, item) in board.iter() {
         let facts = facts_of(alloc, board, classes, item)?;
         all.insert(id, facts)?;
     }
-    Ok(all)
+    Ok(())
+}
+
+/// Puts in the facts of all items of the board. Each is asked only against the areas and bodies near it, which the index has.
+fn put_near<'c>(
+    alloc: Global,
+    board: &Board,
+    classes: &'c Classes,
+    index: &TileIndex,
+    known: &mut IndexMap<u32, &'c Class>,
+    room: &mut Vec<u32>,
+    all: &mut FactsById,
+) -> Result<(), AllocError>
+    requires index { HoldsMarks board.now.items index.now }
+    requires known { AreKnown classes.now board.now known.old }
+    requires none { (id : ℕ) → facts_at all.old id ≡ None }
+    ensures { OnOk result (HasFacts board.now classes.now all.new) }
+{
+    for (id, item) in board.iter() {
+        let facts = facts_near(alloc, board, classes, index, known, room, item)?;
+        all.insert(id, facts)?;
+    }
+    Ok(())
+}
+
+/// Puts in the facts of all items of the board, found by an index.
+fn put_by_index(
+    alloc: Global,
+    board: &Board,
+    classes: &Classes,
+    all: &mut FactsById,
+) -> Result<(), AllocError>
+    requires { (id : ℕ) → facts_at all.old id ≡ None }
+    ensures { OnOk result (HasFacts board.now classes.now all.new) }
+{
+    let index = index_marks(alloc, board)?;
+    let mut known = IndexMap::new(alloc);
+    let mut room = Vec::new(alloc);
+    put_near(alloc, board, classes, &index, &mut known, &mut room, all)
+}
+
+/// Puts in the facts of all items of the board.
+fn put_all(
+    alloc: Global,
+    board: &Board,
+    classes: &Classes,
+    all: &mut FactsById,
+) -> Result<(), AllocError>
+    requires { (id : ℕ) → facts_at all.old id ≡ None }
+    ensures { OnOk result (HasFacts board.now classes.now all.new) }
+{
+    if are_few(board) {
+        put_few(alloc, board, classes, all)
+    } else {
+        put_by_index(alloc, board, classes, all)
+    }
 }
 
 /// The facts of all items of the board, by id. Each is asked only against the areas and bodies near it, and the class of each
@@ -145,16 +207,7 @@ fn few_facts(alloc: Global, board: &Board, classes: &Classes) -> Result<FactsByI
 pub fn all_facts(alloc: Global, board: &Board, classes: &Classes) -> Result<FactsById, AllocError>
     ensures { IfOk result (HasFacts board.now classes.now) }
 {
-    if are_few(board) {
-        return few_facts(alloc, board, classes);
-    }
-    let index = index_marks(alloc, board)?;
-    let mut known = IndexMap::new(alloc);
-    let mut room = Vec::new(alloc);
     let mut all = FactsById::with_room(alloc, slots_of(board))?;
-    for (id, item) in board.iter() {
-        let facts = facts_near(alloc, board, classes, &index, &mut known, &mut room, item)?;
-        all.insert(id, facts)?;
-    }
+    put_all(alloc, board, classes, &mut all)?;
     Ok(all)
 }

@@ -103,7 +103,8 @@ fn push_marks(board: &Board, ids: &mut Vec<u32>) -> Result<(), AllocError>
 /// Leaves in `ids` those of the areas and bodies whose boxes meet that of the item, and maybe others; rising. An item without
 /// bounds meets none. Where its box meets more tiles than the board has areas and bodies, they are all of these.
 ///
-/// The index has all areas and bodies of the board, and may have other items. Only want of memory refuses it.
+/// The index has all areas and bodies of the board, and may have other items. What `ids` had before is let go first. Only want of
+/// memory refuses it, and `ids` is then of no use.
 pub fn marks_near(
     board: &Board,
     index: &TileIndex,

@@ -4,7 +4,7 @@ use Rattle.board_items.specs.Walks.{items_left}
 use Rattle.item_facts.specs.Known.{AreLeft, HasFactsSoFar}
 use Rattle.item_facts.proofs.LeftItems.{next_left}
 use Rattle.item_facts.proofs.SoFar.{more_facts}
-use Rattle.item_facts.proofs.all.few_facts.Goals as goal
+use Rattle.item_facts.proofs.all.put_few.Goals as goal
 
 pub loop-id-preserved : goal.loop-id-preserved
 loop-id-preserved c =

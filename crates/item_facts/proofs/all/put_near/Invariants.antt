@@ -1,6 +1,6 @@
 use Rattle.board_items.specs.Walks.{items_left}
 use Rattle.item_facts.specs.Known.{AreKnown, AreLeft, HasFactsSoFar}
-use Rattle.item_facts.proofs.all.all_facts.Given as goal
+use Rattle.item_facts.proofs.all.put_near.Given as goal
 
 abbrev pub invariant-loop-id : goal.invariant-loop-id
 invariant-loop-id l =

@@ -9,7 +9,7 @@ returns-in-None c =
 
 pub returns-in_ok-push_ids_near-in-Some : goal.returns-in_ok-push_ids_near-in-Some
 returns-in_ok-push_ids_near-in-Some c =
-    enough c.args.board.now.items c.args.index.now c.requires c.args.item.now c.in-Some.bounds c.in-Some.ensures.least c.clear.new.self.items c.push_ids_near.new.ids.items c.put_in_order.new.ids.items c.in_ok-push_ids_near-in-Some.ensures c.put_in_order.ensures.rise
+    enough c.args.board.now.items c.args.index.now c.requires c.args.item.now c.in-Some.bounds c.in-Some.ensures.least c.clear.new.self.items c.push_ids_near.new.ids.items c.put_in_order.new.ids.items c.in_ok-push_ids_near-in-Some.ensures.reached c.put_in_order.ensures.rise
     (λ id h. c.put_in_order.ensures.kept id (subst (λ (ids : List ℕ). Contains ids id) (sym c.keep_marks.ensures) h))
 
 then : {E : Type 0} {P Q : Type 0} (r : Result (Unit {0}) E) → OnOk r P → (P → Q) → OnOk r Q
