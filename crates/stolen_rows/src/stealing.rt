@@ -1,17 +1,25 @@
 //! Tiles that are tested by workers who steal them from each other.
 
-ghost use Rattle.std.specs.Prelude.{◌<◌, ◌≤◌, length, IfOk};
+ghost use Rattle.std.specs.Prelude.{◌≡◌, ◌+◌, ◌<◌, ◌≤◌, length, IfOk};
 ghost use Rattle.std.specs.List.{AllZip};
 ghost use Rattle.std.specs.List.Sorted.{IsStrictlyIncreasing};
 ghost use Rattle.pair_check.specs.Views.{checked_by, IsWholeView};
 ghost use Rattle.row_check.specs.Tiles.{IsIndexOf, AreRowsOfTile};
+ghost use Rattle.steal_pool.specs.Views.{stolen_tiles, stolen_hands};
 
 use kept_rows::TileRows;
 use std::alloc::{AllocError, Global};
 use std::thread::Threads;
-use steal_pool::run_stolen;
+use steal_pool::{Stolen, run_stolen};
 use tile_pool::Gate;
 use tile_rows::Tiles;
+
+/// The rows of tiles, and which seat took which tiles.
+#[derive(Drop)]
+pub(crate) struct StolenTiles {
+    pub(crate) batches: Vec<TileRows>,
+    pub(crate) stolen: Stolen,
+}
 
 /// The rows of each of the tiles with an id that changed, in the order of the tiles. There are 1 to 64 workers and at most 15,625
 /// tiles. Only want of memory refuses it.
@@ -21,15 +29,23 @@ pub(crate) fn steal_tiles<R: Threads + Sync, G: Gate>(
     workers: u32,
     work: Tiles<'_>,
     gate: &G,
-) -> Result<Vec<TileRows>, AllocError>
+) -> Result<StolenTiles, AllocError>
     requires workers { (0 < workers) × (workers ≤ 64) }
     requires view { IsWholeView work.view }
     requires index { IsIndexOf (checked_by work.view) work.index.now }
     requires changed { IsStrictlyIncreasing work.changed.now }
     requires few { length work.tiles.now ≤ 15625 }
-    ensures { IfOk result (λ batches. AllZip (λ tile batch. AreRowsOfTile (checked_by work.entry.view) work.entry.index.now tile work.entry.changed.now batch) work.entry.tiles.now batches.items) }
+    ensures rows { IfOk result (λ r. AllZip (λ tile batch. AreRowsOfTile (checked_by work.entry.view) work.entry.index.now tile work.entry.changed.now batch) work.entry.tiles.now r.batches.items) }
+    ensures hands { IfOk result (λ r. (stolen_tiles r.stolen ≡ length work.entry.tiles.now) × (length (stolen_hands r.stolen) ≡ workers + 1)) }
 {
     let count = work.tiles.len() as u32;
-    let (batches, _stolen) = run_stolen(rt, alloc, workers, count, &work, gate)?;
-    Ok(batches)
+    let (batches, stolen) = run_stolen(rt, alloc, workers, count, &work, gate)?;
+    Ok(StolenTiles { batches, stolen })
+}
+
+/// Frees what was stolen by `workers` workers: there is a hand for each of them, and one for the caller.
+pub(crate) fn let_go(stolen: Stolen, workers: u32)
+    requires { length (stolen_hands stolen) ≡ workers + 1 }
+{
+    drop(stolen);
 }

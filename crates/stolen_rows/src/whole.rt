@@ -1,12 +1,13 @@
 //! All rows of a board.
 
-ghost use Rattle.std.specs.Prelude.{◌<◌, ◌≤◌, IfOk};
+ghost use Rattle.std.specs.Prelude.{◌≡◌, ◌+◌, ◌<◌, ◌≤◌, length, IfOk};
 ghost use Rattle.pair_check.specs.Views.{checked_by, IsWholeView};
 ghost use Rattle.pair_check.specs.Rows.{AreRows};
 ghost use Rattle.row_check.specs.Tiles.{IsIndexOf};
+ghost use Rattle.steal_pool.specs.Views.{stolen_hands};
 ghost use Rattle.stolen_rows.specs.Unruled.{unruled};
 
-use crate::stealing::steal_tiles;
+use crate::stealing::{StolenTiles, let_go, steal_tiles};
 use board_index::index_of;
 use board_items::Board;
 use box_index::TileIndex;
@@ -16,10 +17,11 @@ use net_class::Classes;
 use row_check::{CheckView, Row, ids_of};
 use std::alloc::{AllocError, Global};
 use std::thread::Threads;
+use steal_pool::Stolen;
 use tile_pool::Gate;
 use tile_rows::Tiles;
 
-/// All rows of what is checked: all tiles that hold an item are gone through.
+/// All rows of what is checked, and which seat took which tiles: all tiles that hold an item are gone through.
 fn steal_all<R: Threads + Sync, G: Gate>(
     rt: &R,
     alloc: Global,
@@ -27,11 +29,12 @@ fn steal_all<R: Threads + Sync, G: Gate>(
     view: CheckView<'_>,
     index: &TileIndex,
     gate: &G,
-) -> Result<Vec<Row>, AllocError>
+) -> Result<(Vec<Row>, Stolen), AllocError>
     requires workers { (0 < workers) × (workers ≤ 64) }
     requires view { IsWholeView view }
     requires index { IsIndexOf (checked_by view) index.now }
-    ensures { IfOk result (λ rows. AreRows (checked_by view.entry) rows.items) }
+    ensures rows { IfOk result (λ r. AreRows (checked_by view.entry) r.0.items) }
+    ensures hands { IfOk result (λ r. length (stolen_hands r.1) ≡ workers + 1) }
 {
     let tiles = index.dirty(&[], true)?;
     let ids = ids_of(alloc, view.board)?;
@@ -41,8 +44,9 @@ fn steal_all<R: Threads + Sync, G: Gate>(
         tiles: &tiles,
         changed: &ids,
     };
-    let batches = steal_tiles(rt, alloc, workers, work, gate)?;
-    rows_anew(alloc, &view, index, &ids, &tiles, &batches)
+    let StolenTiles { batches, stolen } = steal_tiles(rt, alloc, workers, work, gate)?;
+    let rows = rows_anew(alloc, &view, index, &ids, &tiles, &batches)?;
+    Ok((rows, stolen))
 }
 
 /// All rows of the board under these classes and no rules, in order. Each tile that holds an item is tested by one of `workers` workers,
@@ -67,5 +71,7 @@ pub fn rows_by_stealing<R: Threads + Sync, G: Gate>(
         rules: &[],
         classes,
     };
-    steal_all(rt, alloc, workers, view, &index, gate)
+    let (rows, stolen) = steal_all(rt, alloc, workers, view, &index, gate)?;
+    let_go(stolen, workers);
+    Ok(rows)
 }

@@ -74,9 +74,10 @@ fn crew_of<X: Drop>(
 {
     let mut crew = Vec::with_capacity(alloc, seats.len())?;
     for seat in seats {
+        let batch = Vec::with_capacity(alloc, share)?;
         crew.push_reserved(Worker {
             seat,
-            batch: Vec::with_capacity(alloc, share)?,
+            batch,
             failed: false,
         });
     }
@@ -212,6 +213,43 @@ fn gathered_alone<T: TileWork>(
     }
 }
 
+/// The workers of a deal of the numbers below `tiles` run side by side, and leave what they made of their numbers.
+fn played<R: Threads + Sync, T: TileWork, G: Gate>(
+    rt: &R,
+    alloc: Global,
+    workers: u32,
+    tiles: u32,
+    work: &T,
+    gate: &G,
+) -> Result<(Deal, Left<T::Out>), AllocError>
+    requires ready { T.ready work.now }
+    requires workers { (0 < workers) × (workers ≤ 64) }
+    requires tiles { tiles ≤ 15625 }
+    requires count { tiles ≤ T.count work.now }
+    ensures deal { IfOk result (λ r. (deal_tiles r.0 ≡ tiles) × (deal_seats r.0 ≡ workers)) }
+    ensures own { IfOk result (λ r. AreSeatsOf r.0 r.1.seats.items) }
+    ensures done { IfOk result (λ r. All (λ s. seat_done s ≡ true) r.1.seats.items) }
+    ensures batches { IfOk result (λ r. AreBatches (T.gives work.now) (map seat_hand r.1.seats.items) r.1.batches.items) }
+    ensures counts { IfOk result (λ r. (length r.1.seats.items ≡ workers) × (length r.1.batches.items ≡ workers)) }
+{
+    let seats_left = Vec::with_capacity(alloc, workers as usize)?;
+    let batches = Vec::with_capacity(alloc, workers as usize)?;
+    let (deal, seats) = Deal::new(alloc, tiles, workers)?;
+    let Ok(crew) = crew_of(alloc, seats, (tiles / workers) as usize) else {
+        drop(deal);
+        return Err(AllocError);
+    };
+    let threads = workers.min(tiles.max(1)) as usize;
+    let crew = run_all(rt, alloc, &deal, work, gate, crew, threads);
+    let left = disband(crew, seats_left, batches);
+    if left.failed {
+        drop(left);
+        drop(deal);
+        return Err(AllocError);
+    }
+    Ok((deal, left))
+}
+
 /// Tests each number below `tiles`, which is at most the count of the work and at most 15,625, by 1 to 64 workers that claim numbers
 /// side by side. The answers stand in the order of the numbers, and beside them it is told which worker was given which numbers. A
 /// worker calls `before`, tests and calls `after`; after a want of memory it draws on without testing. Only want of memory refuses
@@ -231,20 +269,12 @@ pub fn run_tiles<R: Threads + Sync, T: TileWork, G: Gate>(
     ensures answers { IfOk result (λ r. AreAnswers (T.gives work.now) tiles r.0.items) }
     ensures dealt { IfOk result (λ r. (dealt_tiles r.1 ≡ tiles) × (dealt_seats r.1 ≡ workers)) }
 {
-    let (deal, seats) = Deal::new(alloc, tiles, workers)?;
-    let crew = crew_of(alloc, seats, (tiles / workers) as usize)?;
-    let seats = Vec::with_capacity(alloc, workers as usize)?;
-    let batches = Vec::with_capacity(alloc, workers as usize)?;
-    let threads = workers.min(tiles.max(1)) as usize;
-    let crew = run_all(rt, alloc, &deal, work, gate, crew, threads);
-    let left = disband(crew, seats, batches);
-    if left.failed {
-        return Err(AllocError);
-    }
     if workers == 1 {
+        let (deal, left) = played(rt, alloc, workers, tiles, work, gate)?;
         return Ok(gathered_alone(work, deal, left.seats, left.batches));
     }
     let slots = slots_of(alloc, tiles)?;
     let answers = Vec::with_capacity(alloc, tiles as usize)?;
+    let (deal, left) = played(rt, alloc, workers, tiles, work, gate)?;
     Ok(gathered(work, deal, left.seats, left.batches, slots, answers))
 }

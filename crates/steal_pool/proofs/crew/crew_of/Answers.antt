@@ -1,4 +1,7 @@
 use Rattle.std.proofs.Common.{◌≡◌, ◌+◌, ◌∷◌, ◌++◌, [], map, All, Vec, Global, length, sym, ap, ◌∙◌, subst, arith, length-append}
+use Rattle.std.proofs.lemmas.List.{length-map, map-id}
+use Rattle.std.proofs.lemmas.Iterator.Adapters.{YieldsList-from_vec}
+use Rattle.std.proofs.lemmas.Iterator.Consumers.{YieldsList-turn, YieldsList-end}
 use Rattle.steal_pool.specs.declared.rule.Line.{Line}
 use Rattle.steal_pool.specs.declared.member.Member.{Member}
 use Rattle.steal_pool.specs.Seats.{AreUnused}
@@ -26,3 +29,26 @@ loop-own-preserved g c =
       omega (arith, ap length pushed, length-append crew (member ∷ []), n, inv.6),
       omega (arith, c.push_reserved.ensures.capacity, inv.7),
     )
+
+pub push_reserved-requires : goal.push_reserved-requires
+push_reserved-requires g c =
+    let owners = c.args.owners in
+    let crew = c.loop-own.crew in
+    let a = c.into_iter-own-iterator.ensures.into_iter_gives in
+    let inv = c.loop-own.invariant in
+    let t = YieldsList-turn (YieldsList-from_vec {s = c.into_iter-own-iterator.result} owners.items a.0 (a.1 ∙ owners.ok.0)) c.loop-own.yielded c.loop-own.own-iterator c.loop-own.yielded_by c.next.result c.next.new.self c.in-Some.own c.in-Some.is c.next.ensures.steps in
+    let n = sym (length-map crew.items (λ m. m.own)) ∙ ap length inv.2 in
+    omega (arith, t.0, inv.7, n, crew.ok.0, owners.ok.0)
+
+pub returns-clause-owners : goal.returns-clause-owners
+returns-clause-owners g c =
+    let owners = c.args.owners in
+    let a = c.into_iter-own-iterator.ensures.into_iter_gives in
+    let t = YieldsList-end (YieldsList-from_vec {s = c.into_iter-own-iterator.result} owners.items a.0 (a.1 ∙ owners.ok.0)) c.loop-own.yielded c.loop-own.own-iterator c.loop-own.yielded_by c.next.result c.next.new.self c.in-None.is c.next.ensures.steps in
+    c.loop-own.invariant.2 ∙ sym (map-id c.loop-own.yielded) ∙ t.0
+
+pub returns-clause-lines : goal.returns-clause-lines
+returns-clause-lines g c = c.loop-own.invariant.4
+
+pub returns-clause-fresh : goal.returns-clause-fresh
+returns-clause-fresh g c = c.loop-own.invariant.5

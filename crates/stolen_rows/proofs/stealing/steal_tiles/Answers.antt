@@ -9,8 +9,8 @@ use Rattle.stolen_rows.proofs.stealing.steal_tiles.Goals as goal
 pub run_stolen-requires-sync-T : goal.run_stolen-requires-sync-T
 run_stolen-requires-sync-T g c κs within = param_sync 1 _ (arg_sync _ no _ (tiles_cross _))
 
-pub returns : goal.returns
-returns g c =
+pub returns-clause-rows : goal.returns-clause-rows
+returns-clause-rows g c =
     let work = c.args.work in
     let answers = c.in_ok-batches.ensures.answers in
     zip_answers (λ tile batch. AreRowsOfTile (checked_by work.view) work.index.now tile work.changed.now batch) work.tiles.now c.in_ok-batches.batches.items answers.long answers.each

@@ -15,5 +15,5 @@ pub rows_anew-requires-clause-batches : goal.rows_anew-requires-clause-batches
 rows_anew-requires-clause-batches g c =
     let view = c.args.view in
     let index = c.args.index.now in
-    zip_alike (λ changed tile batch. AreRowsOfTile (checked_by view) index tile changed batch) c.deref-2.result.now c.deref-3.result.now c.deref.result.now c.deref-4.result.now c.in_ok-batches.batches.items c.deref-5.result.now
-    (c.deref-2.ensures.value ∙ sym c.deref-3.ensures.value) (c.deref.ensures.value ∙ sym c.deref-4.ensures.value) (sym c.deref-5.ensures.value) c.in_ok-batches.ensures
+    zip_alike (λ changed tile batch. AreRowsOfTile (checked_by view) index tile changed batch) c.deref-2.result.now c.deref-3.result.now c.deref.result.now c.deref-4.result.now c.in_ok-batches.field-0.batches.items c.deref-5.result.now
+    (c.deref-2.ensures.value ∙ sym c.deref-3.ensures.value) (c.deref.ensures.value ∙ sym c.deref-4.ensures.value) (sym c.deref-5.ensures.value) c.in_ok-batches.ensures.rows
