@@ -1,12 +1,12 @@
 //! The children of a footprint, in the order of the text.
 
-ghost use Rattle.std.specs.Prelude.{◌≡◌, ◌<◌, ◌∷◌, [], ℕ, Ok, IfOk, All};
+ghost use Rattle.std.specs.Prelude.{◌≡◌, ◌<◌, ◌∷◌, [], ℕ, Ok, IfOk, OnOk, All};
 ghost use Rattle.sexpr_read.specs.Views.{tree_of};
 ghost use Rattle.board_items.specs.Boards.{PlainBoard};
 ghost use Rattle.board_items.specs.declared.item.About.TheVariants.{FootZone};
 ghost use Rattle.part_read.specs.Elements.{name_in};
 ghost use Rattle.part_read.specs.Graphics.{note_of};
-ghost use Rattle.part_read.specs.Nodes.{Gives};
+ghost use Rattle.part_read.specs.Nodes.{Gives, Leaves};
 ghost use Rattle.part_read.specs.Grounds.{IsOn};
 ghost use Rattle.part_read.specs.Stances.{IsWithin};
 ghost use Rattle.part_read.specs.Ready.{IsReady};
@@ -14,7 +14,7 @@ ghost use Rattle.footprint_read.specs.FootprintOf.{items_of, giving, drawn_gives
 ghost use Rattle.footprint_read.specs.Appending.{onto};
 
 use crate::contents::Contents;
-use crate::court_lists::with_graphic;
+use crate::court_lists::add_graphic;
 use crate::notes::note_on;
 use board_items::{About, Board, BoardError, Item};
 use list_read::{has_head, place};
@@ -62,83 +62,69 @@ fn is_writing(node: Node<'_, '_>) -> bool
     has_head(node, b"fp_text") || has_head(node, b"fp_text_box") || has_head(node, b"property")
 }
 
-/// With items that this list gives.
-fn with_items(
-    contents: Contents,
+/// Adds items that this list gives.
+fn add_items(
+    contents: &mut Contents,
     node: Node<'_, '_>,
     items: Vec<Item>,
-) -> Result<Contents, AllocError>
-    ensures with { IfOk result (λ all. onto contents (giving (tree_of node.entry) (Ok items.items)) ≡ Ok all) }
-    ensures ready { (board : PlainBoard) (unit : ℕ) → All (IsReady board unit) (items_of contents.given) → All (IsReady board unit) items.items → IfOk result (λ all. All (IsReady board unit) (items_of all.given)) }
+) -> Result<(), AllocError>
+    ensures with { OnOk result (onto contents.old (giving (tree_of node.entry) (Ok items.items)) ≡ Ok contents.new) }
+    ensures ready { (board : PlainBoard) (unit : ℕ) → All (IsReady board unit) (items_of contents.old.given) → All (IsReady board unit) items.items → OnOk result (All (IsReady board unit) (items_of contents.new.given)) }
 {
-    Ok(Contents {
-        given: contents.given.with(place(node), items)?,
-        front: contents.front,
-        back: contents.back,
-    })
+    contents.given.append(place(node), items)
 }
 
-/// With a graphic on copper, on Edge.Cuts or in a courtyard.
+/// Adds a graphic on copper, on Edge.Cuts or in a courtyard.
 #[tactic(auto, using(crate::proofs::Appending::front_onto, crate::proofs::Appending::back_onto))]
-fn with_drawn(
+fn add_drawn(
     alloc: Global,
     board: &Board,
     unit: u32,
     head: &Head,
-    contents: Contents,
+    contents: &mut Contents,
     node: Node<'_, '_>,
     drawn: Drawn,
-) -> Result<Contents, BoardError>
+) -> Result<(), BoardError>
     requires quarter { head.now.stance.quarter < 4 }
     requires at { IsWithin 3000000000000 head.now.stance.at }
     requires on { IsOn board.now.copper drawn.lies }
-    requires ready { All (IsReady board.now unit) (items_of contents.given) }
-    ensures read { Gives result (onto contents (drawn_gives board.now unit head.now drawn.kind (tree_of node.entry) drawn.lies)) }
-    ensures ready { IfOk result (λ all. All (IsReady board.now unit) (items_of all.given)) }
+    requires ready { All (IsReady board.now unit) (items_of contents.old.given) }
+    ensures read { Leaves result contents.new (onto contents.old (drawn_gives board.now unit head.now drawn.kind (tree_of node.entry) drawn.lies)) }
+    ensures ready { OnOk result (All (IsReady board.now unit) (items_of contents.new.given)) }
 {
     match drawn.lies {
-        Ground::Front => Ok(Contents {
-            given: contents.given,
-            front: with_graphic(alloc, head.stance, drawn.kind, contents.front, node)?,
-            back: contents.back,
-        }),
-        Ground::Back => Ok(Contents {
-            given: contents.given,
-            front: contents.front,
-            back: with_graphic(alloc, head.stance, drawn.kind, contents.back, node)?,
-        }),
+        Ground::Front => add_graphic(alloc, head.stance, drawn.kind, &mut contents.front, node),
+        Ground::Back => add_graphic(alloc, head.stance, drawn.kind, &mut contents.back, node),
         lies => {
             let items = read_graphic(alloc, board, unit, head.stance, drawn.kind, node, lies)?;
-            Ok(with_items(contents, node, items)?)
+            Ok(add_items(contents, node, items)?)
         }
     }
 }
 
-/// With a curve: it is refused on copper and on Edge.Cuts, and in a courtyard it leaves the side unchecked.
+/// Adds a curve: it is refused on copper and on Edge.Cuts, and in a courtyard it leaves the side unchecked.
 #[tactic(auto, using(crate::proofs::Appending::front_onto, crate::proofs::Appending::back_onto))]
-fn with_arc(
+fn add_arc(
     alloc: Global,
-    contents: Contents,
+    contents: &mut Contents,
     node: Node<'_, '_>,
     lies: Ground,
-) -> Result<Contents, BoardError>
-    ensures read { Gives result (onto contents (arc_gives (tree_of node.entry) lies)) }
-    ensures same { IfOk result (λ all. items_of all.given ≡ items_of contents.given) }
+) -> Result<(), BoardError>
+    ensures read { Leaves result contents.new (onto contents.old (arc_gives (tree_of node.entry) lies)) }
+    ensures same { OnOk result (items_of contents.new.given ≡ items_of contents.old.given) }
 {
     match lies {
-        Ground::Front => Ok(Contents {
-            given: contents.given,
-            front: contents.front.with_curve(),
-            back: contents.back,
-        }),
-        Ground::Back => Ok(Contents {
-            given: contents.given,
-            front: contents.front,
-            back: contents.back.with_curve(),
-        }),
+        Ground::Front => {
+            contents.front.note_curve();
+            Ok(())
+        }
+        Ground::Back => {
+            contents.back.note_curve();
+            Ok(())
+        }
         lies => {
             let items = curve_by(alloc, node, lies)?;
-            Ok(with_items(contents, node, items)?)
+            Ok(add_items(contents, node, items)?)
         }
     }
 }
@@ -158,61 +144,61 @@ fn zone_notes(
     Ok(notes)
 }
 
-/// With what is neither a pad nor a graphic.
+/// Adds what is neither a pad nor a graphic.
 #[tactic(auto, using(crate::proofs::Appending::then_nothing))]
-fn with_other(
+fn add_other(
     alloc: Global,
     board: &Board,
     unit: u32,
-    contents: Contents,
+    contents: &mut Contents,
     node: Node<'_, '_>,
-) -> Result<Contents, BoardError>
-    requires ready { All (IsReady board.now unit) (items_of contents.given) }
-    ensures read { Gives result (onto contents (other_gives board.now unit (tree_of node.entry))) }
-    ensures ready { IfOk result (λ all. All (IsReady board.now unit) (items_of all.given)) }
+) -> Result<(), BoardError>
+    requires ready { All (IsReady board.now unit) (items_of contents.old.given) }
+    ensures read { Leaves result contents.new (onto contents.old (other_gives board.now unit (tree_of node.entry))) }
+    ensures ready { OnOk result (All (IsReady board.now unit) (items_of contents.new.given)) }
 {
     if is_curve(node) {
         let lies = ground_of(board.copper(), node)?;
-        return with_arc(alloc, contents, node, lies);
+        return add_arc(alloc, contents, node, lies);
     }
     if is_writing(node) {
         let lies = ground_of(board.copper(), node)?;
         let notes = read_text(alloc, board, unit, About::Text, node, lies)?;
-        return Ok(with_items(contents, node, notes)?);
+        return Ok(add_items(contents, node, notes)?);
     }
     if has_head(node, b"zone") {
         let notes = zone_notes(alloc, board, unit, node)?;
-        return Ok(with_items(contents, node, notes)?);
+        return Ok(add_items(contents, node, notes)?);
     }
-    Ok(contents)
+    Ok(())
 }
 
-/// A pad, a graphic, an edge, a note, or nothing.
+/// Adds a pad, a graphic, an edge, a note, or nothing.
 #[tactic(auto, using(crate::proofs::Standing::wider), unfolding(crate::specs::FootprintOf::child_gives))]
-fn with_child(
+fn add_child(
     alloc: Global,
     board: &Board,
     unit: u32,
     head: &Head,
-    contents: Contents,
+    contents: &mut Contents,
     node: Node<'_, '_>,
-) -> Result<Contents, BoardError>
+) -> Result<(), BoardError>
     requires quarter { head.now.stance.quarter < 4 }
     requires at { IsWithin 1000000000000 head.now.stance.at }
-    requires ready { All (IsReady board.now unit) (items_of contents.given) }
-    ensures read { Gives result (onto contents (child_gives board.now unit head.now (tree_of node.entry))) }
-    ensures ready { IfOk result (λ all. All (IsReady board.now unit) (items_of all.given)) }
+    requires ready { All (IsReady board.now unit) (items_of contents.old.given) }
+    ensures read { Leaves result contents.new (onto contents.old (child_gives board.now unit head.now (tree_of node.entry))) }
+    ensures ready { OnOk result (All (IsReady board.now unit) (items_of contents.new.given)) }
 {
     if has_head(node, b"pad") {
         let pad = pad_of(alloc, board, unit, head, node)?;
-        return Ok(with_items(contents, node, one(alloc, pad)?)?);
+        return Ok(add_items(contents, node, one(alloc, pad)?)?);
     }
     let Some(kind) = drawn_kind(node) else {
-        return with_other(alloc, board, unit, contents, node);
+        return add_other(alloc, board, unit, contents, node);
     };
     let lies = ground_of(board.copper(), node)?;
     let drawn = Drawn { kind, lies };
-    with_drawn(alloc, board, unit, head, contents, node, drawn)
+    add_drawn(alloc, board, unit, head, contents, node, drawn)
 }
 
 /// What all children give, in the order of the text.
@@ -231,7 +217,7 @@ pub fn contents_of(
 {
     let mut contents = Contents::new(alloc);
     for part in node.children() {
-        contents = with_child(alloc, board, unit, head, contents, part)?;
+        add_child(alloc, board, unit, head, &mut contents, part)?;
     }
     Ok(contents)
 }

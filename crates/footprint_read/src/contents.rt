@@ -1,6 +1,6 @@
 //! What the children of a footprint give.
 
-ghost use Rattle.std.specs.Prelude.{◌≡◌, ◌++◌, [], IfOk, OnOk};
+ghost use Rattle.std.specs.Prelude.{◌≡◌, ◌++◌, [], OnOk};
 ghost use Rattle.footprint_read.specs.FootprintOf.{empty, given_at};
 
 use crate::sides::CourtSide;
@@ -57,22 +57,18 @@ impl AllGiven {
         }
     }
 
-    /// With the items of the list at this place behind them.
-    pub fn with(self, place: u32, items: Vec<Item>) -> Result<AllGiven, AllocError>
-        ensures { IfOk result (λ all. all ≡ self ++ given_at place items.items) }
+    /// The items of the list at this place, behind the others.
+    pub fn append(&mut self, place: u32, items: Vec<Item>) -> Result<(), AllocError>
+        ensures { OnOk result (self.new ≡ self.old ++ given_at place items.items) }
     {
-        let mut list = self.list;
-        append_items(&mut list, place, items)?;
-        Ok(AllGiven { list })
+        append_items(&mut self.list, place, items)
     }
 
-    /// With these behind them.
-    pub fn and(self, more: AllGiven) -> Result<AllGiven, AllocError>
-        ensures { IfOk result (λ all. all ≡ self ++ more) }
+    /// These behind the others.
+    pub fn append_all(&mut self, more: AllGiven) -> Result<(), AllocError>
+        ensures { OnOk result (self.new ≡ self.old ++ more) }
     {
-        let mut list = self.list;
-        append_given(&mut list, more.list)?;
-        Ok(AllGiven { list })
+        append_given(&mut self.list, more.list)
     }
 
     pub fn into_list(self) -> Vec<Given>

@@ -1,11 +1,11 @@
 //! What the lists of courtyards add to their sides.
 
-ghost use Rattle.std.specs.Prelude.{◌≡◌, ◌<◌, ◌∷◌, [], IfOk};
+ghost use Rattle.std.specs.Prelude.{◌≡◌, ◌<◌, ◌∷◌, [], IfOk, OnOk};
 ghost use Rattle.sexpr_read.specs.Views.{tree_of};
 ghost use Rattle.list_read.specs.Heads.{has_head};
 ghost use Rattle.list_read.specs.Elements.{element};
 ghost use Rattle.part_read.specs.Elements.{in_needed};
-ghost use Rattle.part_read.specs.Nodes.{Gives};
+ghost use Rattle.part_read.specs.Nodes.{Leaves};
 ghost use Rattle.part_read.specs.Numbers.{spot_at};
 ghost use Rattle.part_read.specs.Stances.{IsWithin};
 ghost use Rattle.part_read.specs.Figures.{HasReach};
@@ -33,39 +33,31 @@ fn spot_needed(node: Node<'_, '_>, head: &[u8]) -> Result<Spot, BoardError>
     }
 }
 
-/// With a figure and all that it encloses, and nothing around it.
-fn with_figure(side: CourtSide, figure: Figure) -> Result<CourtSide, AllocError>
+/// Adds a figure and all that it encloses, and nothing around it.
+fn add_figure(side: &mut CourtSide, figure: Figure) -> Result<(), AllocError>
     requires { HasReach figure }
-    ensures { IfOk result (λ all. all ≡ side_then side (figure_side figure)) }
+    ensures { OnOk result (side.new ≡ side_then side.old (figure_side figure)) }
 {
     let drawing = Drawing {
         figure,
         width: 0,
         filled: true,
     };
-    Ok(CourtSide {
-        curved: side.curved,
-        drawings: side.drawings.with(drawing)?,
-        lines: side.lines,
-    })
+    side.drawings.push(drawing)
 }
 
-fn with_course(side: CourtSide, course: Course) -> Result<CourtSide, AllocError>
-    ensures { IfOk result (λ all. all ≡ side_then side (record empty_side { lines = course ∷ [] })) }
+fn add_course(side: &mut CourtSide, course: Course) -> Result<(), AllocError>
+    ensures { OnOk result (side.new ≡ side_then side.old (record empty_side { lines = course ∷ [] })) }
 {
-    Ok(CourtSide {
-        curved: side.curved,
-        drawings: side.drawings,
-        lines: side.lines.with(course)?,
-    })
+    side.lines.push(course)
 }
 
-/// With a line, which goes from one spot of the board to another.
+/// Adds a line, which goes from one spot of the board to another.
 #[tactic(auto, unfolding(crate::specs::Courtyards::line_side))]
-fn with_line(stance: Stance, side: CourtSide, node: Node<'_, '_>) -> Result<CourtSide, BoardError>
+fn add_line(stance: Stance, side: &mut CourtSide, node: Node<'_, '_>) -> Result<(), BoardError>
     requires quarter { stance.quarter < 4 }
     requires at { IsWithin 3000000000000 stance.at }
-    ensures { Gives result (onto_side side (line_side stance (tree_of node.entry))) }
+    ensures { Leaves result side.new (onto_side side.old (line_side stance (tree_of node.entry))) }
 {
     let start = spot_needed(node, b"start")?;
     let end = spot_needed(node, b"end")?;
@@ -73,28 +65,28 @@ fn with_line(stance: Stance, side: CourtSide, node: Node<'_, '_>) -> Result<Cour
         a: stand(stance, start),
         b: stand(stance, end),
     };
-    Ok(with_course(side, course)?)
+    Ok(add_course(side, course)?)
 }
 
-/// With a rectangle.
+/// Adds a rectangle.
 #[tactic(auto, unfolding(crate::specs::Courtyards::rect_side))]
-fn with_rect(side: CourtSide, node: Node<'_, '_>) -> Result<CourtSide, BoardError>
-    ensures { Gives result (onto_side side (rect_side (tree_of node.entry))) }
+fn add_rect(side: &mut CourtSide, node: Node<'_, '_>) -> Result<(), BoardError>
+    ensures { Leaves result side.new (onto_side side.old (rect_side (tree_of node.entry))) }
 {
     let start = spot_needed(node, b"start")?;
     let end = spot_needed(node, b"end")?;
-    Ok(with_figure(side, Figure::Rect(start, end))?)
+    Ok(add_figure(side, Figure::Rect(start, end))?)
 }
 
-/// With a circle.
+/// Adds a circle.
 #[tactic(auto, unfolding(crate::specs::Courtyards::circle_side))]
-fn with_circle(side: CourtSide, node: Node<'_, '_>) -> Result<CourtSide, BoardError>
-    ensures { Gives result (onto_side side (circle_side (tree_of node.entry))) }
+fn add_circle(side: &mut CourtSide, node: Node<'_, '_>) -> Result<(), BoardError>
+    ensures { Leaves result side.new (onto_side side.old (circle_side (tree_of node.entry))) }
 {
     let center = spot_needed(node, b"center")?;
     let end = spot_needed(node, b"end")?;
     let radius = radius_between(center, end);
-    Ok(with_figure(side, Figure::Circle(center, radius))?)
+    Ok(add_figure(side, Figure::Circle(center, radius))?)
 }
 
 /// Whether an arc stands among the spots.
@@ -109,40 +101,41 @@ fn has_arc(list: Node<'_, '_>) -> bool
     false
 }
 
-/// With an outline; one with an arc leaves the side unchecked.
+/// Adds an outline; one with an arc leaves the side unchecked.
 #[tactic(auto, unfolding(crate::specs::Courtyards::outline_side))]
-fn with_outline(alloc: Global, side: CourtSide, node: Node<'_, '_>) -> Result<CourtSide, BoardError>
-    ensures { Gives result (onto_side side (outline_side (tree_of node.entry))) }
+fn add_outline(alloc: Global, side: &mut CourtSide, node: Node<'_, '_>) -> Result<(), BoardError>
+    ensures { Leaves result side.new (onto_side side.old (outline_side (tree_of node.entry))) }
 {
     let Some(list) = element(node, b"pts") else {
         return Err(missing(node));
     };
     let spots = spots_in(alloc, list, true)?;
     if has_arc(list) {
-        return Ok(side.with_curve());
+        side.note_curve();
+        return Ok(());
     }
     if spots.len() < 3 {
         return Err(missing(list));
     }
-    Ok(with_figure(side, Figure::Outline(Corners::of(spots)))?)
+    Ok(add_figure(side, Figure::Outline(Corners::of(spots)))?)
 }
 
-/// With a graphic of this kind.
-pub fn with_graphic(
+/// Adds a graphic of this kind.
+pub fn add_graphic(
     alloc: Global,
     stance: Stance,
     kind: GraphicKind,
-    side: CourtSide,
+    side: &mut CourtSide,
     node: Node<'_, '_>,
-) -> Result<CourtSide, BoardError>
+) -> Result<(), BoardError>
     requires quarter { stance.quarter < 4 }
     requires at { IsWithin 3000000000000 stance.at }
-    ensures { Gives result (onto_side side (graphic_side stance kind (tree_of node.entry))) }
+    ensures { Leaves result side.new (onto_side side.old (graphic_side stance kind (tree_of node.entry))) }
 {
     match kind {
-        GraphicKind::Line => with_line(stance, side, node),
-        GraphicKind::Rect => with_rect(side, node),
-        GraphicKind::Circle => with_circle(side, node),
-        GraphicKind::Outline => with_outline(alloc, side, node),
+        GraphicKind::Line => add_line(stance, side, node),
+        GraphicKind::Rect => add_rect(side, node),
+        GraphicKind::Circle => add_circle(side, node),
+        GraphicKind::Outline => add_outline(alloc, side, node),
     }
 }

@@ -1,24 +1,26 @@
 //! Footprints.
 
-ghost use Rattle.std.specs.Prelude.{◌≡◌, ◌∷◌, [], true, is_some, IfOk, All};
+ghost use Rattle.std.specs.Prelude.{◌≡◌, ◌<◌, ◌∷◌, ◌++◌, [], codes, true, is_some, IfOk, OnOk, All};
 ghost use Rattle.sexpr_read.specs.Views.{tree_of};
 ghost use Rattle.board_items.specs.Boards.{name_of};
 ghost use Rattle.part_read.specs.Lists.{GivesItems};
 ghost use Rattle.part_read.specs.OnBoard.{fits_board};
 ghost use Rattle.part_read.specs.Ready.{IsReady, AreReady};
-ghost use Rattle.footprint_read.specs.Courtyards.{parts_in, lies_on_board};
+ghost use Rattle.part_read.specs.Stances.{IsWithin};
+ghost use Rattle.footprint_read.specs.Courtyards.{IsCourt, parts_in, lies_on_board};
 ghost use Rattle.footprint_read.specs.Bare.{AreBare};
-ghost use Rattle.footprint_read.specs.FootprintOf.{items_of, body_of, court_notes, all_given, with_room, in_room, is_placed, finished, SaysItems};
+ghost use Rattle.footprint_read.specs.FootprintOf.{given_at, items_of, body_of, court_notes, all_given, with_room, in_room, is_placed, finished, SaysItems};
 
 use crate::children::contents_of;
-use crate::contents::{AllGiven, Given};
+use crate::contents::{AllGiven, Contents, Given};
 use crate::courts::{Court, court_of};
 use crate::head::head_of;
 use crate::notes::note_on;
 use board_items::{About, Board, BoardError, Boxed, Item, Parts, What};
+use drc_io::Name;
 use list_read::place;
 use pad_read::Head;
-use part_read::{fits_board, has_room_after, name_of_list, no_parts, plain_item};
+use part_read::{Stance, fits_board, has_room_after, name_of_list, no_parts, plain_item};
 use plain_types::one;
 use sexpr_read::Node;
 use std::alloc::{AllocError, Global};
@@ -47,6 +49,54 @@ fn lies_on_board(court: &Court) -> bool
     !matches!(court, Court::Off)
 }
 
+fn boxed_parts(alloc: Global, court: Court) -> Result<Boxed<Parts>, AllocError>
+    ensures { IfOk result (λ parts. parts ≡ parts_in court) }
+{
+    Boxed::new(alloc, parts_in(alloc, court))
+}
+
+/// What the body of a footprint keeps apart: its reference and its courtyards.
+#[derive(Drop)]
+struct Yards {
+    reference: Boxed<Name>,
+    front: Boxed<Parts>,
+    back: Boxed<Parts>,
+}
+
+fn yards_of(alloc: Global, reference: Name, front: Court, back: Court) -> Result<Yards, AllocError>
+    ensures { IfOk result (λ yards. yards ≡ record { reference = reference; front = parts_in front; back = parts_in back }) }
+{
+    let reference = match Boxed::new(alloc, reference) {
+        Ok(reference) => reference,
+        Err(error) => {
+            drop(front);
+            drop(back);
+            return Err(error);
+        }
+    };
+    let front = match boxed_parts(alloc, front) {
+        Ok(front) => front,
+        Err(error) => {
+            drop(reference);
+            drop(back);
+            return Err(error);
+        }
+    };
+    let back = match boxed_parts(alloc, back) {
+        Ok(back) => back,
+        Err(error) => {
+            drop(reference);
+            drop(front);
+            return Err(error);
+        }
+    };
+    Ok(Yards {
+        reference,
+        front,
+        back,
+    })
+}
+
 /// The body of a footprint, with its courtyards.
 fn body_of(
     alloc: Global,
@@ -58,14 +108,29 @@ fn body_of(
 ) -> Result<Item, AllocError>
     ensures { IfOk result (λ body. body ≡ body_of unit head (tree_of node.entry) front back) }
 {
-    let name = name_of_list(alloc, node)?;
-    let what = What::Body {
-        reference: Boxed::new(alloc, head.reference)?,
-        front: Boxed::new(alloc, parts_in(alloc, front))?,
-        back: Boxed::new(alloc, parts_in(alloc, back))?,
-        on_back: head.on_back,
+    let at = head.stance.at;
+    let on_back = head.on_back;
+    let Yards {
+        reference,
+        front,
+        back,
+    } = yards_of(alloc, head.reference, front, back)?;
+    let name = match name_of_list(alloc, node) {
+        Ok(name) => name,
+        Err(error) => {
+            drop(reference);
+            drop(front);
+            drop(back);
+            return Err(error);
+        }
     };
-    Ok(plain_item(name, unit, 0, head.stance.at, no_parts(alloc), what))
+    let what = What::Body {
+        reference,
+        front,
+        back,
+        on_back,
+    };
+    Ok(plain_item(name, unit, 0, at, no_parts(alloc), what))
 }
 
 /// The note of a courtyard that is not checked.
@@ -84,6 +149,75 @@ fn court_notes(
     Ok(Vec::new(alloc))
 }
 
+/// The notes of the courtyards of both sides.
+#[derive(Drop)]
+struct CourtNotes {
+    front: Vec<Item>,
+    back: Vec<Item>,
+}
+
+fn notes_of(
+    alloc: Global,
+    unit: u32,
+    node: Node<'_, '_>,
+    front: &Court,
+    back: &Court,
+) -> Result<CourtNotes, AllocError>
+    ensures front { IfOk result (λ notes. notes.front.items ≡ court_notes unit (tree_of node.entry) (codes "F.CrtYd") front.now) }
+    ensures back { IfOk result (λ notes. notes.back.items ≡ court_notes unit (tree_of node.entry) (codes "B.CrtYd") back.now) }
+{
+    let front = court_notes(alloc, unit, node, "F.CrtYd", front)?;
+    match court_notes(alloc, unit, node, "B.CrtYd", back) {
+        Ok(back) => Ok(CourtNotes { front, back }),
+        Err(error) => {
+            drop(front);
+            Err(error)
+        }
+    }
+}
+
+/// The body, and then what the children give.
+fn with_body(alloc: Global, place: u32, body: Item, given: AllGiven) -> Result<AllGiven, AllocError>
+    ensures { IfOk result (λ all. all ≡ given_at place (body ∷ []) ++ given) }
+{
+    let body = match one(alloc, body) {
+        Ok(body) => body,
+        Err(error) => {
+            drop(given);
+            return Err(error);
+        }
+    };
+    let mut all = AllGiven::new(alloc);
+    match all.append(place, body) {
+        Ok(()) => {}
+        Err(error) => {
+            drop(given);
+            drop(all);
+            return Err(error);
+        }
+    }
+    match all.append_all(given) {
+        Ok(()) => Ok(all),
+        Err(error) => {
+            drop(all);
+            Err(error)
+        }
+    }
+}
+
+fn add_notes(all: &mut AllGiven, place: u32, notes: CourtNotes) -> Result<(), AllocError>
+    ensures { OnOk result (all.new ≡ (all.old ++ given_at place notes.front.items) ++ given_at place notes.back.items) }
+{
+    let CourtNotes { front, back } = notes;
+    match all.append(place, front) {
+        Ok(()) => all.append(place, back),
+        Err(error) => {
+            drop(back);
+            Err(error)
+        }
+    }
+}
+
 /// The body, what the children give, and the notes of the courtyards, the front first.
 fn all_given(
     alloc: Global,
@@ -96,13 +230,38 @@ fn all_given(
 ) -> Result<AllGiven, AllocError>
     ensures { IfOk result (λ all. all ≡ all_given unit head (tree_of node.entry) given front back) }
 {
-    let front_notes = court_notes(alloc, unit, node, "F.CrtYd", &front)?;
-    let back_notes = court_notes(alloc, unit, node, "B.CrtYd", &back)?;
-    let body = body_of(alloc, unit, head, node, front, back)?;
-    let first = AllGiven::new(alloc).with(place(node), one(alloc, body)?)?;
-    let all = first.and(given)?;
-    let all = all.with(place(node), front_notes)?;
-    all.with(place(node), back_notes)
+    let notes = match notes_of(alloc, unit, node, &front, &back) {
+        Ok(notes) => notes,
+        Err(error) => {
+            drop(head);
+            drop(given);
+            drop(front);
+            drop(back);
+            return Err(error);
+        }
+    };
+    let body = match body_of(alloc, unit, head, node, front, back) {
+        Ok(body) => body,
+        Err(error) => {
+            drop(given);
+            drop(notes);
+            return Err(error);
+        }
+    };
+    let mut all = match with_body(alloc, place(node), body, given) {
+        Ok(all) => all,
+        Err(error) => {
+            drop(notes);
+            return Err(error);
+        }
+    };
+    match add_notes(&mut all, place(node), notes) {
+        Ok(()) => Ok(all),
+        Err(error) => {
+            drop(all);
+            Err(error)
+        }
+    }
 }
 
 // ---- room
@@ -170,12 +329,33 @@ fn finished(
     ensures ready { IfOk result (λ items. AreReady board.now unit items.items) }
 {
     if !is_placed(&head, &courts.front, &courts.back) {
+        drop(head);
+        drop(given);
+        drop(courts);
         return Err(BoardError::OutOfBoard { at: place(node) });
     }
     let Courts { front, back } = courts;
     let all = all_given(alloc, unit, head, node, given, front, back)?;
     let items = in_room(alloc, board, unit, all.into_list())?;
     Ok(items)
+}
+
+fn courts_of(alloc: Global, stance: Stance, contents: &Contents) -> Result<Courts, AllocError>
+    requires quarter { stance.quarter < 4 }
+    requires at { IsWithin 3000000000000 stance.at }
+    ensures front { IfOk result (λ courts. IsCourt stance contents.now.front courts.front) }
+    ensures back { IfOk result (λ courts. IsCourt stance contents.now.back courts.back) }
+    ensures front_bare { IfOk result (λ courts. AreBare (parts_in courts.front)) }
+    ensures back_bare { IfOk result (λ courts. AreBare (parts_in courts.back)) }
+{
+    let front = court_of(alloc, stance, &contents.front)?;
+    match court_of(alloc, stance, &contents.back) {
+        Ok(back) => Ok(Courts { front, back }),
+        Err(error) => {
+            drop(front);
+            Err(error)
+        }
+    }
 }
 
 /// The items of a footprint: its body, then its pads, graphics, edges and notes in the order of the text, then a note for
@@ -196,8 +376,13 @@ pub fn read_footprint(
     board.soundness();
     let head = head_of(alloc, board.copper(), node)?;
     let contents = contents_of(alloc, board, unit, &head, node)?;
-    let front = court_of(alloc, head.stance, &contents.front)?;
-    let back = court_of(alloc, head.stance, &contents.back)?;
-    let courts = Courts { front, back };
+    let courts = match courts_of(alloc, head.stance, &contents) {
+        Ok(courts) => courts,
+        Err(_) => {
+            drop(head);
+            drop(contents);
+            return Err(BoardError::OutOfMemory);
+        }
+    };
     finished(alloc, board, unit, head, node, contents.given, courts)
 }

@@ -1,10 +1,9 @@
 //! The sides of a footprint, as far as its courtyards go.
 
-ghost use Rattle.std.specs.Prelude.{◌≡◌, ◌++◌, ◌∷◌, [], IfOk, All};
+ghost use Rattle.std.specs.Prelude.{◌≡◌, ◌++◌, ◌∷◌, [], OnOk, All};
 ghost use Rattle.part_read.specs.Figures.{IsDrawable};
 
 use part_read::{Drawing, Spot};
-use plain_types::Listed;
 use std::alloc::{AllocError, Global};
 use std::marker::Model;
 
@@ -42,19 +41,57 @@ impl Drawings {
         }
     }
 
-    /// With one more.
-    pub fn with(self, drawing: Drawing) -> Result<Drawings, AllocError>
+    /// One more behind the others.
+    pub fn push(&mut self, drawing: Drawing) -> Result<(), AllocError>
         requires { IsDrawable drawing }
-        ensures { IfOk result (λ all. all ≡ self ++ drawing ∷ []) }
+        ensures { OnOk result (self.new ≡ self.old ++ drawing ∷ []) }
     {
-        let mut list = self.list;
-        list.push(drawing)?;
-        Ok(Drawings { list })
+        self.list.push(drawing)?;
+        Ok(())
     }
 
     pub fn as_slice(&self) -> &[Drawing]
         ensures same { result.now ≡ self.now }
         ensures drawable { All IsDrawable result.now }
+    {
+        &self.list
+    }
+}
+
+/// Lines. Contracts see the list.
+#[derive(Drop)]
+pub struct Courses {
+    list: Vec<Course>,
+}
+
+impl Model for Courses {
+    ghost use Rattle.std.specs.Prelude.{List};
+    ghost use Rattle.footprint_read.specs.declared.sides.Course.{Course};
+
+    ghost Value = { List Course };
+
+    ghost view = { λ c. c.list.items };
+}
+
+impl Courses {
+    pub fn new(alloc: Global) -> Courses
+        ensures { result ≡ [] }
+    {
+        Courses {
+            list: Vec::new(alloc),
+        }
+    }
+
+    /// One more behind the others.
+    pub fn push(&mut self, course: Course) -> Result<(), AllocError>
+        ensures { OnOk result (self.new ≡ self.old ++ course ∷ []) }
+    {
+        self.list.push(course)?;
+        Ok(())
+    }
+
+    pub fn as_slice(&self) -> &[Course]
+        ensures { result.now ≡ self.now }
     {
         &self.list
     }
@@ -66,7 +103,7 @@ pub struct CourtSide {
     /// It has a curve.
     pub curved: bool,
     pub drawings: Drawings,
-    pub lines: Listed<Course>,
+    pub lines: Courses,
 }
 
 impl CourtSide {
@@ -79,19 +116,15 @@ impl CourtSide {
         CourtSide {
             curved: false,
             drawings: Drawings::new(alloc),
-            lines: Listed::new(alloc),
+            lines: Courses::new(alloc),
         }
     }
 
-    /// With a curve.
+    /// Notes that it has a curve.
     #[tactic(auto, using(crate::proofs::Appending::side_curved))]
-    pub fn with_curve(self) -> CourtSide
-        ensures { result ≡ side_then self curve_side }
+    pub fn note_curve(&mut self)
+        ensures { self.new ≡ side_then self.old curve_side }
     {
-        CourtSide {
-            curved: true,
-            drawings: self.drawings,
-            lines: self.lines,
-        }
+        self.curved = true;
     }
 }
