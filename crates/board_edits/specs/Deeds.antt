@@ -1,5 +1,5 @@
 -- What a command does to a board, or why it is refused. A refused command leaves the board as it is.
-use Rattle.std.specs.Prelude.{◌≡◌, ℕ, ℤ, List, [], ◌∷◌, Result, Ok, Err, if◌then◌else◌}
+use Rattle.std.specs.Prelude.{◌≡◌, ℕ, ℤ, List, [], ◌∷◌, Result, Ok, Err, if◌then◌else◌, ⊤}
 use Rattle.board_errors.specs.declared.errors.BoardError.{BoardError}
 use Rattle.board_errors.specs.declared.errors.BoardError.TheVariants.{OutOfBoard}
 use Rattle.board_items.specs.declared.found.Found.{Found}
@@ -58,6 +58,14 @@ Does board (delete name at) answer = answer ≡ to_unit (found_of name board.ite
 Does board (move name dx dy at) answer = answer ≡ to_unit (found_of name board.items) (shifted board dx dy at)
 Does board (rules text at) answer = answer ≡ Ok nothing
 Does board (again at) answer = answer ≡ Ok nothing
+
+-- the command gives no item: a list that has none is added, or the report is written again
+abbrev pub GivesNoItem : PlainBoard → PlainCommand → Type 0
+GivesNoItem board (add text at) = SaysItem board board.next_unit text at (Ok [])
+GivesNoItem board (delete name at) = ⊥
+GivesNoItem board (move name dx dy at) = ⊥
+GivesNoItem board (rules text at) = ⊥
+GivesNoItem board (again at) = ⊤
 
 -- ---- one command after another
 

@@ -1,12 +1,13 @@
 -- What a command that leaves the rules asks for is done to the board.
-use Rattle.std.proofs.Common.{◌≡◌, ◌≢◌, ◌⊎◌, inl, inr, refl, sym, subst, ap, ◌∙◌, false, Result, Ok, Err}
+use Rattle.std.proofs.Common.{◌≡◌, ◌≢◌, ◌⊎◌, inl, inr, refl, sym, subst, ap, ◌∙◌, false, [], Result, Ok, Err}
 use Rattle.board_items.specs.Boards.{PlainBoard}
 use Rattle.edit_script.specs.declared.command.Command.{Command}
 use Rattle.edit_script.specs.declared.command.Command.TheVariants.{Add, Delete, Move, Rules as RulesIn, Again}
 use Rattle.edit_script.specs.Commands.{PlainCommand, add, delete, move, rules, again, plain_command}
 use Rattle.board_edits.specs.declared.refusal.Refusal.{Refusal}
 use Rattle.board_edits.specs.declared.refusal.Refusal.TheVariants.{NoSuchItem as NoItem, SharedName as Shared, PartOfFootprint as Part, Item as ItemRefused, OutOfMemory as NoMemory}
-use Rattle.board_edits.specs.Deeds.{PlainDeed, Does}
+use Rattle.board_edits.specs.Deeds.{PlainDeed, nothing, append, appended, Does, GivesNoItem}
+use Rattle.board_edits.specs.Fitting.{GivesNothing}
 use Rattle.rule_text.specs.declared.error.RuleError.{RuleError}
 use Rattle.rule_text.specs.ListText.{SaysList}
 use Rattle.drc_state.specs.declared.error.EditError.{EditError}
@@ -28,6 +29,17 @@ pub makes_answer : (old new : State) (board : PlainBoard) (command : PlainComman
 makes_answer old new board command deed none same does makes =
     answers old command (Ok new) (Ok deed) none (subst (λ (b : PlainBoard). Does b command (Ok deed)) (sym same) does)
     (new.board, makes.0, ap (λ (s : State). Ok s) makes.1)
+
+-- what gives no item is a deed that gives nothing
+ok_once : (x y : PlainDeed) (r : Result PlainDeed Refusal) → r ≡ Ok x → r ≡ Ok y → x ≡ y
+ok_once x y r h k = cc
+
+pub gives_nothing : (board : PlainBoard) (command : PlainCommand) (deed : PlainDeed) → ((answer : Result PlainDeed Refusal) → Does board command answer → answer ≡ Ok deed) → GivesNoItem board command → GivesNothing deed
+gives_nothing board (add text at) deed only none = subst GivesNothing (ok_once (append []) deed (Ok (append [])) refl (only (Ok (append [])) (Ok [], none, refl))) tt
+gives_nothing board (delete name at) deed only none = absurd none
+gives_nothing board (move name dx dy at) deed only none = absurd none
+gives_nothing board (rules text at) deed only none = absurd none
+gives_nothing board (again at) deed only none = subst GivesNothing (ok_once nothing deed (Ok nothing) refl (only (Ok nothing) refl)) tt
 
 pub no_rules : (command : Command) → ((text : _) (at : _) → command ≡ RulesIn text at → ⊥) → is_rules (plain_command command) ≡ false
 no_rules (Add text at) none = refl

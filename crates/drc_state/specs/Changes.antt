@@ -4,7 +4,7 @@ use Rattle.board_items.specs.Back.{kept_entry}
 use Rattle.rule_text.specs.RulesOf.{PlainRules}
 use Rattle.rule_text.specs.Views.{plain_rules}
 use Rattle.board_edits.specs.Deeds.{PlainDeed, nothing, put_back, take_out, shift, After}
-use Rattle.board_edits.specs.Fitting.{plain_deed, DeedFits, returned_board}
+use Rattle.board_edits.specs.Fitting.{plain_deed, DeedFits, GivesNothing, returned_board}
 use Rattle.drc_state.specs.declared.change.Change.{Change}
 use Rattle.drc_state.specs.declared.change.Change.TheVariants.{Nothing, PutBack, TakeOut, Shift, Replace}
 use Rattle.drc_state.specs.declared.change.Edit.{Edit}
@@ -35,6 +35,15 @@ plain_edit (OfRules rules) = replace (plain_rules rules)
 abbrev pub is_replace : PlainChange → Bool
 is_replace (replace rules) = true
 is_replace (edit deed) = false
+
+-- all stays as it is
+abbrev pub no_change : PlainChange
+no_change = edit nothing
+
+-- a deed that gives nothing
+abbrev pub ChangesNothing : PlainChange → Type 0
+ChangesNothing (edit deed) = GivesNothing deed
+ChangesNothing (replace rules) = ⊥
 
 -- the change makes the one state the other
 abbrev pub Makes : PlainChange → State → State → Type 0

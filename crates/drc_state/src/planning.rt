@@ -6,10 +6,11 @@ ghost use Rattle.rule_text.specs.ListText.{SaysList};
 ghost use Rattle.rule_text.specs.Views.{plain_rules};
 ghost use Rattle.edit_script.specs.Commands.{plain_command};
 ghost use Rattle.edit_script.specs.Fits.{Fits};
+ghost use Rattle.board_edits.specs.Deeds.{GivesNoItem};
 ghost use Rattle.drc_state.specs.declared.error.EditError.{EditError};
 ghost use Rattle.drc_state.specs.States.{State};
 ghost use Rattle.drc_state.specs.Steps.{is_rules, Answers};
-ghost use Rattle.drc_state.specs.Changes.{plain_edit, is_replace, Makes, ChangeFits};
+ghost use Rattle.drc_state.specs.Changes.{plain_edit, is_replace, ChangesNothing, Makes, ChangeFits};
 
 use crate::change::Edit;
 use crate::error::EditError;
@@ -42,6 +43,7 @@ pub fn edit_of(alloc: Global, board: &Board, command: &Command<'_>) -> Result<Ed
     ensures made { (old new : State) → old.board ≡ board.now → IfOk result (λ e. Makes (plain_edit e) old new → Answers old (plain_command command.now) (Ok new)) }
     ensures fits { (old : State) → old.board ≡ board.now → IfOk result (λ e. ChangeFits old (plain_edit e)) }
     ensures kind { IfOk result (λ e. is_replace (plain_edit e) ≡ is_rules (plain_command command.now)) }
+    ensures none { IfOk result (λ e. GivesNoItem board.now (plain_command command.now) → ChangesNothing (plain_edit e)) }
     ensures refused { (old : State) → old.board ≡ board.now → IfErr result (λ why. (why ≡ EditError.OutOfMemory) ⊎ Answers old (plain_command command.now) (Err why)) }
     ensures never { IfErr result (λ why. why ≢ EditError.Stopped) }
 {

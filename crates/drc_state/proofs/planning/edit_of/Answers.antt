@@ -3,7 +3,7 @@ use Rattle.std.proofs.lemmas.Result.{err_from_is_err_and}
 use Rattle.board_items.specs.Boards.{PlainBoard}
 use Rattle.edit_script.specs.Commands.{plain_command}
 use Rattle.board_edits.specs.Fitting.{plain_deed, DeedFits}
-use Rattle.drc_state.proofs.Planned.{makes_answer, no_rules, refused, rules_refused, not_stopped}
+use Rattle.drc_state.proofs.Planned.{makes_answer, gives_nothing, no_rules, refused, rules_refused, not_stopped}
 use Rattle.drc_state.proofs.planning.edit_of.Goals as goal
 
 pub returns-in_err-rules-in-Rules-clause-refused : goal.returns-in_err-rules-in-Rules-clause-refused
@@ -31,3 +31,7 @@ returns-in_ok-deed_of-in_default-clause-fits c = λ old same. subst (λ (b : Pla
 
 pub returns-in_ok-deed_of-in_default-clause-kind : goal.returns-in_ok-deed_of-in_default-clause-kind
 returns-in_ok-deed_of-in_default-clause-kind c = sym (no_rules c.args.command.now c.in_default.not-Rules)
+
+pub returns-in_ok-deed_of-in_default-clause-none : goal.returns-in_ok-deed_of-in_default-clause-none
+returns-in_ok-deed_of-in_default-clause-none c =
+    gives_nothing c.args.board.now (plain_command c.args.command.now) (plain_deed c.in_ok-deed_of-in_default.field-0) c.in_ok-deed_of-in_default.ensures.only
