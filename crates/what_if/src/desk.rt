@@ -85,7 +85,10 @@ impl<'a> Desk<'a> {
         let mut copy = self.take_copy()?;
         match copy.apply_kept(rt, workers, command, gate) {
             Ok((_, back)) => Ok((copy, back)),
-            Err(EditError::OutOfMemory) => Err(TrialError::OutOfMemory),
+            Err(EditError::OutOfMemory) => {
+                drop(copy);
+                Err(TrialError::OutOfMemory)
+            }
             Err(inner) => {
                 self.copy = Some(copy);
                 Err(TrialError::Refused { step: 0, inner })
@@ -111,6 +114,8 @@ impl<'a> Desk<'a> {
         turned_back();
         if is_turned_back(command) && copy.turn(rt, workers, back, &NoGate).is_ok() {
             self.copy = Some(copy);
+        } else {
+            drop(copy);
         }
     }
 
