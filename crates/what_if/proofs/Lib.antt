@@ -2,7 +2,6 @@ pub mod Missing
 pub mod Leading
 pub mod Stopping
 pub mod WayBack
-pub mod DeskKept
 pub mod Placed
 pub mod RunCounts
 pub mod Crossing

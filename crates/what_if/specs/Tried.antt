@@ -1,5 +1,5 @@
 -- What a trial gives, and why there is none.
-use Rattle.std.specs.Prelude.{◌≡◌, ◌≢◌, ℕ, false, List, Ok, Err}
+use Rattle.std.specs.Prelude.{◌≡◌, ◌≢◌, ◌⊎◌, ℕ, true, false, List, Ok, Err}
 use Rattle.edit_script.specs.Commands.{PlainCommand}
 use Rattle.drc_state.specs.declared.error.EditError.TheVariants.{Stopped, OutOfMemory as NoMemory}
 use Rattle.drc_state.specs.States.{State}
@@ -42,3 +42,7 @@ pub record IsTaken (before : State) (command : PlainCommand) (after : State) (ta
 abbrev pub IsRefusedHere : PlainSession → PlainSession → PlainCommand → TrialError → Type 0
 IsRefusedHere old new command (Refused step inner) = (step ≡ 0) × Answers old.state command (Err inner) × (inner ≢ Stopped) × (inner ≢ NoMemory) × (new ≡ old)
 IsRefusedHere old new command OutOfMemory = Unit {0}
+
+-- what want of memory leaves of the session: it is stopped, or it took the command, and only the rows that come and go are wanting
+abbrev pub IsStoppedOrTook : PlainSession → PlainSession → PlainCommand → Type 0
+IsStoppedOrTook old new command = (new.stopped ≡ true) ⊎ ((new.stopped ≡ false) × Answers old.state command (Ok new.state))

@@ -9,8 +9,7 @@ ghost use Rattle.what_if.specs.Trials.{IsCount};
 ghost use Rattle.what_if.specs.Tried.{IsRefusedAt};
 
 use crate::error::TrialError;
-use crate::here::is_turned_back;
-use crate::laws::turned_back;
+use crate::here::{is_turned_back, turn_back};
 use drc_session::Session;
 use drc_state::{Change, EditError};
 use edit_script::Command;
@@ -66,6 +65,15 @@ impl<'a> Desk<'a> {
         }
     }
 
+    /// Keeps a copy that is at the state of the session.
+    fn keep(&mut self, copy: Session)
+        requires running { copy.stopped ≡ false }
+        requires state { copy.state ≡ self.old.state }
+        ensures same { self.new ≡ self.old }
+    {
+        drop(self.copy.replace(copy));
+    }
+
     /// The copy once it took the command, and the change that leads back.
     fn take<R: Threads + Sync + AllocGlobal, G: Gate>(
         &mut self,
@@ -84,10 +92,16 @@ impl<'a> Desk<'a> {
     {
         let mut copy = self.take_copy()?;
         match copy.apply_kept(rt, workers, command, gate) {
-            Ok((_, back)) => Ok((copy, back)),
-            Err(EditError::OutOfMemory) => Err(TrialError::OutOfMemory),
+            Ok((applied, back)) => {
+                drop(applied);
+                Ok((copy, back))
+            }
+            Err(EditError::OutOfMemory) => {
+                drop(copy);
+                Err(TrialError::OutOfMemory)
+            }
             Err(inner) => {
-                self.copy = Some(copy);
+                self.keep(copy);
                 Err(TrialError::Refused { step: 0, inner })
             }
         }
@@ -108,9 +122,14 @@ impl<'a> Desk<'a> {
         requires back { LeadsBack (plain_change back) copy.state self.old.state }
         ensures same { self.new ≡ self.old }
     {
-        turned_back();
-        if is_turned_back(command) && copy.turn(rt, workers, back, &NoGate).is_ok() {
-            self.copy = Some(copy);
+        if !is_turned_back(command) {
+            drop(back);
+            drop(copy);
+            return;
+        }
+        match turn_back(&mut copy, rt, workers, back) {
+            Ok(()) => self.keep(copy),
+            Err(_) => drop(copy),
         }
     }
 

@@ -1,13 +1,14 @@
 //! Commands that are tried on a session itself, which is turned back after each.
 
-ghost use Rattle.std.specs.Prelude.{◌≡◌, ◌<◌, ◌≤◌, true, false, Ok, OnOk, OnErr, IfOk, IfErr};
+ghost use Rattle.std.specs.Prelude.{◌≡◌, ◌<◌, ◌≤◌, true, false, Ok, Err, OnOk, OnErr, IfOk, IfErr};
 ghost use Rattle.edit_script.specs.Commands.{PlainCommand, plain_command};
 ghost use Rattle.edit_script.specs.Fits.{Fits};
 ghost use Rattle.pair_check.specs.Rows.{AreRows};
 ghost use Rattle.drc_state.specs.States.{State, checked_in};
 ghost use Rattle.drc_state.specs.Steps.{Answers};
 ghost use Rattle.drc_state.specs.Changes.{plain_change, ChangeFits, LeadsBack};
-ghost use Rattle.what_if.specs.Tried.{IsTaken, IsRefusedHere};
+ghost use Rattle.what_if.specs.declared.error.TrialError.{TrialError};
+ghost use Rattle.what_if.specs.Tried.{IsTaken, IsRefusedHere, IsStoppedOrTook};
 ghost use Rattle.what_if.specs.Desks.{adds, turns_back};
 
 use crate::error::TrialError;
@@ -35,8 +36,8 @@ pub fn is_turned_back(command: &Command<'_>) -> bool
 }
 
 /// Carries the command out on the session itself, with so many workers, from 1 to 64, and says what came of it since it had these rows.
-/// `Refused` says exactly that the command is refused, at step 0, and then the session is as it was. Where memory runs out nothing is known
-/// of it.
+/// `Refused` says exactly that the command is refused, at step 0, and then the session is as it was. Where memory runs out the session is
+/// stopped, or it is not and took the command.
 pub fn take<R: Threads + Sync + AllocGlobal, G: Gate>(
     session: &mut Session,
     before: &[Row],
@@ -52,12 +53,16 @@ pub fn take<R: Threads + Sync + AllocGlobal, G: Gate>(
     ensures running { OnOk result (session.new.stopped ≡ false) }
     ensures taken { IfOk result (IsTaken session.old.state (plain_command command.now) session.new.state) }
     ensures refused { IfErr result (IsRefusedHere session.old session.new (plain_command command.now)) }
+    ensures wanting { result ≡ Err TrialError.OutOfMemory → IsStoppedOrTook session.old session.new (plain_command command.now) }
 {
     match session.apply_kept(rt, workers, command, gate) {
-        Ok((_, back)) => {
-            let (come, gone) = difference(rt.alloc(), before, session)?;
-            Ok(Taken { come, gone, back })
-        }
+        Ok((_, back)) => match difference(rt.alloc(), before, session) {
+            Ok((come, gone)) => Ok(Taken { come, gone, back }),
+            Err(_) => {
+                drop(back);
+                Err(TrialError::OutOfMemory)
+            }
+        },
         Err(EditError::OutOfMemory) => Err(TrialError::OutOfMemory),
         Err(inner) => Err(TrialError::Refused { step: 0, inner }),
     }

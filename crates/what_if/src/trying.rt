@@ -99,8 +99,13 @@ fn taken<R: Threads + Sync + AllocGlobal, G: Gate>(
     ensures refused { IfErr result (IsRefusal session.now.state (map plain_command commands.now)) }
 {
     let mut copy = session.copy()?;
-    take_all(&mut copy, rt, workers, commands, gate)?;
-    Ok(copy)
+    match take_all(&mut copy, rt, workers, commands, gate) {
+        Ok(()) => Ok(copy),
+        Err(why) => {
+            drop(copy);
+            Err(why)
+        }
+    }
 }
 
 /// The rows and the nets of a session are those of its state. The function does nothing.
@@ -131,10 +136,15 @@ pub fn trial<R: Threads + Sync + AllocGlobal, G: Gate>(
 {
     let tried = taken(session, rt, workers, commands, gate)?;
     is_checked(&tried);
-    let (come, gone) = difference(rt.alloc(), session.rows(), &tried)?;
-    Ok(Trial {
-        session: tried,
-        come,
-        gone,
-    })
+    match difference(rt.alloc(), session.rows(), &tried) {
+        Ok((come, gone)) => Ok(Trial {
+            session: tried,
+            come,
+            gone,
+        }),
+        Err(_) => {
+            drop(tried);
+            Err(TrialError::OutOfMemory)
+        }
+    }
 }

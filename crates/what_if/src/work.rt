@@ -66,11 +66,21 @@ impl<'a, R: Threads + Sync, G: Gate> TileWork for Trials<'a, R, G> {
             self.gate.after(place as u32);
             let count = match counted {
                 Ok(count) => count,
-                Err(error) => return Err(error),
+                Err(error) => {
+                    drop(desk);
+                    return Err(error);
+                }
             };
-            counts.push(count)?;
+            match counts.push(count) {
+                Ok(()) => {}
+                Err(_) => {
+                    drop(desk);
+                    return Err(AllocError);
+                }
+            }
             place += self.stride as usize;
         }
+        drop(desk);
         Ok(counts)
     }
 }

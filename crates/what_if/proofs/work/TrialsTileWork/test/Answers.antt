@@ -15,7 +15,7 @@ places-preserved g c =
     let count = subst (λ (x : PlainSession). IsCountAt x.state commands c.places.place c.in-Ok.count) inv.same found in
     record {
       same = c.count_at-counted.ensures.same ∙ inv.same;
-      so_far = run_more work.session.now.state commands c.args.number work.stride c.places.place c.places.counts.items c.push.new.self.items c.in-Ok.count inv.so_far count c.in_ok-push.ensures.items;
+      so_far = run_more work.session.now.state commands c.args.number work.stride c.places.place c.places.counts.items c.push.new.self.items c.in-Ok.count inv.so_far count c.in-Ok-push.ensures.items;
     }
 
 pub returns : goal.returns
