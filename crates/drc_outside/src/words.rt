@@ -9,12 +9,19 @@ use std::env::{Args, Env};
 use std::io::ErrorKind;
 use std::{env, io};
 
+/// All the words, as they came.
+fn all_of(alloc: Global, words: Args) -> Result<Vec<String>, AllocError>
+    ensures { IfOk result (λ line. line.items ≡ into_iter_items words) }
+{
+    words.collect(alloc)
+}
+
 /// The words of a line that were given. A line that is not text has none.
 fn gathered(alloc: Global, given: io::Result<Args>) -> Result<Vec<String>, AllocError>
     ensures { IfOk result (λ line. MatchResult given (λ words. line.items ≡ into_iter_items words) (λ e. (error_kind e ≢ ErrorKind.OutOfMemory) × (line.items ≡ []))) }
 {
     match given {
-        Ok(words) => words.collect(alloc),
+        Ok(words) => all_of(alloc, words),
         Err(e) if e.kind() == ErrorKind::OutOfMemory => Err(AllocError),
         Err(_) => Ok(Vec::new(alloc)),
     }
