@@ -235,7 +235,8 @@ class Board:
         plain_one = VIA.fullmatch(node.text, node.at, node.end)
         if plain_one:
             x, y, size, drill, first, last, net, name = plain_one.groups()
-            at, size, drill, ends = (round(float(x) * 1e6), round(float(y) * 1e6)), float(size), float(drill), (first.decode('utf-8', 'replace'), last.decode('utf-8', 'replace'))
+            at, size, drill = (round(float(x) * 1e6), round(float(y) * 1e6)), float(size), float(drill)
+            ends = tuple(word.decode('utf-8', 'replace') for word in (first, last))
             net, unit.known = self.nets.get(net.decode(), ''), name.decode('utf-8', 'replace')
         else:
             at, ends, net = point(node, 'at'), (node.first('layers') or Node(0)).atoms(), self.net_of(node)
@@ -359,10 +360,10 @@ class Board:
             if layer not in DRAWINGS:
                 continue
             try:
-                x, y, u, v, width = [float(word) for word in line.group(1, 2, 3, 4, 5 if line.group(5) else 8)] if line else [None] * 5
-            except ValueError:
-                line = None
-            shapes += [strip(layer, 'drawing', max(width, 0.05), stance.draw([(x * 1e6, y * 1e6), (u * 1e6, v * 1e6)]))] if line else figure(part, layer, 'drawing', stance, 0.05)[0]
+                x, y, u, v, width = [float(word) for word in line.group(1, 2, 3, 4, 5 if line.group(5) else 8)]
+                shapes.append(strip(layer, 'drawing', max(width, 0.05), stance.draw([(x * 1e6, y * 1e6), (u * 1e6, v * 1e6)])))
+            except (AttributeError, ValueError):
+                shapes += figure(part, layer, 'drawing', stance, 0.05)[0]
         return shapes
 
 
