@@ -2,6 +2,7 @@
 import gc
 import http.server
 import os
+import signal
 import threading
 import time
 import files
@@ -84,9 +85,10 @@ def watch(words, one, again, tell):
     server = Server(words.serve) if words.serve is not None else None
     if server:
         server.show(one)
-        print('the page: %s' % server.address, flush=True)
+        tell.say('the page: %s' % server.address)
     seen = stamps(words)
-    print('waiting for the files to be saved; Ctrl-C ends', flush=True)
+    tell.say('waiting for the files to be saved; Ctrl-C ends')
+    signal.signal(signal.SIGTERM, signal.default_int_handler)
     try:
         while True:
             time.sleep(LOOK)
@@ -107,5 +109,5 @@ def watch(words, one, again, tell):
                 server.show(one)
             gc.collect()
     except KeyboardInterrupt:
-        print()
+        pass
     return one.status
