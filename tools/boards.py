@@ -5,7 +5,7 @@ for, by its name or as a whole, so that of a large board only that is read which
 """
 import bisect
 import re
-from sexpr import Node, forms, nanometres, unescaped
+from sexpr import Node, nanometres, root_of, unescaped
 from shapes import FIRST_CORNER, Stance, arc, area, corners, figure, hole_shape, pad_shapes, plain_area, plain_strip, point, strip
 
 COPPER = ['F.Cu'] + ['In%d.Cu' % k for k in range(1, 31)] + ['B.Cu']
@@ -90,8 +90,9 @@ class Unit:
         if self.read is None:
             self.read = []
             self.board.fill(self)
-            # What is drawn later is taken apart again, so that a large board fits.
-            self.node.forget()
+            # A large board is tracks, vias and fills: what is drawn of them later is taken apart again. Of footprints the page needs more.
+            if self.node.head != 'footprint':
+                self.node.forget()
         return self.read
 
     def take(self, item):
@@ -131,7 +132,7 @@ class Board:
 
     def __init__(self, text, source='board'):
         self.text, self.source = text, source
-        root = next((form for form in forms(text) if form.head == 'kicad_pcb'), Node(0))
+        root = root_of(text, 'kicad_pcb')
         self.copper, self.nets, self.units, self.added = [], {}, [], []
         for node in root.lists():
             head = node.head

@@ -14,7 +14,7 @@ import collections
 import math
 import re
 import sys
-from sexpr import LEAF, LEAVES, LENGTH, Lines, Node, forms, nanometres
+from sexpr import LEAF, LEAVES, LENGTH, Lines, Node, nanometres
 from boards import COPPER, SEGMENT, reference_of
 from ends import status_of
 from shapes import PLAIN_CORNERS, plain_numbers
@@ -537,7 +537,10 @@ def version_said(version):
 def faults(text):
     """all that is found in a text of bytes, in the order in which drc would come upon it"""
     fault = text_fault(text)
-    return [Fault(*fault, 'the text is not one list', 'text', '')] if fault else Finder(forms(text)[0]).look()
+    if fault:
+        return [Fault(*fault, 'the text is not one list', 'text', '')]
+    # It is one list, from the first bracket to the last.
+    return Finder(Node(text.index(b'('), text, text.rindex(b')') + 1)).look()
 
 
 def said(fault):
