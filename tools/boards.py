@@ -5,7 +5,7 @@ for, by its name or as a whole, so that of a large board only that is read which
 """
 import bisect
 import re
-from sexpr import Node, forms, nanometres, unescaped
+from sexpr import Node, nanometres, root_of, unescaped
 from shapes import FIRST_CORNER, Stance, arc, area, corners, figure, hole_shape, pad_shapes, plain_area, plain_strip, point, strip
 
 COPPER = ['F.Cu'] + ['In%d.Cu' % k for k in range(1, 31)] + ['B.Cu']
@@ -90,8 +90,9 @@ class Unit:
         if self.read is None:
             self.read = []
             self.board.fill(self)
-            # What is drawn later is taken apart again, so that a large board fits.
-            self.node.forget()
+            # A large board is tracks, vias and fills: what is drawn of them later is taken apart again. Of footprints the page needs more.
+            if self.node.head != 'footprint':
+                self.node.forget()
         return self.read
 
     def take(self, item):
@@ -131,7 +132,7 @@ class Board:
 
     def __init__(self, text, source='board'):
         self.text, self.source = text, source
-        root = next((form for form in forms(text) if form.head == 'kicad_pcb'), Node(0))
+        root = root_of(text, 'kicad_pcb')
         self.copper, self.nets, self.units, self.added = [], {}, [], []
         for node in root.lists():
             head = node.head
@@ -235,7 +236,8 @@ class Board:
         plain_one = VIA.fullmatch(node.text, node.at, node.end)
         if plain_one:
             x, y, size, drill, first, last, net, name = plain_one.groups()
-            at, size, drill, ends = (round(float(x) * 1e6), round(float(y) * 1e6)), float(size), float(drill), (first.decode('utf-8', 'replace'), last.decode('utf-8', 'replace'))
+            at, size, drill = (round(float(x) * 1e6), round(float(y) * 1e6)), float(size), float(drill)
+            ends = tuple(word.decode('utf-8', 'replace') for word in (first, last))
             net, unit.known = self.nets.get(net.decode(), ''), name.decode('utf-8', 'replace')
         else:
             at, ends, net = point(node, 'at'), (node.first('layers') or Node(0)).atoms(), self.net_of(node)
@@ -359,10 +361,10 @@ class Board:
             if layer not in DRAWINGS:
                 continue
             try:
-                x, y, u, v, width = [float(word) for word in line.group(1, 2, 3, 4, 5 if line.group(5) else 8)] if line else [None] * 5
-            except ValueError:
-                line = None
-            shapes += [strip(layer, 'drawing', max(width, 0.05), stance.draw([(x * 1e6, y * 1e6), (u * 1e6, v * 1e6)]))] if line else figure(part, layer, 'drawing', stance, 0.05)[0]
+                x, y, u, v, width = [float(word) for word in line.group(1, 2, 3, 4, 5 if line.group(5) else 8)]
+                shapes.append(strip(layer, 'drawing', max(width, 0.05), stance.draw([(x * 1e6, y * 1e6), (u * 1e6, v * 1e6)])))
+            except (AttributeError, ValueError):
+                shapes += figure(part, layer, 'drawing', stance, 0.05)[0]
         return shapes
 
 

@@ -1,4 +1,4 @@
-"""How the tools read a report, and how they end: what is not read or written is one line on standard error, and status 2."""
+"""How the tools read a report, and how they end: what is not read or written is one line on standard error, and status 2, of tools/check 5."""
 import codecs
 import errno
 import gc
@@ -19,8 +19,8 @@ def text_of(name):
         raise OSError(errno.EILSEQ, 'no UTF-8 at byte %d' % error.start, name) from None
 
 
-def status_of(main):
-    """runs a tool, and gives the status that it ends with"""
+def status_of(main, lost=2):
+    """runs a tool, and gives the status that it ends with: `lost` where a file was not read or written"""
     # A board is many small objects and no rings of them; looking for rings would take a third of the time.
     gc.disable()
     try:
@@ -36,4 +36,4 @@ def status_of(main):
     if sys.stdout:
         # What is left is not tried again at the end.
         os.dup2(os.open(os.devnull, os.O_WRONLY), sys.stdout.fileno())
-    return 2
+    return lost

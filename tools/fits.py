@@ -14,7 +14,7 @@ import collections
 import math
 import re
 import sys
-from sexpr import LEAF, LEAVES, LENGTH, Lines, Node, forms, nanometres
+from sexpr import LEAF, LEAVES, LENGTH, Lines, Node, nanometres
 from boards import COPPER, SEGMENT, reference_of
 from ends import status_of
 from shapes import PLAIN_CORNERS, plain_numbers
@@ -308,8 +308,7 @@ class Finder:
     def track(self, item):
         plain = SEGMENT.fullmatch(item.node.text, item.node.at, item.node.end)
         # Of those that are as KiCad writes them nothing more has to be asked.
-        if plain and plain.group(6).decode('utf-8', 'replace') in self.copper and int(plain.group(7)[:10]) in self.nets and len(plain.group(7)) <= 10 and (
-                max(abs(float(each)) for each in plain.groups()[:5]) <= FAR / 1e6) and not plain.group(5).startswith(b'-'):
+        if plain and self.is_fine(*plain.group(6, 7), plain.groups()[:4], plain.groups()[4:5]):
             self.count += 1
             return
         item.point('start'), item.point('end'), item.size('width', 'width')
@@ -318,6 +317,11 @@ class Finder:
         item.net()
         item.close()
         self.count += 1
+
+    def is_fine(self, layer, net, points, sizes):
+        """whether a layer, a net, numbers of points and sizes are such as are read"""
+        return (layer.decode('utf-8', 'replace') in self.copper and len(net) <= 10 and int(net) in self.nets and
+                all(abs(float(each)) <= FAR / 1e6 for each in points) and all(0 <= float(each) <= FAR / 1e6 and each[:1] != b'-' for each in sizes))
 
     def via(self, item):
         item.point('at'), item.size('size', 'size'), item.size('drill', 'drill', False)
@@ -533,7 +537,10 @@ def version_said(version):
 def faults(text):
     """all that is found in a text of bytes, in the order in which drc would come upon it"""
     fault = text_fault(text)
-    return [Fault(*fault, 'the text is not one list', 'text', '')] if fault else Finder(forms(text)[0]).look()
+    if fault:
+        return [Fault(*fault, 'the text is not one list', 'text', '')]
+    # It is one list, from the first bracket to the last.
+    return Finder(Node(text.index(b'('), text, text.rindex(b')') + 1)).look()
 
 
 def said(fault):

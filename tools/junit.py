@@ -14,7 +14,8 @@ def case(board, name, failures):
     head = '  <testcase classname="%s" name="%s"' % (escaped(board), escaped(name))
     if not failures:
         return head + '/>'
-    return '%s>\n    <failure message="%s">%s</failure>\n  </testcase>' % (head, escaped('%d: %s' % (len(failures), failures[0])), escaped('\n'.join(failures[:1000])))
+    message, text = '%d: %s' % (len(failures), failures[0]), '\n'.join(failures[:1000])
+    return '%s>\n    <failure message="%s">%s</failure>\n  </testcase>' % (head, escaped(message), escaped(text))
 
 
 def in_junit(verdicts):
@@ -29,7 +30,8 @@ def in_junit(verdicts):
             cases = [('read', [])]
             rules = list(KINDS) + ['open-net', 'not-checked', 'unknown-constraint', 'refused-command']
             for rule in rules:
-                cases.append((title(rule) + ' (%s)' % rule, ['%s:%d:%d: %s' % (*place_of(found.first, result.board), found.message) for found in verdict.failing if found.rule == rule]))
+                told = ['%s:%d:%d: %s' % (*place_of(found.first, result.board), found.message) for found in verdict.failing if found.rule == rule]
+                cases.append(('%s (%s)' % (title(rule), rule), told))
         bad = sum(bool(failures) for _, failures in cases)
         total, failed = total + len(cases), failed + bad
         suites.append('<testsuite name="%s" tests="%d" failures="%d" errors="0">\n%s\n</testsuite>' % (

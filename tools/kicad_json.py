@@ -28,9 +28,12 @@ def in_kicad_json(result):
     for row in last['rows'] if last else []:
         kind = KINDS[row['kind']]
         words = ', '.join(word for word in (values(row), source_said(row)) if word)
-        violations.append(violation(kind.kicad, row['severity'], kind.title + (' (%s)' % words if words else ''), [item_of(item) for item in row['items']], row.get('project')))
+        description = kind.title + (' (%s)' % words if words else '')
+        violations.append(violation(kind.kicad, row['severity'], description, [item_of(item) for item in row['items']], row.get('project')))
     for net in last['open_nets'] if last else []:
         for link in net['links']:
-            unconnected.append(violation('unconnected_items', 'error', 'Missing connection between items', [item_of(item) for item in link['ends']], net.get('project')))
-    return {'$schema': 'https://schemas.kicad.org/drc.v1.json', 'source': os.path.basename(result.board), 'date': datetime.datetime.now().astimezone().isoformat(timespec='seconds'),
-            'kicad_version': 'none: written by drc', 'coordinate_units': 'mm', 'violations': violations, 'unconnected_items': unconnected, 'schematic_parity': []}
+            ends = [item_of(item) for item in link['ends']]
+            unconnected.append(violation('unconnected_items', 'error', 'Missing connection between items', ends, link.get('project')))
+    return {'$schema': 'https://schemas.kicad.org/drc.v1.json', 'source': os.path.basename(result.board),
+            'date': datetime.datetime.now().astimezone().isoformat(timespec='seconds'), 'kicad_version': 'none: written by drc', 'coordinate_units': 'mm',
+            'violations': violations, 'unconnected_items': unconnected, 'schematic_parity': []}

@@ -73,7 +73,8 @@ def version(program):
     except OSError:
         described = 'unknown'
     whole, why = proved(program)
-    return ['drc tools %s' % described, 'program %s' % program, 'sha256 %s' % checksum(program), '%s: %s' % ('proved' if whole else 'not known to be proved', why)]
+    said = '%s: %s' % ('proved' if whole else 'not known to be proved', why)
+    return ['drc tools %s' % described, 'program %s' % program, 'sha256 %s' % checksum(program), said]
 
 
 class Run:

@@ -9,7 +9,8 @@ from telling import FORMAT, Teller, refusal_of, strangers
 
 
 class Result:
-    """a run on one board; a viewer sees each state while it is told, and is then its `page`. `outcome` is reported, refused or fault; `fault` is a line for people where there is no whole report"""
+    """a run on one board. `outcome` is reported, refused or fault; `fault` is a line for people where there is no whole report, and
+    `strange` where the report is not that of this board. A viewer sees each state while it is told, and is then its `page`"""
 
     def __init__(self, files, report_text, wishes=None, viewer=None):
         self.files = files
@@ -49,15 +50,16 @@ class Result:
         name, at = self.refusal['name'], self.refusal['at']
         # drc decides: where the second reading does not see the same first, drc's line goes before.
         if not found or (found[0].name, found[0].at) != (name, at):
-            found = [fits.Fault(name, at, self.refusal['message'], 'what drc refused first', '')] + [fault for fault in found if (fault.name, fault.at) != (name, at)]
+            first = fits.Fault(name, at, self.refusal['message'], 'what drc refused first', '')
+            found = [first] + [fault for fault in found if (fault.name, fault.at) != (name, at)]
         return found
 
     def fault_data(self):
         told = []
         for fault in self.faults:
             file, line, column = self.places.place('board', fault.at)
-            told.append({'name': fault.name, 'number': fits.NUMBERS.get(fault.name, self.refusal['number']), 'at': fault.at, 'sort': fault.sort, 'part': fault.part,
-                         'file': file, 'line': line, 'column': column, 'message': fault.what})
+            number = fits.NUMBERS.get(fault.name, self.refusal['number'])
+            told.append({'name': fault.name, 'number': number, 'at': fault.at, 'sort': fault.sort, 'part': fault.part, 'file': file, 'line': line, 'column': column, 'message': fault.what})
         return told
 
     def document(self):

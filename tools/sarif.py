@@ -29,8 +29,8 @@ def location(told, board, number=None):
 def result_of(found, state, board, rules, levels):
     if found.rule not in rules:
         rules.append(found.rule)
-    told = {'ruleId': found.rule, 'ruleIndex': rules.index(found.rule), 'level': levels.get(found.severity, found.severity), 'message': {'text': plain_text(found.message)},
-            'locations': [location(found.first, board)],
+    told = {'ruleId': found.rule, 'ruleIndex': rules.index(found.rule), 'level': levels.get(found.severity, found.severity),
+            'message': {'text': plain_text(found.message)}, 'locations': [location(found.first, board)],
             'relatedLocations': [location(other, board, k + 1) for k, other in enumerate(found.others[:MOST_RELATED])],
             'properties': {'report': state['report']}}
     if found.mark:
@@ -48,7 +48,8 @@ def run_of(result, states, levels):
         for fault in faults[:MOST_RESULTS]:
             rule = 'refused-' + result.refusal['text']
             rules += [rule] if rule not in rules else []
-            results.append({'ruleId': rule, 'ruleIndex': 0, 'level': 'error', 'message': {'text': plain_text(fault['message'])}, 'locations': [location(fault, board)]})
+            results.append({'ruleId': rule, 'ruleIndex': 0, 'level': 'error', 'message': {'text': plain_text(fault['message'])},
+                            'locations': [location(fault, board)]})
         left = len(faults) - len(results)
     else:
         left = 0
@@ -67,7 +68,8 @@ def run_of(result, states, levels):
         notes.insert(0, {'level': 'error', 'message': {'text': result.fault}})
     told = [{'id': rule, 'shortDescription': {'text': kinds.title(rule)}, 'fullDescription': {'text': kinds.about(rule) or kinds.title(rule)},
              'help': {'text': kinds.explained(rule) or kinds.title(rule)}} for rule in rules]
-    return {'tool': {'driver': {'name': 'drc', 'rules': told}}, 'automationDetails': {'id': 'drc/%s/' % urllib.parse.quote(board.strip('/'))}, 'columnKind': 'unicodeCodePoints',
+    return {'tool': {'driver': {'name': 'drc', 'rules': told}}, 'columnKind': 'unicodeCodePoints',
+            'automationDetails': {'id': 'drc/%s/' % urllib.parse.quote(board.strip('/'))},
             'invocations': [{'executionSuccessful': result.outcome == 'reported', 'toolExecutionNotifications': notes}], 'results': results}
 
 

@@ -160,6 +160,16 @@ def forms(text, comments=False):
     return [part for part in parts_of(text, 0, len(text)) if isinstance(part, Node)]
 
 
+def root_of(text, head):
+    """the first list at the top of a text with this head, or an empty one; a text that is one list is not gone through for its end"""
+    begin, end = text.find(b'('), text.rfind(b')') + 1
+    if begin >= 0 and end > begin and not text[:begin].strip() and not text[end:].strip():
+        root = Node(begin, text, end)
+        if root.head == head:
+            return root
+    return next((form for form in forms(text) if form.head == head), Node(0))
+
+
 def nanometres(text):
     """the whole nanometres of a length in millimetres, cut toward zero; None where it is no number"""
     match = LENGTH.fullmatch(text) if len(text) <= 64 else None

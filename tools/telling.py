@@ -44,7 +44,8 @@ def row_said(row):
     """a row in the words of KiCad, its names and values behind it"""
     where = ' on ' + row['layer'] if row['layer'] else ''
     told, source = values(row), source_said(row)
-    return '%s%s: %s%s%s' % (row['kind'], where, ' | '.join(item['said'] for item in row['items']), ': ' + told if told else '', ' (%s)' % source if source else '')
+    items = ' | '.join(item['said'] for item in row['items'])
+    return '%s%s: %s%s%s' % (row['kind'], where, items, ': ' + told if told else '', ' (%s)' % source if source else '')
 
 
 def count_of(number, one, many=None):
@@ -114,7 +115,7 @@ class Teller:
                 link['project'] = self.wishes.of('open-net', items)
             links.append(link)
         told = {'net': net.name, 'groups': groups, 'links': links, 'text': net.line, 'fingerprint': self.print_of('open-net', [], net.name)}
-        told['message'] = 'unconnected: net [%s] is in %s, %s' % (plain(net.name), count_of(len(groups), 'piece'), count_of(len(links), 'connection') + ' to be routed')
+        told['message'] = 'unconnected: net [%s] is in %s, %s to be routed' % (plain(net.name), count_of(len(groups), 'piece'), count_of(len(links), 'connection'))
         if self.wishes:
             told['project'] = self.wishes.of('open-net', [])
             # A net is left aside where each of its links is.
@@ -147,7 +148,8 @@ class Teller:
         told['constraint'], told['rule'] = name, note.name
         if meant != '':
             told['severity'] = 'warning'
-            told['message'] = 'constraint %s of rule "%s" is none that KiCad has%s, so nothing of it is checked' % (name, note.name, ' (is %s meant?)' % meant if meant else '')
+            asked = ' (is %s meant?)' % meant if meant else ''
+            told['message'] = 'constraint %s of rule "%s" is none that KiCad has%s, so nothing of it is checked' % (name, note.name, asked)
         at = self.rule_place(note.name, name)
         if at is not None:
             self.put(told, 'rules', at)
@@ -201,7 +203,8 @@ def refusal_of(report, places):
     found = report.refusal
     which, name, at = found.group(1), found.group(2), int(found.group(3))
     file, line, column = places.place(which, at)
-    return {'text': which, 'name': name.split(' (')[0], 'number': name.split(' (')[1][:-1], 'at': at, 'file': file, 'line': line, 'column': column, 'message': found.group()}
+    return {'text': which, 'name': name.split(' (')[0], 'number': name.split(' (')[1][:-1], 'at': at, 'file': file, 'line': line, 'column': column,
+            'message': found.group()}
 
 
 def strangers(report, placed):
@@ -209,7 +212,9 @@ def strangers(report, placed):
     if not report.states or report.states[0].number != 0 or report.states[0].refused is not None:
         return None
     strange, named = placed.strange(report.states[0])
-    return '%d of %d items are not on this board where the report says: is this its report? (first: %s)' % (len(strange), named, strange[0].text) if strange else None
+    if not strange:
+        return None
+    return '%d of %d items are not on this board where the report says: is this its report? (first: %s)' % (len(strange), named, strange[0].text)
 
 
 class Finding:
@@ -218,7 +223,8 @@ class Finding:
     __slots__ = ('severity', 'rule', 'message', 'first', 'others', 'mark', 'project')
 
     def __init__(self, severity, rule, message, first, others=(), mark='', project=None):
-        self.severity, self.rule, self.message, self.first, self.others, self.mark, self.project = severity, rule, message, first, list(others), mark, project
+        self.severity, self.rule, self.message, self.first, self.others = severity, rule, message, first, list(others)
+        self.mark, self.project = mark, project
 
 
 def findings(state, by_link=False):
@@ -235,4 +241,5 @@ def findings(state, by_link=False):
         if not by_link or not net['links']:
             yield Finding('open', 'open-net', net['message'], ends[0] if ends else {}, ends[1:], net['fingerprint'], net.get('project'))
     for note in state['not_checked']:
-        yield Finding(note['severity'], 'unknown-constraint' if note['severity'] == 'warning' else 'not-checked', note['message'], note, [], note['fingerprint'])
+        rule = 'unknown-constraint' if note['severity'] == 'warning' else 'not-checked'
+        yield Finding(note['severity'], rule, note['message'], note, [], note['fingerprint'])

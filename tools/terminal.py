@@ -13,9 +13,12 @@ COLORS = {'error': '31;1', 'warning': '33;1', 'note': '36', 'place': '1', 'good'
 class Teller:
     """tells the boards that were checked"""
 
-    def __init__(self, color, whole):
-        plain = color == 'never' or color == 'auto' and ('NO_COLOR' in os.environ or not sys.stdout.isatty() or os.environ.get('TERM') == 'dumb')
-        self.colored, self.most = not plain, None if whole else MOST
+    def __init__(self, color, whole, out):
+        plain = color == 'never' or color == 'auto' and ('NO_COLOR' in os.environ or not out.isatty() or os.environ.get('TERM') == 'dumb')
+        self.colored, self.most, self.out = not plain, None if whole else MOST, out
+
+    def say(self, text):
+        print(text, file=self.out, flush=True)
 
     def paint(self, text, color):
         return '\033[%sm%s\033[0m' % (COLORS[color], text) if self.colored else text
@@ -29,19 +32,19 @@ class Teller:
             print('check: %s' % one.trouble, file=sys.stderr)
         if not one.verdict:
             return
-        print(files.said(one.files, words))
+        self.say(files.said(one.files, words))
         counts = collections.Counter()
         for key, line in self.refused(one) if one.result.refusal else self.found(one):
             counts[key] += 1
             if self.most is None or counts[key] <= self.most:
-                print(line)
+                print(line, file=self.out)
         for key, count in counts.items():
             if self.most is not None and count > self.most:
-                print('%d more of %s; --all shows them' % (count - self.most, key))
+                self.say('%d more of %s; --all shows them' % (count - self.most, key))
         for line in fits.sum_lines(one.result.faults):
-            print('  ' + line)
+            self.say('  ' + line)
         told = '%s: %s%s. %.2f s' % (one.files['board'], {0: 'passes: ', 1: 'fails: '}.get(one.status, ''), one.verdict.sum(), one.seconds)
-        print(self.paint(told, 'error' if one.status else 'good'), flush=True)
+        self.say(self.paint(told, 'error' if one.status else 'good'))
 
     def found(self, one):
         verdict = one.verdict
@@ -63,12 +66,11 @@ class Teller:
         """what came and what went between two runs of a board"""
         before, now = ({line for _, line in self.keyed(one)} for one in (old, new))
         for line in sorted(before - now):
-            print(self.paint('- ' + line, 'good'))
+            self.say(self.paint('- ' + line, 'good'))
         for line in sorted(now - before):
-            print(self.paint('+ ' + line, 'error'))
+            self.say(self.paint('+ ' + line, 'error'))
         if before == now:
-            print('nothing came and nothing went')
-        sys.stdout.flush()
+            self.say('nothing came and nothing went')
 
     @staticmethod
     def keyed(one):

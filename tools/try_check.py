@@ -119,6 +119,7 @@ def table(folder):
         ('a baseline that is none', said('amp.kicad_pcb', '--baseline', 'amp.kicad_pcb'), 4, ['check: amp.kicad_pcb: ']),
         ('a baseline that is not there', said('amp.kicad_pcb', '--baseline', 'nope'), 4, ['check: nope: No such file or directory']),
         ('a file that cannot be written', said('amp.kicad_pcb', '--json', 'nope/x.json'), 5, ['check: nope/x.json: No such file or directory']),
+        ('JSON on standard output', said('amp.kicad_pcb', '--json', '-'), 1, ['{\n "format": "drc-report/1",', 'amp.kicad_pcb: fails: 3 errors']),
         ('colours', said('amp.kicad_pcb', '--color', 'always'), 1, ['\033[31;1merror\033[0m: clearance']),
         ('many of a kind', said('many.kicad_pcb'), 1, ['5 more of short; --all shows them\n']),
         ('an environment of GitHub', said('amp.kicad_pcb', env={'GITHUB_ACTIONS': 'true', 'GITHUB_STEP_SUMMARY': os.path.join(folder.path, 'summary.md')}), 1, [

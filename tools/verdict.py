@@ -4,6 +4,7 @@
 that is told and written they are never left out.
 """
 import collections
+from kinds import KINDS
 from telling import count_of, findings
 
 FAIL_ON = ('error', 'warning', 'open', 'unchecked-rule', 'misspelt', 'unchecked')
@@ -65,12 +66,14 @@ class Verdict:
     def sum(self):
         """all in one line"""
         if self.result.refusal:
-            return 'not read, so nothing was checked' + (': %s in the way' % count_of(len(self.result.faults), 'thing is', 'things are') if self.result.faults else '')
-        rows = [found for found in self.findings if found.severity in ('error', 'warning') and found.rule != 'unknown-constraint' and not found.rule.startswith('refused-')]
+            faults = len(self.result.faults)
+            return 'not read, so nothing was checked' + (': %s in the way' % count_of(faults, 'thing is', 'things are') if faults else '')
+        rows = [found for found in self.findings if found.rule in KINDS]
         told = []
         for severity in ('error', 'warning'):
             kinds = collections.Counter(found.rule for found in rows if self.severity(found) == severity)
-            told.append(count_of(sum(kinds.values()), severity) + (' (%s)' % ', '.join('%d %s' % (count, kind) for kind, count in kinds.most_common()) if kinds else ''))
+            each = ', '.join('%d %s' % (count, kind) for kind, count in kinds.most_common())
+            told.append(count_of(sum(kinds.values()), severity) + (' (%s)' % each if each else ''))
         last = self.result.last()
         nets = [net for net in last['open_nets'] if not (self.as_project and net.get('project') and net['project']['off'])] if last else []
         links = [link['length_nm'] for net in nets for link in net['links']]

@@ -35,6 +35,7 @@ HOLES = {'hole': '#c2c200', 'bare-hole': '#1ac4d2', 'via-hole': '#e3b72e'}
 SORTS = ['drawing', 'fill', 'area', 'courtyard', 'edge', 'graphic', 'track', 'pad', 'via', 'via-hole', 'hole', 'bare-hole']
 # From the lowest to the highest.
 ORDER = ['B.Fab', 'B.SilkS'] + COPPER[::-1] + ['Pads', 'Vias', 'Holes', 'Rule areas', 'F.SilkS', 'F.Fab', 'B.CrtYd', 'F.CrtYd', 'Edge.Cuts']
+COUNTED = (('rows', 'violation'), ('open nets', 'unconnected net'), ('not checked', 'not checked', 'not checked'))
 OFF_AT_FIRST = ('B.Fab', 'F.Fab', 'B.SilkS')
 
 
@@ -140,7 +141,8 @@ class Picture:
     def switches(self):
         """the layers as the page switches them, from the highest: id, name, color, and whether it is on at first"""
         layers = [('layer%d' % k, layer, COLORS.get(layer, '#888'), layer not in OFF_AT_FIRST) for k, layer in enumerate(self.layers())][::-1]
-        return [('references', 'references', '#f2eda1', True)] + layers + [('links', 'open links', '#00f8ff', True), ('marks', 'rows', '#ff5f6d', True), ('notes', 'not checked', '#9aa3b0', True)]
+        told = [('links', 'open links', '#00f8ff', True), ('marks', 'rows', '#ff5f6d', True), ('notes', 'not checked', '#9aa3b0', True)]
+        return [('references', 'references', '#f2eda1', True)] + layers + told
 
 
 class Page:
@@ -181,9 +183,8 @@ class Page:
         boxes = [self.items[k]['box'] for k in items]
         # A via beside a fill is what one wants to see, and not the whole fill.
         focus = min(boxes, key=lambda b: (b[2] - b[0]) * (b[3] - b[1]))
-        source = source_said(told)
-        return {'severity': row.severity, 'kind': row.kind, 'layer': told['layer'] or '-', 'values': values(told), 'source': source, 'short': told.get('short_by_nm', 0),
-                'text': row.line, 'items': items, 'focus': focus, 'spot': spot_of(focus), 'came': came, 'off': (told.get('project') or {}).get('off') or ''}
+        return {'severity': row.severity, 'kind': row.kind, 'layer': told['layer'] or '-', 'values': values(told), 'source': source_said(told),
+                'short': told.get('short_by_nm', 0), 'text': row.line, 'items': items, 'focus': focus, 'spot': spot_of(focus), 'came': came, 'off': (told.get('project') or {}).get('off') or ''}
 
     def net(self, net, told):
         links = [{'line': [n / 1e6 for end in ends for n in end.position], 'said': link['message']} for (_, ends), link in zip(net.links, told['links'])]
@@ -213,10 +214,10 @@ class Page:
         new = {row['text'] for row in rows}
         # What went is shown where it stood before the command.
         went = [{**row, 'came': False} for row in self.shown if row['text'] not in new]
-        counts = [count_of(state.counts[what], *words) for what, words in (('rows', ('violation',)), ('open nets', ('unconnected net',)), ('not checked', ('not checked', 'not checked')))
-                  if what in state.counts]
+        counts = [count_of(state.counts[what], *words) for what, *words in COUNTED if what in state.counts]
         self.states.append({'name': 'report %d' % state.number + (', +%d -%d' % (sum(row['came'] for row in rows), len(went)) if state.number else ''),
-                            'command': self.command(state.number), 'rows': rows, 'went': went, 'nets': [self.net(net, data) for net, data in zip(state.nets, told['open_nets'])],
+                            'command': self.command(state.number), 'rows': rows, 'went': went,
+                            'nets': [self.net(net, data) for net, data in zip(state.nets, told['open_nets'])],
                             'notes': [self.note({**data, 'found': found}) for data, found in zip(told['not_checked'], notes)],
                             'sum': ', '.join(counts + ([state.tiles] if state.number and state.tiles else [])), 'moves': moves})
         self.shown = rows
@@ -252,9 +253,10 @@ class RefusedPage(Page):
         super().__init__(self)
         self.moved, self.commands = {}, []
         starts = [unit.at for unit in self.board.units]
-        rows = [self.fault(fault, told, starts) for fault, told in zip(result.faults, result.fault_data())] if result.refusal['text'] == 'board' else []
-        self.states = [{'name': 'refused', 'command': '', 'rows': rows, 'went': [], 'nets': [], 'notes': [], 'units': {}, 'sum': 'not read, so nothing was checked',
-                        'refused': '%s:%d:%d: %s' % (*(result.refusal[key] for key in ('file', 'line', 'column', 'message')),), 'advice': list(fits.sum_lines(result.faults))}]
+        rows = [self.fault(fault, told, starts) for fault, told in zip(result.faults, result.fault_data())]
+        self.states = [{'name': 'refused', 'command': '', 'rows': rows, 'went': [], 'nets': [], 'notes': [], 'units': {},
+                        'sum': 'not read, so nothing was checked', 'refused': '{file}:{line}:{column}: {message}'.format(**result.refusal),
+                        'advice': list(fits.sum_lines(result.faults))}]
 
     def shift(self, _):
         return 0, 0
@@ -269,8 +271,8 @@ class RefusedPage(Page):
         if found:
             parts = [item.box() for item in (unit.items if found.word == 'footprint' else [found]) if item.shapes] or [found.box()]
             items, focus = [self.item(found.said() + text, found, '  line %d' % told['line'])], rounded(joined(parts))
-        return {'severity': 'error', 'kind': fits.SORTS.get(fault.sort, (fault.sort,))[0], 'layer': '-', 'values': fits.said(fault), 'source': '', 'short': 0, 'text': text,
-                'items': items, 'focus': focus, 'spot': spot_of(focus) if found else None, 'came': False, 'off': ''}
+        return {'severity': 'error', 'kind': fits.SORTS.get(fault.sort, (fault.sort,))[0], 'layer': '-', 'values': fits.said(fault), 'source': '',
+                'short': 0, 'text': text, 'items': items, 'focus': focus, 'spot': spot_of(focus) if found else None, 'came': False, 'off': ''}
 
 
 def page_of(name, result, page):

@@ -2,6 +2,7 @@
 import gc
 import http.server
 import os
+import signal
 import threading
 import time
 import files
@@ -11,7 +12,8 @@ LOOK, REST = 0.3, 0.2
 RELOAD = '''<script>
 (() => {
   let first = null;
-  setInterval(() => fetch('/stamp').then(answer => answer.text()).then(stamp => { if (first === null) first = stamp; else if (stamp !== first) location.reload(); }).catch(() => {}), 500);
+  const look = stamp => { if (first === null) first = stamp; else if (stamp !== first) location.reload(); };
+  setInterval(() => fetch('/stamp').then(answer => answer.text()).then(look).catch(() => {}), 500);
 })();
 </script></body>'''
 
@@ -23,11 +25,12 @@ def stamps(words):
     except (files.Unread, OSError):
         return None
     told = []
-    for which in sorted(names):
+    for which, name in sorted(names.items()):
         try:
-            told.append((which, names[which], *(getattr(os.stat(names[which]), key) for key in ('st_mtime_ns', 'st_size', 'st_ino'))) if names[which] else (which, None))
+            known = os.stat(name) if name else None
+            told.append((which, name, known and (known.st_mtime_ns, known.st_size, known.st_ino)))
         except OSError:
-            told.append((which, names[which], 'gone'))
+            told.append((which, name, 'gone'))
     return told
 
 
@@ -44,7 +47,10 @@ class Server:
                 if self.headers.get('Host') not in known or self.path.split('?')[0] not in ('/', '/stamp'):
                     self.send_error(404)
                     return
-                text, kind = (str(shown['stamp']), 'text/plain') if self.path.startswith('/stamp') else (shown['page'].replace('</body>', RELOAD, 1) if '</body>' in shown['page'] else shown['page'], 'text/html')
+                if self.path.startswith('/stamp'):
+                    text, kind = str(shown['stamp']), 'text/plain'
+                else:
+                    text, kind = shown['page'].replace('</body>', RELOAD, 1), 'text/html'
                 data = text.encode('utf-8', 'surrogateescape')
                 self.send_response(200)
                 self.send_header('Content-Type', kind + '; charset=utf-8')
@@ -79,9 +85,10 @@ def watch(words, one, again, tell):
     server = Server(words.serve) if words.serve is not None else None
     if server:
         server.show(one)
-        print('the page: %s' % server.address, flush=True)
+        tell.say('the page: %s' % server.address)
     seen = stamps(words)
-    print('waiting for the files to be saved; Ctrl-C ends', flush=True)
+    tell.say('waiting for the files to be saved; Ctrl-C ends')
+    signal.signal(signal.SIGTERM, signal.default_int_handler)
     try:
         while True:
             time.sleep(LOOK)
@@ -102,5 +109,5 @@ def watch(words, one, again, tell):
                 server.show(one)
             gc.collect()
     except KeyboardInterrupt:
-        print()
+        pass
     return one.status
