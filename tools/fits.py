@@ -14,7 +14,7 @@ import collections
 import math
 import re
 import sys
-from sexpr import LEAF, LEAVES, LENGTH, Lines, Node, nanometres
+from sexpr import CONTROL, LEAF, LEAVES, LENGTH, Lines, Node, nanometres
 from boards import COPPER, SEGMENT, reference_of
 from ends import status_of
 from shapes import PLAIN_CORNERS, plain_numbers
@@ -574,9 +574,9 @@ def main():
         text = file.read()
     found, lines = faults(text), Lines(text)
     for fault in found:
-        print('%s:%d:%d: %s (%s): %s' % (sys.argv[1], *lines.place(fault.at), fault.name, NUMBERS[fault.name], said(fault)))
+        print('%s:%d:%d: %s (%s): %s' % (sys.argv[1], *lines.place(fault.at), fault.name, NUMBERS[fault.name], said(fault).translate(CONTROL)))
     for line in sum_lines(found):
-        print(line)
+        print(line.translate(CONTROL))
     print('in the way: %d' % len(found))
     return 1 if found else 0
 
