@@ -562,7 +562,9 @@ def sum_lines(found):
     for count, name, parts, advice in sums(found):
         # A turned pad most often is one of a turned footprint.
         most = ['%s%s' % (part, ' (%d)' % many if many > 1 else '') for part, many in parts.most_common(12)]
-        where = ' in ' + ', '.join(most + (['%d more' % (len(parts) - 12)] if len(parts) > 12 else [])) if parts else ''
+        rest = ['%d more' % (len(parts) - 12)] if len(parts) > 12 else []
+        outside = count - sum(parts.values())
+        where = ' in ' + ', '.join(most + rest + (['%d elsewhere' % outside] if outside else [])) if parts else ''
         yield '%d %s%s%s' % (count, name, where, ': ' + advice if advice else '')
 
 
