@@ -5,7 +5,7 @@ for, by its name or as a whole, so that of a large board only that is read which
 """
 import bisect
 import re
-from sexpr import Node, nanometres, root_of, unescaped
+from sexpr import CONTROL, Node, nanometres, root_of, unescaped
 from shapes import FIRST_CORNER, Stance, arc, area, corners, figure, hole_shape, pad_shapes, plain_area, plain_strip, point, strip
 
 COPPER = ['F.Cu'] + ['In%d.Cu' % k for k in range(1, 31)] + ['B.Cu']
@@ -61,7 +61,7 @@ class Item:
         net = ' [%s]' % (plain(self.net) or '<no net>') if self.word in ('track', 'via', 'zone', 'pad') else ''
         part = ' of ' + (self.reference or '?') if self.word == 'pad' else ''
         where = '' if not layers or not self.layers or self.word == 'edge' else ' on ' + '..'.join((self.layers[0], self.layers[-1])[:len(self.layers)])
-        return SORTS.get(self.word, self.word) + name + net + part + where
+        return (SORTS.get(self.word, self.word) + name + net + part + where).translate(CONTROL)
 
     def box(self):
         boxes = [shape.box for shape in self.shapes]

@@ -14,7 +14,7 @@ import collections
 import math
 import re
 import sys
-from sexpr import LEAF, LEAVES, LENGTH, Lines, Node, nanometres
+from sexpr import CONTROL, LEAF, LEAVES, LENGTH, Lines, Node, nanometres
 from boards import COPPER, SEGMENT, reference_of
 from ends import status_of
 from shapes import PLAIN_CORNERS, plain_numbers
@@ -562,7 +562,9 @@ def sum_lines(found):
     for count, name, parts, advice in sums(found):
         # A turned pad most often is one of a turned footprint.
         most = ['%s%s' % (part, ' (%d)' % many if many > 1 else '') for part, many in parts.most_common(12)]
-        where = ' in ' + ', '.join(most + (['%d more' % (len(parts) - 12)] if len(parts) > 12 else [])) if parts else ''
+        rest = ['%d more' % (len(parts) - 12)] if len(parts) > 12 else []
+        outside = count - sum(parts.values())
+        where = ' in ' + ', '.join(most + rest + (['%d elsewhere' % outside] if outside else [])) if parts else ''
         yield '%d %s%s%s' % (count, name, where, ': ' + advice if advice else '')
 
 
@@ -574,9 +576,9 @@ def main():
         text = file.read()
     found, lines = faults(text), Lines(text)
     for fault in found:
-        print('%s:%d:%d: %s (%s): %s' % (sys.argv[1], *lines.place(fault.at), fault.name, NUMBERS[fault.name], said(fault)))
+        print('%s:%d:%d: %s (%s): %s' % (sys.argv[1], *lines.place(fault.at), fault.name, NUMBERS[fault.name], said(fault).translate(CONTROL)))
     for line in sum_lines(found):
-        print(line)
+        print(line.translate(CONTROL))
     print('in the way: %d' % len(found))
     return 1 if found else 0
 

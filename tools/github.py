@@ -2,6 +2,7 @@
 import os
 from lines import place_of
 from markdown import in_markdown
+from sexpr import CONTROL
 
 MOST = 10
 
@@ -14,6 +15,7 @@ def escaped(text, also=''):
 
 
 def annotation(word, file, line, column, title, message):
+    message = message.translate(CONTROL)
     return '::%s file=%s,line=%d,col=%d,title=%s::%s' % (word, escaped(file, ':,'), line, column, escaped(title, ':,'), escaped(message))
 
 

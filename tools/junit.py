@@ -3,11 +3,12 @@ import xml.sax.saxutils
 from kinds import KINDS, title
 from lines import place_of
 
-CONTROL = {code: ' ' for code in range(32) if code not in (9, 10, 13)}
+# XML has no others.
+NO_XML = {code: ' ' for code in [*range(9), 11, 12, *range(14, 32), *range(0xd800, 0xe000), 0xfffe, 0xffff]}
 
 
 def escaped(text):
-    return xml.sax.saxutils.escape(text.translate(CONTROL), {'"': '&quot;', '\n': '&#10;'})
+    return xml.sax.saxutils.escape(text.translate(NO_XML), {'"': '&quot;', '\n': '&#10;'})
 
 
 def case(board, name, failures):

@@ -1,12 +1,13 @@
 """Results as Markdown, for the summary of a CI job or a comment."""
 import fits
 from lines import place_of
+from sexpr import CONTROL
 
 MOST = 50
 
 
 def cell(text):
-    return text.replace('\\', '\\\\').replace('|', '\\|').replace('<', '&lt;').replace('\n', ' ').replace('`', "'")
+    return text.translate(CONTROL).replace('\\', '\\\\').replace('|', '\\|').replace('<', '&lt;').replace('`', "'")
 
 
 def in_markdown(verdicts):

@@ -11,7 +11,8 @@ LENGTH = r'-?\d+\.\d{6}'
 ITEM = re.compile(r'(track|via|graphic|zone|edge|area|footprint|pad) (' + NAME + ')(?: of (' + NAME + '))? at (' + LENGTH + ') (' + LENGTH + ')')
 ROW = re.compile(r'(error|warning) (\w+) (\S+): ')
 VALUE = re.compile(r'(needs|least|most|has) (' + LENGTH + ')')
-NOTE = re.compile(r'not checked: (text|dimension|courtyard|zone|constraint)(.*)')
+NOTE = re.compile(r'not checked: (text|dimension|courtyard|zone|constraint)(.*)', re.S)
+CONSTRAINT = re.compile(r'not checked: constraint (.*) of rule ' + NAME, re.S)
 REFUSED = re.compile(r'refused (board|project|rules|script): (\S+ \(\S+\)) at (\d+)(?: \+ (\d+))?')
 COMMAND = re.compile(r'command (\d+) refused: (\S+ \(\S+\))(?: at (\d+)(?: \+ (\d+))?)?')
 NET = re.compile(r'net (' + NAME + r'): (\d+) groups')
@@ -105,6 +106,18 @@ class State:
         return True
 
 
+def joined(lines):
+    """the lines of a report; the kind of a constraint stands in it as it is, and may have line ends in it"""
+    begun = None
+    for line in lines:
+        line = line if begun is None else begun + '\n' + line
+        begun = line if line.startswith('not checked: constraint ') and not CONSTRAINT.fullmatch(line) else None
+        if begun is None:
+            yield line
+    if begun is not None:
+        yield begun
+
+
 class Report:
     """all that a run wrote. `states` are its reports and refused commands; or there is one line, in `refusal` or `fault`"""
 
@@ -112,7 +125,7 @@ class Report:
         self.states, self.refusal, self.fault = [], None, None
         lines = text.split('\n')
         self.whole = lines.pop() == ''
-        for line in lines:
+        for line in joined(lines):
             command = COMMAND.fullmatch(line)
             if line.startswith('report ') and line[7:].isdigit():
                 self.states.append(State(int(line[7:])))

@@ -20,6 +20,8 @@ WORD = re.compile(rb'[^\s]+')
 HEAD = re.compile(rb'\(\s*(?:"([^"\\]*)"|([^\s()"]+)(?=[\s()"]))')
 LENGTH = re.compile(r'([+-]?)(?:([0-9]+)(?:\.([0-9]*))?|\.([0-9]+))(?:[eE]([+-]?[0-9]{1,3}))?')
 ESCAPED = re.compile(r'\\(.)', re.S)
+# What a terminal would take for a command, or end a line with, in a name that a board may have.
+CONTROL = {code: ' ' for code in [*range(32), *range(127, 160), 0x2028, 0x2029]}
 
 
 def unescaped(text):

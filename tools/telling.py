@@ -7,12 +7,11 @@ import math
 import re
 from boards import plain
 from kinds import nearest
-from reports import Notes
+from reports import CONSTRAINT, Notes
 from sexpr import forms, nanometres
 
 FORMAT = 'drc-report/1'
 RULE = re.compile(r'rule ("(?:\\.|[^"\\])*")')
-CONSTRAINT = re.compile(r'not checked: constraint (.*) of rule "(?:\\.|[^"\\])*"')
 TILES = re.compile(r'rechecked (\d+) of (\d+) tiles')
 
 

@@ -5,6 +5,7 @@ import sys
 import files
 import fits
 from lines import place_of
+from sexpr import CONTROL
 
 MOST = 20
 COLORS = {'error': '31;1', 'warning': '33;1', 'note': '36', 'place': '1', 'good': '32;1'}
@@ -24,7 +25,7 @@ class Teller:
         return '\033[%sm%s\033[0m' % (COLORS[color], text) if self.colored else text
 
     def line(self, file, line, column, word, text):
-        return '%s: %s: %s' % (self.paint('%s:%d:%d' % (file, line, column), 'place'), self.paint(word, word), text)
+        return '%s: %s: %s' % (self.paint('%s:%d:%d' % (file.translate(CONTROL), line, column), 'place'), self.paint(word, word), text.translate(CONTROL))
 
     def board(self, one, words):
         """the lines of a board, and its sum"""
@@ -42,7 +43,7 @@ class Teller:
             if self.most is not None and count > self.most:
                 self.say('%d more of %s; --all shows them' % (count - self.most, key))
         for line in fits.sum_lines(one.result.faults):
-            self.say('  ' + line)
+            self.say('  ' + line.translate(CONTROL))
         told = '%s: %s%s. %.2f s' % (one.files['board'], {0: 'passes: ', 1: 'fails: '}.get(one.status, ''), one.verdict.sum(), one.seconds)
         self.say(self.paint(told, 'error' if one.status else 'good'))
 
@@ -66,9 +67,9 @@ class Teller:
         """what came and what went between two runs of a board"""
         before, now = ({line for _, line in self.keyed(one)} for one in (old, new))
         for line in sorted(before - now):
-            self.say(self.paint('- ' + line, 'good'))
+            self.say(self.paint('- ' + line.translate(CONTROL), 'good'))
         for line in sorted(now - before):
-            self.say(self.paint('+ ' + line, 'error'))
+            self.say(self.paint('+ ' + line.translate(CONTROL), 'error'))
         if before == now:
             self.say('nothing came and nothing went')
 

@@ -83,6 +83,7 @@ def table(folder):
         ('a clean board', said('clean.kicad_pcb'), 0, ['clean.kicad_pcb: passes: 0 errors, 0 warnings, 0 open nets, 0 things not checked. ']),
         ('a warning', said('warning.kicad_pcb'), 0, [': warning: track_width on F.Cu: Track [/LED]: needs at least 0.5 mm, has 0.3 mm, short by 0.2 mm (rule "w")']),
         ('a warning that fails', said('warning.kicad_pcb', '--fail-on', 'warning'), 1, []),
+        ('signs of a terminal in a name', said('signs.kicad_pcb'), 1, ['error: short on F.Cu: Track [/L [31mE D] | Track [GND]\n']),
         ('courtyards', said('overlap.kicad_pcb'), 1, ['courtyard_clearance on F.CrtYd: Footprint R1 | Footprint R1: the courtyards overlap (board setup)']),
         ('several boards', said('clean.kicad_pcb', 'amp.kicad_pcb', 'turned.kicad_pcb'), 3, ['clean.kicad_pcb: passes: 0 errors', 'amp.kicad_pcb: fails: 3 errors', 'turned.kicad_pcb: not read']),
         ('a refused board', said('turned.kicad_pcb'), 3, [
@@ -132,6 +133,7 @@ def prepare(folder):
     folder.put('clean', CLEAN, 0)
     folder.put('warning', WARNING, 1)
     folder.put('overlap', OVERLAP, 1)
+    folder.put('signs', folder.report, 1, folder.board.replace('"/LED"', '"/L\033[31mE\\nD"'))
     turned = folder.board.replace('(at 110 105)', '(at 110 105 30)').replace('(gr_text', '(gr_arc (start 1 1) (mid 2 2) (end 3 1) (layer "F.Cu")) (gr_text')
     folder.put('turned', 'refused board: Turned (8) at %d\n' % turned.index('(footprint'), 3, turned)
     folder.put('nine', 'refused board: Version (3) at 20\n', 3, folder.board.replace('20221018', '20241229'))

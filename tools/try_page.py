@@ -80,6 +80,12 @@ EXAMPLE = '''
   const pointer = (name, x, y, shift) => frame.dispatchEvent(new PointerEvent(name, { clientX: x, clientY: y, shiftKey: shift, bubbles: true }));
   const left = seen[0]; pointer('pointerdown', 800, 400); pointer('pointermove', 900, 400); pointer('pointerup', 900, 400);
   same('dragged', near(left - seen[0], 100 * seen[2] / svg.clientWidth, 1e-6), true);
+  const there = point_at({ clientX: 800, clientY: 400 });
+  key('f'); const mirrored = point_at({ clientX: 800, clientY: 400 });
+  same('from the back', near(there[0] + mirrored[0], 2 * seen[0] + seen[2], 1e-6), true);
+  const other = seen[0]; pointer('pointerdown', 800, 400); pointer('pointermove', 900, 400); pointer('pointerup', 900, 400);
+  same('dragged from the back', near(seen[0] - other, 100 * seen[2] / svg.clientWidth, 1e-6), true);
+  key('f');
   pointer('pointerdown', 800, 400, true); pointer('pointermove', 900, 400, true); pointer('pointerup', 900, 400, true);
   same('measured', told.textContent, 'measured by eye: ' + (100 * seen[2] / svg.clientWidth).toFixed(3) + ' mm');
   const tick = [...document.querySelectorAll('#layers label')].find(label => label.textContent === 'F.Cu');

@@ -171,7 +171,7 @@ class Page:
         return self.numbers[key]
 
     def named(self, named, told):
-        place = '  line %d%s' % (told['line'], ' of the script' if self.placed.find(named).unit.source == 'script' else '') if 'line' in told else ''
+        place = ', line %d%s' % (told['line'], ' of the script' if self.placed.find(named).unit.source == 'script' else '') if 'line' in told else ''
         number_ = self.item(named.text, self.placed.find(named), place)
         if 'line' not in told:
             x, y = (n / 1e6 for n in named.position)
@@ -270,7 +270,7 @@ class RefusedPage(Page):
         items, focus = [], [0, 0, 0, 0]
         if found:
             parts = [item.box() for item in (unit.items if found.word == 'footprint' else [found]) if item.shapes] or [found.box()]
-            items, focus = [self.item(found.said() + text, found, '  line %d' % told['line'])], rounded(joined(parts))
+            items, focus = [self.item(found.said() + text, found, ', line %d' % told['line'])], rounded(joined(parts))
         return {'severity': 'error', 'kind': fits.SORTS.get(fault.sort, (fault.sort,))[0], 'layer': '-', 'values': fits.said(fault), 'source': '',
                 'short': 0, 'text': text, 'items': items, 'focus': focus, 'spot': spot_of(focus) if found else None, 'came': False, 'off': ''}
 
