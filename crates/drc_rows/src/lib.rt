@@ -11,6 +11,6 @@ mod pieces;
 mod report;
 
 pub use line::Line;
-pub use net::push_net;
+pub use net::{push_net, write_net};
 pub use notes::{count_notes, write_notes};
 pub use report::{write_line, write_pieces, write_rows};

@@ -106,12 +106,24 @@ impl Line {
     pub(crate) fn push<W: Sink>(&mut self, out: &mut W, piece: &[u8]) -> Result<(), Failed>
         ensures { Puts (W.written out.old) (W.written out.new) (W.faults out.old) (W.faults out.new) self.old piece.now self.new result }
     {
-        if piece.len() > ROOM {
-            self.flush(out)?;
-            return put_all(out, piece);
+        if piece.len() > ROOM - self.len {
+            return self.push_over(out, piece);
         }
-        self.make_room(out, piece.len())?;
         self.append(piece);
+        Ok(())
+    }
+
+    /// The same where there is no room: what is pending goes out, and of the piece as many bytes as fill the room some times over.
+    /// The rest of it is kept.
+    #[cold]
+    #[inline(never)]
+    fn push_over<W: Sink>(&mut self, out: &mut W, piece: &[u8]) -> Result<(), Failed>
+        ensures { Puts (W.written out.old) (W.written out.new) (W.faults out.old) (W.faults out.new) self.old piece.now self.new result }
+    {
+        self.flush(out)?;
+        let (rooms, rest) = piece.split_at(piece.len() - piece.len() % ROOM);
+        put_all(out, rooms)?;
+        self.append(rest);
         Ok(())
     }
 

@@ -3,6 +3,7 @@
 ghost use Rattle.std.specs.Prelude.{◌≡◌, ◌<◌, ◌++◌, All, IsSome, length, decimal};
 ghost use Rattle.std.specs.List.{flat_map};
 ghost use Rattle.board_items.specs.Boards.{name_of};
+ghost use Rattle.drc_io.specs.Sinks.{Writes};
 ghost use Rattle.net_groups.specs.Groups.{IsOnBoard};
 ghost use Rattle.ratsnest.specs.NestOf.{anchor_at, HasPlaces};
 ghost use Rattle.drc_rows.specs.Line.{Puts};
@@ -197,4 +198,27 @@ pub fn push_net<W: Sink>(
     push_head(line, out, name.bytes(), groups.len())?;
     push_groups(line, out, board, groups)?;
     push_links(line, out, board, anchors, nest.links.as_slice())
+}
+
+/// Writes the lines of a net, under the conditions of `push_net`: its name and how many groups it has, a line for each group, and a
+/// line for each link of its nest. `Failed` comes only where the sink's count of faults rose, and then a front part of the lines was
+/// written. It takes no memory.
+pub fn write_net<W: Sink>(
+    board: &Board,
+    net: u32,
+    groups: &[Group],
+    anchors: &[Anchor],
+    nest: &Nest,
+    out: &mut W,
+) -> Result<(), Failed>
+    requires declared { IsSome (name_of board.now net) }
+    requires filled { All (λ group. 0 < length group) groups.now }
+    requires members { All (All (IsOnBoard board.now)) groups.now }
+    requires anchors { All (λ anchor. IsOnBoard board.now anchor.id) anchors.now }
+    requires places { All (HasPlaces anchors.now) nest.now.links }
+    ensures { Writes (W.written out.old) (W.written out.new) (W.faults out.old) (W.faults out.new) (net_block board.now net groups.now anchors.now nest.now.links) result }
+{
+    let mut line = Line::new();
+    push_net(&mut line, out, board, net, groups, anchors, nest)?;
+    line.end(out)
 }
