@@ -1,3 +1,4 @@
+pub mod CommandLine
 pub mod Reports
 pub mod Turns
 pub mod Output

@@ -120,10 +120,16 @@ pub(crate) fn check<R: Threads + Sync + AllocGlobal, F: Shelf, W: Sink, G: Gate>
     };
     let script = match script_text(alloc, request.script, shelf) {
         Ok(script) => script,
-        Err(stop) => return write_stop(stop, out),
+        Err(stop) => {
+            drop(texts);
+            return write_stop(stop, out);
+        }
     };
     match commands_of(alloc, request.script, &script) {
         Ok(commands) => report(rt, gate, way_of(request), texts, &commands, out),
-        Err(stop) => write_stop(stop, out),
+        Err(stop) => {
+            drop(texts);
+            write_stop(stop, out)
+        }
     }
 }

@@ -8,6 +8,7 @@ ghost use Rattle.run_words.specs.Views.{call_in, CallFits};
 ghost use Rattle.drc_run.specs.declared.status.Status.{Status};
 ghost use Rattle.drc_run.specs.Endings.{EndsFor, Promises};
 
+mod answering;
 mod check;
 mod finish;
 mod kept;
@@ -32,6 +33,7 @@ use crate::status::Status;
 use crate::stealing::steal;
 use crate::trying::try_each;
 use crate::undoing::undo;
+pub use answering::answer;
 use drc_io::{Shelf, Sink};
 use run_words::{Call, call_of, check_call};
 use std::thread::Threads;

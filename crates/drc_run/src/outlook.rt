@@ -136,8 +136,9 @@ fn outlook_apart<R: Threads + Sync + AllocGlobal, G: Gate>(
         come,
         gone,
     } = trial(session, rt, workers, from_ref(command), gate)?;
-    let outlook = told_of(rt.alloc(), &then, &come, gone)?;
-    Ok(outlook)
+    let outlook = told_of(rt.alloc(), &then, &come, gone);
+    drop(then);
+    Ok(outlook?)
 }
 
 /// What the command would do to the session, which is at the end as it was: found out on the session itself where it can be turned back, and

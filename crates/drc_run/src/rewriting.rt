@@ -94,10 +94,16 @@ pub(crate) fn rewrite<F: Shelf, W: Sink>(
     };
     let script = match script_text(alloc, Some(files.script), shelf) {
         Ok(script) => script,
-        Err(stop) => return write_stop(stop, out),
+        Err(stop) => {
+            drop(source);
+            return write_stop(stop, out);
+        }
     };
     match script_in(alloc, &script) {
         Ok(commands) => rewritten(alloc, &text, source, &commands, out),
-        Err(stop) => write_stop(stop, out),
+        Err(stop) => {
+            drop(source);
+            write_stop(stop, out)
+        }
     }
 }

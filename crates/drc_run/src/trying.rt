@@ -275,6 +275,33 @@ fn kept_rows(alloc: Global, session: &Session) -> Result<Vec<Row>, AllocError>
     Vec::from_slice(alloc, session.rows())
 }
 
+/// Tries each command on a session that begins, and writes what they would do.
+fn tried<R: Threads + Sync + AllocGlobal, W: Sink, G: Gate>(
+    rt: &R,
+    gate: &G,
+    workers: u32,
+    session: &mut Session,
+    commands: &[Command<'_>],
+    out: &mut W,
+) -> Status
+    requires workers { (1 ≤ workers) × (workers ≤ 8) }
+    requires running { session.old.stopped ≡ false }
+    requires fit { All Fits (map plain_command commands.now) }
+    requires few { length commands.now ≤ 15_625 }
+    ensures ends { Ends (AreTrialsTold session.old.state (map plain_command commands.now)) (AreTrialsToldSoFar session.old.state (map plain_command commands.now)) (λ _. ⊥) (W.written out.old) (W.written out.new) result }
+    ensures fault { result ≡ Status.WriteFault → Rose (W.faults out.old) (W.faults out.new) }
+{
+    let before = match kept_rows(rt.alloc(), session) {
+        Ok(rows) => rows,
+        Err(_) => return Status::OutOfMemory,
+    };
+    let ground = Ground {
+        before: &before,
+        workers,
+    };
+    go_through(rt, gate, ground, session, commands, out)
+}
+
 /// Checks the board of the texts, tries each command on it, and writes what they would do.
 fn report<R: Threads + Sync + AllocGlobal, W: Sink, G: Gate>(
     rt: &R,
@@ -291,26 +318,15 @@ fn report<R: Threads + Sync + AllocGlobal, W: Sink, G: Gate>(
     ensures ends { Ends (AreTrialsTold (opened_in texts) (map plain_command commands.now)) (AreTrialsToldSoFar (opened_in texts) (map plain_command commands.now)) (λ _. ⊥) (W.written out.old) (W.written out.new) result }
     ensures fault { result ≡ Status.WriteFault → Rose (W.faults out.old) (W.faults out.new) }
 {
-    let mut session = match Session::begin(
-        rt,
-        workers,
-        texts.board,
-        texts.classes,
-        texts.rules,
-        gate,
-    ) {
-        Ok((session, _)) => session,
-        Err(_) => return Status::OutOfMemory,
-    };
-    let before = match kept_rows(rt.alloc(), &session) {
-        Ok(rows) => rows,
-        Err(_) => return Status::OutOfMemory,
-    };
-    let ground = Ground {
-        before: &before,
-        workers,
-    };
-    go_through(rt, gate, ground, &mut session, commands, out)
+    match Session::begin(rt, workers, texts.board, texts.classes, texts.rules, gate) {
+        Ok((mut session, applied)) => {
+            drop(applied);
+            let status = tried(rt, gate, workers, &mut session, commands, out);
+            drop(session);
+            status
+        }
+        Err(_) => Status::OutOfMemory,
+    }
 }
 
 /// Fetches and reads the board and the script, and tries each of its commands alone, by so many workers, from 1 to 8.
@@ -334,6 +350,9 @@ pub(crate) fn try_each<R: Threads + Sync + AllocGlobal, F: Shelf, W: Sink, G: Ga
     };
     match trials_in(alloc, &script) {
         Ok(commands) => report(rt, gate, workers, texts, &commands, out),
-        Err(stop) => write_stop(stop, out),
+        Err(stop) => {
+            drop(texts);
+            write_stop(stop, out)
+        }
     }
 }

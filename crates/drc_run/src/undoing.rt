@@ -100,6 +100,9 @@ pub(crate) fn undo<R: Threads + Sync + AllocGlobal, F: Shelf, W: Sink, G: Gate>(
     };
     match steps_in(alloc, &script) {
         Ok(all) => report(rt, gate, texts, &all, out),
-        Err(stop) => write_stop(stop, out),
+        Err(stop) => {
+            drop(texts);
+            write_stop(stop, out)
+        }
     }
 }

@@ -30,8 +30,8 @@ returns-in-Err-script_text-clause-ends g c =
     let stops = script_stops told before now reading middle stop c.in-Ok.ensures.counts (opened_in c.in-Ok.texts) are.board are.classes are.rules option in
     line_ends (check reading) told before now _ _ stop stops c.write_stop-in-Err-script_text.result c.write_stop-in-Err-script_text.ensures.ends
 
-pub returns-in-Err-commands_of-clause-ends : goal.returns-in-Err-commands_of-clause-ends
-returns-in-Err-commands_of-clause-ends g c =
+pub returns-clause-ends : goal.returns-clause-ends
+returns-clause-ends g c =
     let told = g.F.Shelf.files c.args.shelf.now in
     let before = g.F.Shelf.faults c.args.shelf.now in
     let middle = g.F.Shelf.faults c.texts_of.new.shelf in

@@ -12,8 +12,8 @@ returns-in_err-then-clause-refused g c =
     let alone = ap (map plain_command) c.from_ref.ensures.value in
     rw (p.1, p.2) (alone_refused c.args.session.now (plain_command c.args.command.now) (map plain_command c.from_ref.result.now) c.in_err-then.field-0.0 alone c.in_err-then.ensures.refused)
 
-pub told_of-requires-clause-rows : goal.told_of-requires-clause-rows
-told_of-requires-clause-rows g c =
+pub told_of-outlook-requires-clause-rows : goal.told_of-outlook-requires-clause-rows
+told_of-outlook-requires-clause-rows g c =
     let s = checked_in c.args.session.now.state in
     let tried = c.in_ok-then.field-0 in
     let after = checked_in tried.session.state in

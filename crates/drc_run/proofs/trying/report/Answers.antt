@@ -6,8 +6,8 @@ use Rattle.drc_run.specs.Running.{AreTrialsToldSoFar}
 use Rattle.drc_run.specs.Endings.{Ends}
 use Rattle.drc_run.proofs.trying.report.Goals as goal
 
-pub returns-clause-ends : goal.returns-clause-ends
-returns-clause-ends g c =
+pub returns-in-Ok-clause-ends : goal.returns-in-Ok-clause-ends
+returns-in-Ok-clause-ends g c =
     let commands = map plain_command c.args.commands.now in
-    subst (λ (s : State). Ends (AreTrialsTold s commands) (AreTrialsToldSoFar s commands) (λ _. ⊥) (g.W.Sink.written c.args.out.now) (g.W.Sink.written c.go_through.new.out) c.go_through.result)
-    c.in-Ok.ensures.state c.go_through.ensures.ends
+    subst (λ (s : State). Ends (AreTrialsTold s commands) (AreTrialsToldSoFar s commands) (λ _. ⊥) (g.W.Sink.written c.args.out.now) (g.W.Sink.written c.tried-status.new.out) c.tried-status.result)
+    c.in-Ok.ensures.state c.tried-status.ensures.ends

@@ -18,8 +18,8 @@ returns-in-Err-clause-ends g c =
     let call = try c.args.files.board.now c.args.files.script.now c.args.workers in
     line_ends call (g.F.Shelf.files c.args.shelf.now) _ _ _ _ c.in-Err.stop (c.in-Err.ensures.stop call refl) c.write_stop.result c.write_stop.ensures.ends
 
-pub returns-in-Err-trials_in-clause-ends : goal.returns-in-Err-trials_in-clause-ends
-returns-in-Err-trials_in-clause-ends g c =
+pub returns-clause-ends : goal.returns-clause-ends
+returns-clause-ends g c =
     let told = g.F.Shelf.files c.args.shelf.now in
     let before = g.F.Shelf.faults c.args.shelf.now in
     let now = g.F.Shelf.faults c.scripted_texts.new.shelf in
