@@ -1,9 +1,0 @@
-use Rattle.std.proofs.Common.{◌≤◌, length, take}
-use Rattle.std.specs.Io.KnownBytes.{Appends}
-use Rattle.drc_cli.proofs.outside.write_whole.Given as goal
-
-abbrev pub invariant-loop : goal.invariant-loop
-invariant-loop g l = record {
-  within : l.done ≤ length l.piece;
-  bytes : Appends (g.W.Write.contents l.initial.out) (g.W.Write.contents l.out) (take l.done l.piece);
-}

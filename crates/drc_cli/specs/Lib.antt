@@ -1,4 +1,0 @@
-pub mod CommandLine
-pub mod Faults
-pub mod Filling
-pub mod Kept
