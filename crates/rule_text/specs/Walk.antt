@@ -54,11 +54,14 @@ with_cond asked draft clause =
 abbrev pub noted : PlainDraft → Tree → PlainDraft
 noted draft name = record draft { notes = draft.notes ++ (record { rule = draft.number; constraint = text_of name } ∷ []) }
 
+abbrev pub constrained : PlainDraft → PlainConstraint → PlainDraft
+constrained draft constraint = record draft { constraints = draft.constraints ++ (constraint ∷ []) }
+
 abbrev pub with_kind : PlainDraft → Tree → Tree → Option Kind → Result PlainDraft RuleError
 with_kind draft clause name None = Ok (noted draft name)
 with_kind draft clause name (Some kind) =
     if has_kind kind draft.constraints then Ok draft
-    else (constraint_in kind clause >>= λ constraint. Ok (record draft { constraints = draft.constraints ++ (constraint ∷ []) }))
+    else (constraint_in kind clause >>= λ constraint. Ok (constrained draft constraint))
 
 unfoldable pub with_constraint : PlainDraft → Tree → Result PlainDraft RuleError
 with_constraint draft clause = name_at clause >>= λ name. with_kind draft clause name (kind_named name)

@@ -2,11 +2,11 @@
 
 ghost use Rattle.std.specs.Prelude.{◌≡◌, ◌<◌, ◌≤◌, ◌+◌, length, IfOk, Ok};
 ghost use Rattle.sexpr_read.specs.Views.{tree_of, trees_left};
-ghost use Rattle.cond_lang.specs.Rules.{plain_rule};
+ghost use Rattle.cond_lang.specs.Rules.{plain_rule, plain_constraint};
 ghost use Rattle.list_read.specs.Heads.{place};
 ghost use Rattle.rule_text.specs.Forms.{clauses};
 ghost use Rattle.rule_text.specs.RulesOf.{severity_in, severity_named, is_asked, is_version, no_rules, rules_of};
-ghost use Rattle.rule_text.specs.Walk.{with_layer, with_severity, with_cond, noted, with_constraint, with_clause, with_clauses, rule_by, with_rule, with_rules};
+ghost use Rattle.rule_text.specs.Walk.{with_layer, with_severity, with_cond, noted, constrained, with_constraint, with_clause, with_clauses, rule_by, with_rule, with_rules};
 ghost use Rattle.rule_text.specs.Short.{AllShort, IsShort};
 ghost use Rattle.rule_text.specs.Views.{plain_draft, plain_lists, plain_rules, Gives};
 
@@ -19,7 +19,7 @@ use crate::layers::layer_in;
 use crate::lists::Lists;
 use crate::notes::{RuleNote, RuleNotes};
 use crate::rules::{RuleList, Rules};
-use cond_lang::{Constraints, Rule, RuleLayer, Severity};
+use cond_lang::{Constraint, Constraints, Rule, RuleLayer, Severity};
 use drc_io::Name;
 use list_read::{has_head, name_from, place};
 use sexpr_read::{Children, Node};
@@ -93,10 +93,24 @@ fn with_cond(
     if !asked || draft.cond.is_some() {
         return Ok(draft);
     }
-    let mut draft = draft;
-    let atom = atom_at(clause)?;
-    draft.cond = Some(cond_in(alloc, atom)?);
-    Ok(draft)
+    let atom = match atom_at(clause) {
+        Ok(atom) => atom,
+        Err(error) => {
+            drop(draft);
+            return Err(error);
+        }
+    };
+    match cond_in(alloc, atom) {
+        Ok(cond) => {
+            let mut draft = draft;
+            drop(draft.cond.replace(cond));
+            Ok(draft)
+        }
+        Err(error) => {
+            drop(draft);
+            Err(error)
+        }
+    }
 }
 
 /// Notes a constraint that no rule may have.
@@ -112,23 +126,41 @@ fn with_note(alloc: Global, draft: Draft, name: Node<'_, '_>) -> Result<Draft, R
     Ok(draft)
 }
 
+/// Adds a constraint.
+fn with_more(draft: Draft, constraint: Constraint) -> Result<Draft, RuleError>
+    ensures { Gives plain_draft result (Ok (constrained (plain_draft draft) (plain_constraint constraint))) }
+{
+    let mut draft = draft;
+    draft.constraints.push(constraint)?;
+    Ok(draft)
+}
+
 /// Of two constraints of one kind the first counts.
 #[tactic(auto, unfolding(crate::specs::Walk::with_constraint))]
 fn with_constraint(alloc: Global, draft: Draft, clause: Node<'_, '_>) -> Result<Draft, RuleError>
     requires { IsShort (tree_of clause) }
     ensures { Gives plain_draft result (with_constraint (plain_draft draft) (tree_of clause.entry)) }
 {
-    let name = name_at(clause)?;
+    let name = match name_at(clause) {
+        Ok(name) => name,
+        Err(error) => {
+            drop(draft);
+            return Err(error);
+        }
+    };
     let Some(kind) = kind_named(name) else {
         return with_note(alloc, draft, name);
     };
     if has_kind(kind, &draft.constraints) {
         return Ok(draft);
     }
-    let mut draft = draft;
-    let constraint = constraint_in(alloc, kind, clause)?;
-    draft.constraints.push(constraint)?;
-    Ok(draft)
+    match constraint_in(alloc, kind, clause) {
+        Ok(constraint) => with_more(draft, constraint),
+        Err(error) => {
+            drop(draft);
+            Err(error)
+        }
+    }
 }
 
 #[tactic(auto, unfolding(crate::specs::Walk::with_clause))]
