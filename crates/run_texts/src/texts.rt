@@ -6,7 +6,7 @@ ghost use Rattle.net_class.specs.Classes.{plain_classes};
 ghost use Rattle.rule_text.specs.RulesOf.{no_rules};
 ghost use Rattle.rule_text.specs.Views.{plain_rules};
 ghost use Rattle.edit_script.specs.Commands.{PlainCommand, place_of, plain_command, plain_step};
-ghost use Rattle.edit_script.specs.Fits.{Fits, StepFits};
+ghost use Rattle.edit_script.specs.Fits.{Fits, StepFits, AreShallow};
 ghost use Rattle.made_board.specs.MadeBoard.{made_text};
 ghost use Rattle.run_words.specs.Calls.{PlainCall, check};
 ghost use Rattle.run_words.specs.Views.{source_in, reading_in, SourceFits, RequestFits};
@@ -224,6 +224,7 @@ pub fn script_in<'t>(alloc: Global, text: &'t [u8]) -> Result<Vec<Command<'t>>, 
     requires { length text.now ≤ 33_554_432 }
     ensures says { MatchResult result (λ commands. ReaderSays Which.Script text.entry.now (accepted (a_script (map plain_command commands.items)))) (StopsReading Which.Script text.entry.now) }
     ensures fit { IfOk result (λ commands. All Fits (map plain_command commands.items)) }
+    ensures shallow { IfOk result (λ commands. AreShallow (map plain_command commands.items)) }
     ensures few { IfOk result (λ commands. length commands.items ≤ 33_554_432) }
 {
     // A script has no more commands than bytes.
