@@ -58,19 +58,23 @@ def text():
     ] + body) + '\n'
 
 
+def wrong():
+    """that the file is not as it would be written"""
+    there = os.path.exists(os.path.join(sources.ROOT, PATH))
+    return [] if there and sources.read(PATH) == text() else ['%s: not as tools/contracts.py writes it' % PATH]
+
+
 def main():
     if sys.argv[1:] not in ([], ['--check']):
         print('usage: contracts.py [--check]', file=sys.stderr)
         return 2
-    path, wanted = os.path.join(sources.ROOT, PATH), text()
-    if sys.argv[1:]:
-        if not os.path.exists(path) or sources.read(PATH) != wanted:
-            print('%s: not as tools/contracts.py writes it' % PATH)
-            return 1
-        return 0
-    with open(path, 'w', encoding='utf-8') as file:
-        file.write(wanted)
-    return 0
+    if not sys.argv[1:]:
+        with open(os.path.join(sources.ROOT, PATH), 'w', encoding='utf-8') as file:
+            file.write(text())
+    lines = wrong()
+    for line in lines:
+        print(line)
+    return 1 if lines else 0
 
 
 if __name__ == '__main__':

@@ -108,23 +108,27 @@ def definitions():
     ] + lines) + '\n'
 
 
+def documents():
+    return (('docs/ARCHITECTURE.md', architecture()), ('docs/DEFINITIONS.md', definitions()))
+
+
+def wrong():
+    """a line for each fault of what is read, and for each file that is not as it would be written"""
+    return faults() + ['%s: not as tools/layers.py writes it' % path for path, text in documents() if sources.read(path) != text]
+
+
 def main():
     if sys.argv[1:] not in ([], ['--check']):
         print('usage: layers.py [--check]', file=sys.stderr)
         return 2
-    wrong = faults()
-    for line in wrong:
-        print(line)
-    for path, text in (('docs/ARCHITECTURE.md', architecture()), ('docs/DEFINITIONS.md', definitions())):
-        if sources.read(path) == text:
-            continue
-        if sys.argv[1:]:
-            wrong.append(path)
-            print('%s: not as tools/layers.py writes it' % path)
-        else:
+    if not sys.argv[1:]:
+        for path, text in documents():
             with open(os.path.join(sources.ROOT, path), 'w', encoding='utf-8') as file:
                 file.write(text)
-    return 1 if wrong else 0
+    lines = wrong()
+    for line in lines:
+        print(line)
+    return 1 if lines else 0
 
 
 if __name__ == '__main__':
