@@ -2,7 +2,7 @@
 """Writes docs/CONTRACTS.md from the sources: each public call with its clauses and the first sentence of its comment: tools/contracts.py [--check]
 
 A call is public where another crate can name it: it is `pub`, and its module is public or the crate hands on its name or its
-type. The methods of a public trait are among them. A law is a function whose body is empty, so its `ensures` holds of all values.
+type. The methods of a public trait are among them. A law is a function that gives nothing and changes nothing: its clauses hold of all values.
 With --check nothing is written, and the status is 1 where the file is not as it would be written.
 """
 import os
@@ -42,7 +42,7 @@ def row(function):
 
 def text():
     body, calls, laws, clauses = [], 0, 0, 0
-    for number, layer in enumerate(sources.layers(), 1):
+    for layer in sources.layers():
         for name, _ in layer.crates:
             found = public(name) if sources.root_of(name).endswith('lib.rt') else []
             if not found:
@@ -53,7 +53,7 @@ def text():
         '# What each public call promises', '',
         'Written by `tools/contracts.py` from the sources, crate by crate, lowest layer first: %d calls with %d clauses, %d of them laws.' % (calls, clauses, laws),
         'The clauses are what is proved, and the sentences beside them are not. How a clause is read stands in [CONTRIBUTING.md](../CONTRIBUTING.md), and where',
-        'a name of a clause is defined in the `ghost use` lines of its file and in [DEFINITIONS.md](DEFINITIONS.md). A law has an empty body, so its clauses hold of all values.',
+        'a name of a clause is defined in the `ghost use` lines of its file and in [DEFINITIONS.md](DEFINITIONS.md). A law gives nothing and changes nothing, so its clauses hold of all values.',
         'What holds of all values of a type stands in the `ghost invariant` of the type, and what a type is seen as in its `ghost view`; neither is repeated here.',
     ] + body) + '\n'
 

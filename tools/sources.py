@@ -16,7 +16,7 @@ def read(*parts):
 
 def sentences(text):
     """the sentences of a comment"""
-    return re.split(r'(?<=\.) (?=[A-Z`(])', text.strip()) if text.strip() else []
+    return re.split(r'(?<=\.) (?=[A-Z`(])', ' '.join(text.split())) if text.strip() else []
 
 
 def first_sentences(text, least=40):
@@ -102,7 +102,8 @@ class Function:
 
     @property
     def is_law(self):
-        return self.body_is_empty and any(kind == 'ensures' for kind, _, _ in self.clauses)
+        """it gives nothing and changes nothing, so that its clauses are all that it is for"""
+        return '->' not in self.signature and '&mut' not in self.signature and any(kind == 'ensures' for kind, _, _ in self.clauses)
 
 
 @functools.lru_cache(maxsize=None)
@@ -151,9 +152,9 @@ def signature(text, at):
 
 
 def doc_before(lines, number):
-    """the comment above a line, attributes between them passed over"""
+    """the comment above a line, attributes and comments that are no documentation passed over"""
     said, at = [], number - 1
-    while at >= 0 and (lines[at].strip().startswith('#[') or lines[at].strip().endswith(')]')):
+    while at >= 0 and re.match(r'\s*(#\[|//[^/]|.*\)\]$)', lines[at]):
         at -= 1
     while at >= 0 and lines[at].strip().startswith('///'):
         said.insert(0, lines[at].strip()[3:].strip())
@@ -203,13 +204,12 @@ def functions_of(crate, path):
             closed = end_of_braces(text, clause.end() - 1)
             clauses.append((clause.group(1), clause.group(2), ' '.join(text[clause.end():closed - 1].split())))
             behind = closed
-        body = text[behind:].lstrip()
         seen = 'pub' if line.strip().startswith('pub ') or (is_trait and not line.strip().startswith('pub')) else 'crate' if line.strip().startswith('pub(crate)') else ''
         exported = owner in types if owner else module in public or module == 'lib' or (module, match.group(1)) in names
         found.append(Function(crate=crate, path=path, line=number + 1, module=module, name=match.group(1), owner=owner, seen=seen,
                               exported=exported, of_trait=of_trait and not is_trait, is_trait=is_trait,
                               signature=re.sub(r',? \)', ')', ' '.join(text[begin:end].split()).replace('( ', '(')), clauses=clauses,
-                              doc=doc_before(lines, number), body_is_empty=body.startswith('{}') or re.match(r'\{\s*\}', body) is not None))
+                              doc=doc_before(lines, number)))
     return found
 
 

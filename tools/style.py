@@ -37,11 +37,15 @@ def hidden_and_docs():
 
 
 def long_clauses():
+    """clauses of which some line is too long, those of closures among them"""
     for crate, _ in sources.crates():
         for path in sources.source_files(crate):
-            for number, line in enumerate(sources.read(path).split('\n'), 1):
-                if re.match(r'\s*(?:requires|ensures)\b', line) and len(line) > WIDEST:
-                    yield 'long ' + crate, 1, '%s:%d: a clause of %d columns' % (path, number, len(line))
+            text = sources.read(path)
+            for clause in re.finditer(r'^[ ]*(?:requires|ensures)\b[ ]*\w*[ ]*\{', text, re.M):
+                end = text.find('\n', sources.end_of_braces(text, clause.end() - 1))
+                widest = max(len(line) for line in text[clause.start():end].split('\n'))
+                if widest > WIDEST:
+                    yield 'long ' + crate, 1, '%s:%d: a clause of %d columns' % (path, text.count('\n', 0, clause.start()) + 1, widest)
 
 
 def module_names():
