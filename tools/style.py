@@ -1,5 +1,5 @@
 #!/usr/bin/env python3
-"""Says what is out of order in the sources and the documents that no proof looks at: tools/style.py [--shrink]
+"""Says what is out of order in the sources and the documents that no proof looks at: tools/style.py [--shrink | --list]
 
 - hidden: a function that is `pub`, stands in a private module of a library and is handed on by nobody.
 - long: clauses of more than 100 columns; of each crate their number.
@@ -8,7 +8,8 @@
 - In the documents: links and paths that lead nowhere, and names `CRATE::NAME` that no crate has.
 
 What was so when this was written is listed in tools/style.txt. What is not listed there is told with its place, and so is what is
-listed and no longer so; the status is 1 then. --shrink takes what is no longer so off the list, and adds nothing to it.
+listed and no longer so; the status is 1 then. --shrink takes what is no longer so off the list, and adds nothing to it. --list writes the list as it would be with all that is found
+now to standard output: for a merge of work that began before the list was.
 """
 import collections
 import glob
@@ -138,22 +139,26 @@ def wrong():
     return lines + ['%s: "%s" is no longer so: tools/style.py --shrink takes it out' % (LISTED, name) for name in sorted(allowed) if counts[name] < allowed[name]]
 
 
+def lines_of(counts):
+    """a list of what is passed over"""
+    lines = [line for line in sources.read(LISTED).split('\n') if line.startswith('#')]
+    return lines + [name + (' = %d' % counts[name] if name.startswith('long ') or counts[name] > 1 else '') for name in sorted(counts) if counts[name]]
+
+
 def shrink():
     counts, allowed = found()[0], listed()
-    lines = [line for line in sources.read(LISTED).split('\n') if line.startswith('#')]
-    for name in sorted(allowed):
-        least = min(counts[name], allowed[name])
-        if least:
-            lines.append(name + (' = %d' % least if name.startswith('long ') or least > 1 else ''))
     with open(os.path.join(sources.ROOT, LISTED), 'w', encoding='utf-8') as file:
-        file.write('\n'.join(lines) + '\n')
+        file.write('\n'.join(lines_of({name: min(counts[name], allowed[name]) for name in allowed})) + '\n')
 
 
 def main():
-    if sys.argv[1:] not in ([], ['--shrink']):
-        print('usage: style.py [--shrink]', file=sys.stderr)
+    if sys.argv[1:] not in ([], ['--shrink'], ['--list']):
+        print('usage: style.py [--shrink | --list]', file=sys.stderr)
         return 2
-    if sys.argv[1:]:
+    if sys.argv[1:] == ['--list']:
+        print('\n'.join(lines_of(found()[0])))
+        return 0
+    if sys.argv[1:] == ['--shrink']:
         shrink()
     lines = wrong()
     for line in lines:

@@ -20,7 +20,8 @@ use Rattle.list_alike.proofs.Placed.{list_stands}
 use Rattle.board_alike.specs.Changes.{Change, unchanged, takes_out, shifts, appends, Changes, ChangeAll}
 use Rattle.board_alike.specs.Reads.{IsUnit}
 use Rattle.board_alike.specs.Roots.{SameGround}
-use Rattle.board_alike.specs.Same.{IsSame, AreShallow}
+use Rattle.edit_script.specs.Fits.{AreShallow}
+use Rattle.board_alike.specs.Same.{IsSame}
 use Rattle.board_alike.specs.Written.{Draft, Added, untouched, with_changes, FatesAre, added_trees, IsWritten, written_by}
 use Rattle.board_alike.proofs.Appending.{AllMayStand, changes_stand, added_stand}
 use Rattle.board_alike.proofs.Fitting.{fates_fit}

@@ -6,14 +6,13 @@ use Rattle.sexpr_read.specs.Tree.{Forest, none, atom, list, Tree, leaf, branch, 
 use Rattle.sexpr_read.specs.Spelling.{SpellsAll}
 use Rattle.board_items.specs.declared.item.Item.{Item}
 use Rattle.edit_script.specs.Commands.{PlainCommand, add, delete, move, rules, again}
-use Rattle.edit_script.specs.Fits.{IsShallow, Fits}
+use Rattle.edit_script.specs.Fits.{IsShallow, IsShallowIfAdded, AreShallow}
 use Rattle.board_edits.specs.declared.refusal.Refusal.{Refusal}
 use Rattle.board_edits.specs.Deeds.{PlainDeed, nothing, append, put_back, take_out, shift}
 use Rattle.tree_text.specs.Anew.{AreAtoms}
 use Rattle.tree_text.proofs.Whole.{respelled_levels}
 use Rattle.read_alike.specs.Alike.{Shift}
 use Rattle.board_alike.specs.Changes.{Change, unchanged, takes_out, shifts, appends, IsListIn, IsListOf, IsChangeBy, IsChange, AreChanges}
-use Rattle.board_alike.specs.Same.{IsShallowIfAdded, AreShallow}
 use Rattle.board_alike.specs.Written.{Draft, Added, is_gone, shift_of_unit, moved_unit, moved_if, with_list, with_change, with_changes, inside_of, span_of, added_one, added_trees}
 use Rattle.board_alike.proofs.Fitting.{unit_fits}
 
@@ -75,7 +74,10 @@ changes_low [] [] changes shallow is = subst AreLow (sym is) tt
 changes_low [] (answer ∷ answers) changes shallow is = absurd is
 changes_low (command ∷ commands) [] changes shallow is = absurd is
 changes_low (command ∷ commands) (answer ∷ answers) [] shallow is = absurd is
-changes_low (command ∷ commands) (answer ∷ answers) (change ∷ changes) shallow is = (change_low command answer change shallow.0 is.0, changes_low commands answers changes shallow.1 is.1)
+changes_low (command ∷ commands) (answer ∷ answers) (change ∷ changes) shallow is = (
+  change_low command answer change (All-head IsShallowIfAdded command commands shallow) is.0,
+  changes_low commands answers changes (All-tail IsShallowIfAdded command commands shallow) is.1,
+)
 
 -- ---- through all of them
 
@@ -123,16 +125,3 @@ one_added draft t (Some unit) more atoms low h = by_gone (is_gone draft unit)
 pub added_low : (draft : Draft) (added : List Added) → AllAtoms added → AllLow added → suc (levels_in (added_trees draft added)) ≤ 64
 added_low draft [] atoms low = omega arith
 added_low draft (a ∷ more) atoms low = one_added draft a.tree a.unit (added_trees draft more) atoms.0 low.0 (added_low draft more atoms.1 low.1)
-
--- ---- commands that may be carried out add no others
-
-one_shallow : (command : PlainCommand) → Fits command → IsShallowIfAdded command
-one_shallow (add text at) h = h.1
-one_shallow (delete name at) h = tt
-one_shallow (move name dx dy at) h = tt
-one_shallow (rules text at) h = tt
-one_shallow (again at) h = tt
-
-pub fits_shallow : (commands : List PlainCommand) → All Fits commands → AreShallow commands
-fits_shallow [] h = tt
-fits_shallow (command ∷ commands) h = (one_shallow command (All-head Fits command commands h), fits_shallow commands (All-tail Fits command commands h))

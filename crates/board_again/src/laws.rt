@@ -1,6 +1,6 @@
 //! Laws. The functions do nothing: each clause holds for all boards and lists.
 
-ghost use Rattle.std.specs.Prelude.{◌≡◌, [], ◌∷◌, ℕ, suc, Bool, true, false, List, map, length, find, All, Option, None, Some, Ok};
+ghost use Rattle.std.specs.Prelude.{◌≡◌, [], ◌∷◌, ℕ, suc, Bool, true, false, List, map, length, find, Option, None, Some, Ok};
 ghost use Rattle.sexpr_read.specs.declared.place.Span.{Span};
 ghost use Rattle.sexpr_read.specs.Tree.{Forest, atom, Tree, branch, trees, is_list};
 ghost use Rattle.board_items.specs.declared.item.Item.{Item};
@@ -19,9 +19,7 @@ ghost use Rattle.board_alike.specs.Roots.{SameGround, SameItems};
 ghost use Rattle.board_alike.specs.Written.{moved_if, IsWritten};
 ghost use Rattle.board_alike.specs.Ledger.{Entry, AreNow};
 ghost use Rattle.board_alike.specs.Reads.{IsUnit};
-ghost use Rattle.edit_script.specs.Commands.{PlainCommand};
-ghost use Rattle.edit_script.specs.Fits.{Fits};
-ghost use Rattle.board_alike.specs.Same.{AreShallow, IsReadBack};
+ghost use Rattle.board_alike.specs.Same.{IsReadBack};
 ghost use Rattle.board_again.specs.Carries.{Carries};
 
 /// A list is of the same sort when it is written anew, and parts that give no items leave those of the board. Read on boards with the
@@ -60,10 +58,9 @@ pub fn footprints()
 {}
 
 /// The written text of an edited board is read again as the board that the commands left: with its layers, its nets and its items in
-/// their order, which differ in nothing but ids and in how units are numbered. No added list may be too deep, which those of commands
-/// that may be carried out are not. Where there is no command, the written text is the text itself.
+/// their order, which differ in nothing but ids and in how units are numbered. No added list may have more than 63 levels, which those of
+/// a script have not. Where there is no command, the written text is the text itself.
 pub fn read_back()
     ensures again { IsReadBack }
-    ensures fit { (commands : List PlainCommand) → All Fits commands → AreShallow commands }
     ensures unchanged { (text out : List ℕ) (last : PlainBoard) → IsWritten text [] out last → out ≡ text }
 {}

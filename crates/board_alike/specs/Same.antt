@@ -1,11 +1,11 @@
 -- Boards that are the same but for ids and unit numbers.
-use Rattle.std.specs.Prelude.{◌≡◌, ℕ, List, [], ◌∷◌, ◌↔◌, Some, Ok, ⊤}
+use Rattle.std.specs.Prelude.{◌≡◌, ℕ, List, ◌↔◌, Some, Ok}
 use Rattle.std.specs.List.{AllZip, slice_get}
 use Rattle.board_items.specs.declared.item.Item.{Item}
 use Rattle.board_items.specs.Boards.{PlainBoard}
 use Rattle.pcb_read.specs.BoardText.{BoardSays}
-use Rattle.edit_script.specs.Commands.{PlainCommand, add}
-use Rattle.edit_script.specs.Fits.{IsShallow}
+use Rattle.edit_script.specs.Commands.{PlainCommand}
+pub use Rattle.edit_script.specs.Fits.{AreShallow}
 use Rattle.board_alike.specs.Written.{IsWritten}
 
 -- equal but for their units
@@ -19,15 +19,6 @@ pub record IsSame (a b : PlainBoard) : Type 0 where
   -- two items share a unit in the one exactly where they do in the other
   pub units : (i j : ℕ) (p q r s : ℕ × Item) → slice_get a.items i ≡ Some p → slice_get a.items j ≡ Some q → slice_get b.items i ≡ Some r → slice_get b.items j ≡ Some s
       → (p.1.unit ≡ q.1.unit) ↔ (r.1.unit ≡ s.1.unit)
-
--- no list that is added has more than 63 levels
-abbrev pub IsShallowIfAdded : PlainCommand → Type 0
-IsShallowIfAdded (add text at) = IsShallow text
-IsShallowIfAdded command = ⊤
-
-abbrev pub AreShallow : List PlainCommand → Type 0
-AreShallow [] = ⊤
-AreShallow (command ∷ commands) = IsShallowIfAdded command × AreShallow commands
 
 -- reading the written text again gives the board after the commands, where no added list is too deep to stand in that of a board
 abbrev pub IsReadBack : Type 0

@@ -43,7 +43,9 @@ fn text_of_grid(alloc: Global, grid: Grid) -> Result<Vec<u8>, Fault>
     for number in 0..columns.wrapping_mul(rows) {
         let x = place(number % columns, step, -499);
         let y = place(number / columns, step, -399);
-        let via = format!(in alloc; " (via (at {x} {y}) (size 0.8) (drill 0.4) (layers F.Cu B.Cu) (net 1))")?;
+        let via = format!(in alloc;
+            " (via (at {x} {y}) (size 0.8) (drill 0.4) (layers F.Cu B.Cu) (net 1))"
+        )?;
         add(&mut text, via.as_bytes())?;
     }
     add(&mut text, b")")?;
@@ -61,7 +63,10 @@ fn least(group: Option<&Group>) -> Option<u32> {
 /// How many groups there are, how many of these have one member, and the least members of the first and of the last.
 fn shown(alloc: Global, groups: &[Group]) -> Result<Vec<u8>, Fault> {
     let count = groups.len();
-    let alone = groups.iter().filter(|group| group.members().len() == 1).count();
+    let alone = groups
+        .iter()
+        .filter(|group| group.members().len() == 1)
+        .count();
     let first = least(groups.first());
     let last = least(groups.last());
     Ok(format!(in alloc; "{count} groups, {alone} of one, {first:?} to {last:?}")?.into_bytes())

@@ -1,14 +1,14 @@
 -- The place of a list, as it was taken apart.
 use Rattle.std.proofs.Common.{◌≡◌, ◌∙◌, sym, ap, subst, ◌+◌, ◌≤◌, ℤ, ◌+ℤ◌, true, ◌∷◌, Option, None, Some, unsigned_abs, IfSome, option_map, pos, negsuc, FitsSigned, arith}
 use Rattle.std.proofs.lemmas.Int.{ints, to_z-of_z}
-use mir.Syntax.{w128}
+use mir.Syntax.{w64, w128}
 use Rattle.int_algebra.proofs.Scalars.{passed_wide}
 use Rattle.sexpr_read.specs.declared.view.Node.{Node}
 use Rattle.sexpr_read.specs.declared.view.Children.{Children}
 use Rattle.sexpr_read.specs.Tree.{Tree, parts, value}
 use Rattle.sexpr_read.specs.Views.{tree_of, trees_left}
 use Rattle.read_alike.specs.Alike.{is_place_head}
-use Rattle.board_write.specs.Marks.{PlainMark, moves}
+use Rattle.board_write.specs.Marks.{PlainMark, moves, IsHeld}
 use Rattle.board_write.specs.declared.places.Number.{Number}
 use Rattle.board_write.specs.declared.places.Place.{Place}
 use Rattle.board_write.specs.Settings.{grove, inside}
@@ -16,10 +16,10 @@ use Rattle.board_write.specs.Places.{atom_moved, as_atom, StandsIn}
 use Rattle.board_write.proofs.Groves.{stands_is}
 
 -- a shift's distance, as it is passed to a call
-pub wide : (z : ℤ) → unsigned_abs z ≤ 4294967295000000000000 → passed_wide z ≡ z
+pub wide : (z : ℤ) → unsigned_abs z ≤ 39614081247908796759917199360 → passed_wide z ≡ z
 wide z h = to_z-of_z w128 z (fits z h)
   where
-    fits : (z : ℤ) → unsigned_abs z ≤ 4294967295000000000000 → FitsSigned w128 z
+    fits : (z : ℤ) → unsigned_abs z ≤ 39614081247908796759917199360 → FitsSigned w128 z
     fits (pos n) h = record { sfits = omega (arith, ints) }
     fits (negsuc n) h = record { sfits = omega (arith, ints) }
 
@@ -47,14 +47,19 @@ module _ (t : Tree) (h x y : Node) (rest : Children) (a b : ℤ) (ox oy : Option
         near_y = subst (λ (o : Option Number). IfSome o (λ n. unsigned_abs n.nm ≤ 1000000000000)) gy ny;
       }
 
+-- a number of 64 bits
+pub held : (z : ℤ) → FitsSigned w64 z → IsHeld z
+held (pos n) h = omega (arith, ints, h.sfits)
+held (negsuc n) h = omega (arith, ints, h.sfits)
+
 -- ---- shifts that are summed
 
 pub moves_same : (a b c d : ℤ) → a ≡ c → b ≡ d → (let m : PlainMark = moves (record { dx = a; dy = b }) in m) ≡ moves (record { dx = c; dy = d })
 moves_same a b c d x y = ap (λ (z : ℤ). let m : PlainMark = moves (record { dx = z; dy = b }) in m) x ∙ ap (λ (z : ℤ). let m : PlainMark = moves (record { dx = c; dy = z }) in m) y
 
-pub sum_passed : (b r d : ℤ) → unsigned_abs b ≤ 4294967294000000000000 → unsigned_abs d ≤ 1000000000000 → r ≡ d → passed_wide (passed_wide b +ℤ passed_wide r) ≡ b +ℤ d
+pub sum_passed : (b r d : ℤ) → unsigned_abs b ≤ 39614081238685424723062423552 → unsigned_abs d ≤ 9223372036854775808 → r ≡ d → passed_wide (passed_wide b +ℤ passed_wide r) ≡ b +ℤ d
 sum_passed b r d h k e =
-    let small : unsigned_abs r ≤ 4294967295000000000000 = subst (λ (z : ℤ). unsigned_abs z ≤ 4294967295000000000000) (sym e) (omega (arith, k)) in
+    let small : unsigned_abs r ≤ 39614081247908796759917199360 = subst (λ (z : ℤ). unsigned_abs z ≤ 39614081247908796759917199360) (sym e) (omega (arith, k)) in
     let each : passed_wide b +ℤ passed_wide r ≡ b +ℤ d = ap (λ (z : ℤ). z +ℤ passed_wide r) (wide b (omega (arith, h))) ∙ ap (λ (z : ℤ). b +ℤ z) (wide r small ∙ e) in
     let sum = abs_sum b d in
     ap passed_wide each ∙ wide (b +ℤ d) (omega (arith, sum, h, k))

@@ -2,7 +2,6 @@
 use Rattle.std.proofs.Common.{◌≡◌, ◌∙◌, refl, sym, ap, subst, ℕ, suc, zero, ◌+◌, ◌-◌, ◌<◌, ◌≤◌, arith, ℤ, pos, negsuc, unsigned_abs, ◌+ℤ◌, replicate, take, Bool, true, false, cond, List, [], ◌∷◌, ◌++◌, length, map, length-append, All, Option, None, Some, Result, Ok, Err}
 use Rattle.std.specs.Prelude.{slice_set, nat_eq}
 use Rattle.std.proofs.lemmas.Int.{ints}
-use Rattle.edit_script.specs.Fits.{IsNear}
 use Rattle.std.proofs.lemmas.List.{map-append, length-set, length-replicate, take_all, get_or-set_same, get_or-set_other}
 use Rattle.std.proofs.lemmas.Bool.{eqb-true, eq-eqb}
 use Rattle.std.proofs.lemmas.List.Elements.{All-append, All-cons, All-nil}
@@ -38,7 +37,7 @@ use Rattle.board_alike.proofs.Turning.{one_change}
 use Rattle.board_write.specs.declared.marks.Mark.{Mark}
 use Rattle.board_write.specs.declared.marks.Mark.TheVariants.{Stays, Gone}
 use Rattle.board_write.specs.declared.course.Course.{Course}
-use Rattle.board_write.specs.Marks.{PlainMark, stays, gone, moves, plain_mark, mark_at, moved_on, IsMarkedOn, IsShort}
+use Rattle.board_write.specs.Marks.{PlainMark, stays, gone, moves, plain_mark, mark_at, moved_on, IsMarkedOn, IsHeld, IsShort}
 use Rattle.board_write.specs.Fates.{first_of, one_list, IsAlone, plain_added}
 use Rattle.board_write.specs.Answers.{refused_by, refused_in}
 use Rattle.board_write.specs.Course.{is_nil, SameNotes, IsListNoted, IsAppendNoted, IsNoted, CanNote, LeftBy, IsStep, IsDraft, Reached, IsOnCourse}
@@ -274,7 +273,7 @@ by_deed command old new draft sound h nothing does fits after n = (unchanged, re
 by_deed command old new draft sound h (append items) does fits after n = with_append command old new draft sound h items does fits after n
 by_deed command old new draft sound h (put_back items) does fits after n = absurd (none_back old.board command items does)
 by_deed command old new draft sound h (take_out u) does fits after n = with_taken command old new draft sound h u does after n
-by_deed command old new draft sound h (shift u dx dy) does fits after n = with_shift command old new draft sound h u dx dy does after n
+by_deed command old new draft sound h (shift u dx dy) does fits after n = with_shift command old new draft sound h u dx dy does after (n.0, n.1)
 
 by_answer : (command : PlainCommand) (old new : Course) (draft : Draft) → IsSound old.board → IsDraft draft old → (answer : Result PlainDeed Refusal) → Does old.board command answer → LeftBy command answer old new
     → (change : Change) × IsChange command answer change × IsDraft (with_change draft change) new × IsLeft old.board answer new.board
@@ -324,7 +323,7 @@ abs_sum (pos m) (negsuc n) = omega (arith, ints)
 abs_sum (negsuc m) (pos n) = omega (arith, ints)
 abs_sum (negsuc m) (negsuc n) = omega (arith, ints)
 
-moved_short : (many : ℕ) (dx dy : ℤ) (mark : PlainMark) → IsNear dx → IsNear dy → IsShort many mark → IsShort (many + 1) (moved_on dx dy mark)
+moved_short : (many : ℕ) (dx dy : ℤ) (mark : PlainMark) → IsHeld dx → IsHeld dy → IsShort many mark → IsShort (many + 1) (moved_on dx dy mark)
 moved_short many dx dy stays nx ny h = (omega (arith, nx), omega (arith, ny))
 moved_short many dx dy gone nx ny h = tt
 moved_short many dx dy (moves by) nx ny h =
@@ -371,7 +370,7 @@ deed_short command old new draft sound d many h (shift v dx dy) does fits n u =
     let each = d.each in
     let below = can_shift old.board command v dx dy sound does in
     set_short many old.marks.items new.marks.items v n.0.0 (omega (arith, each, below)) n.0.2
-    (subst (IsShort (many + 1)) (sym n.0.1) (moved_short many dx dy (plain_mark (mark_at old.marks.items v)) fits.0 fits.1 (h v))) h u
+    (subst (IsShort (many + 1)) (sym n.0.1) (moved_short many dx dy (plain_mark (mark_at old.marks.items v)) n.2 n.3 (h v))) h u
 
 answer_short : (command : PlainCommand) (old new : Course) (draft : Draft) → IsSound old.board → IsDraft draft old → (many : ℕ) → ((u : ℕ) → IsShort many (plain_mark (mark_at old.marks.items u))) → (answer : Result PlainDeed Refusal) → Does old.board command answer
     → LeftBy command answer old new → (u : ℕ) → IsShort (many + 1) (plain_mark (mark_at new.marks.items u))
@@ -442,4 +441,4 @@ noted_board (rules text at) (append items) old new last m a n = tt
 noted_board (again at) (append items) old new last m a n = tt
 noted_board command (put_back items) old new last m a n = record { marks = m ∙ n.marks; added = a ∙ n.added }
 noted_board command (take_out u) old new last m a n = (m ∙ n.0, a ∙ n.1)
-noted_board command (shift u dx dy) old new last m a n = ((n.0.0, n.0.1, m ∙ n.0.2), a ∙ n.1)
+noted_board command (shift u dx dy) old new last m a n = ((n.0.0, n.0.1, m ∙ n.0.2), a ∙ n.1, n.2, n.3)

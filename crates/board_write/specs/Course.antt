@@ -13,7 +13,7 @@ use Rattle.board_alike.specs.Written.{Draft, untouched, with_changes}
 use Rattle.board_write.specs.declared.marks.Mark.TheVariants.{Stays, Gone}
 use Rattle.board_write.specs.declared.course.AddedList.{AddedList}
 use Rattle.board_write.specs.declared.course.Course.{Course}
-use Rattle.board_write.specs.Marks.{plain_mark, mark_at, AreMarks, IsMarkedOn, IsShort}
+use Rattle.board_write.specs.Marks.{plain_mark, mark_at, AreMarks, IsMarkedOn, IsHeld, IsShort}
 use Rattle.board_write.specs.Fates.{IsAlone, plain_added}
 use Rattle.board_write.specs.Answers.{refused_by, refused_in}
 
@@ -49,7 +49,7 @@ IsNoted command nothing old new = SameNotes old new
 IsNoted command (append items) old new = IsAppendNoted command (is_nil items) old new
 IsNoted command (put_back items) old new = SameNotes old new
 IsNoted command (take_out unit) old new = (new.marks.items ≡ slice_set old.marks.items unit Gone) × (new.added.items ≡ old.added.items)
-IsNoted command (shift unit dx dy) old new = IsMarkedOn dx dy unit old.marks.items new.marks.items × (new.added.items ≡ old.added.items)
+IsNoted command (shift unit dx dy) old new = IsMarkedOn dx dy unit old.marks.items new.marks.items × (new.added.items ≡ old.added.items) × IsHeld dx × IsHeld dy
 
 -- the unit of a deed has a mark, and can be moved once more
 abbrev pub CanNote : PlainDeed → Course → Type 0

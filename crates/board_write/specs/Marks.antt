@@ -52,8 +52,12 @@ moved_on dx dy (moves by) = moves (record { dx = by.dx +ℤ dx; dy = by.dy +ℤ 
 abbrev pub IsMarkedOn : ℤ → ℤ → ℕ → List Mark → List Mark → Type 0
 IsMarkedOn dx dy unit old new = (mark : Mark) × (plain_mark mark ≡ moved_on dx dy (plain_mark (mark_at old unit))) × (new ≡ slice_set old unit mark)
 
--- a shift of so many moves at most, of 10^12 nanometres each
+-- a distance of 64 bits
+abbrev pub IsHeld : ℤ → Type 0
+IsHeld n = unsigned_abs n ≤ 9223372036854775808
+
+-- a shift of so many moves at most, each by distances of 64 bits
 abbrev pub IsShort : ℕ → PlainMark → Type 0
 IsShort many stays = ⊤
 IsShort many gone = ⊤
-IsShort many (moves by) = (unsigned_abs by.dx ≤ many * 1000000000000) × (unsigned_abs by.dy ≤ many * 1000000000000)
+IsShort many (moves by) = (unsigned_abs by.dx ≤ many * 9223372036854775808) × (unsigned_abs by.dy ≤ many * 9223372036854775808)

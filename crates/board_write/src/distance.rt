@@ -7,7 +7,7 @@ ghost use Rattle.std.specs.Prelude.{◌≤◌, unsigned_abs};
 pub(crate) struct Distance {
     pub dx: i128,
     pub dy: i128,
-    // As far as 2^32 - 1 moves of 10^12 nanometres.
-    pub ghost near_x: { unsigned_abs dx ≤ 4294967295000000000000 },
-    pub ghost near_y: { unsigned_abs dy ≤ 4294967295000000000000 },
+    // As far as 2^32 - 1 moves by distances of 64 bits.
+    pub ghost near_x: { unsigned_abs dx ≤ 39614081247908796759917199360 },
+    pub ghost near_y: { unsigned_abs dy ≤ 39614081247908796759917199360 },
 }

@@ -34,7 +34,8 @@ pub use source::{SourceText, read_source};
 use std::alloc::Global;
 
 /// Writes the text of the board after the commands to the sink, and gives how many of them were refused. `text` is that of a board, of
-/// at most 33,554,432 bytes, and what is asked of the commands is what `read_script` gives.
+/// at most 33,554,432 bytes, and what is asked of the commands is what `read_script` gives. A board is read again from the text where no
+/// added list has more than 63 levels, which those of a script have not.
 ///
 /// A command that is refused leaves the board as it is. Rules, and a report again, change nothing and are not counted. The sink is called
 /// only when the whole text stands in memory.

@@ -1,9 +1,8 @@
 //! What has become of the units of a board.
 
 ghost use Rattle.std.specs.Prelude.{◌≡◌, ◌<◌, length, slice_set};
-ghost use Rattle.edit_script.specs.Fits.{IsNear};
 ghost use Rattle.board_write.specs.declared.marks.Mark.{Mark};
-ghost use Rattle.board_write.specs.Marks.{plain_mark, mark_at, mark_of_unit, moved_on, IsShort, IsMarkedOn};
+ghost use Rattle.board_write.specs.Marks.{plain_mark, mark_at, mark_of_unit, moved_on, IsHeld, IsShort, IsMarkedOn};
 
 use crate::distance::Distance;
 use edit_script::Nm;
@@ -38,9 +37,7 @@ pub(crate) fn mark_at(marks: &[Mark], unit: usize) -> Mark
 
 /// A mark after one more move.
 fn moved_on(mark: Mark, dx: Nm, dy: Nm) -> Mark
-    requires short { IsShort 4294967294 (plain_mark mark) }
-    requires dx { IsNear dx }
-    requires dy { IsNear dy }
+    requires { IsShort 4294967294 (plain_mark mark) }
     ensures { plain_mark result ≡ moved_on dx dy (plain_mark mark) }
 {
     match mark {
@@ -68,9 +65,8 @@ pub(crate) fn note_gone(marks: &mut [Mark], unit: u32)
 pub(crate) fn note_move(marks: &mut [Mark], unit: u32, dx: Nm, dy: Nm)
     requires unit { unit < length marks.old }
     requires short { IsShort 4294967294 (plain_mark (mark_at marks.old unit)) }
-    requires dx { IsNear dx }
-    requires dy { IsNear dy }
-    ensures { IsMarkedOn dx dy unit marks.old marks.new }
+    ensures marked { IsMarkedOn dx dy unit marks.old marks.new }
+    ensures held { IsHeld dx × IsHeld dy }
 {
     let mark = mark_at(marks, unit as usize);
     marks[unit as usize] = moved_on(mark, dx, dy);

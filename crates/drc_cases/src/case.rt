@@ -1,21 +1,35 @@
-//! What a case gives to the program, and how it is to end.
+//! What a case gives to the program or to a call, and how it is to end.
 
+use crate::calls::made;
+use crate::cuts::Cut;
+use case_gates::Turns;
 use case_lines::Outcome;
 use drc_io::{MemShelf, MemSink, Name};
 use drc_run::run_all;
 use std::alloc::{AllocError, Global};
+use std::io::Print;
 use std::thread::Threads;
-use tile_pool::NoGate;
 
-/// The words, the files, the numbers of the reads and writes that fail, and how many bytes a read gives and a write takes at most.
+/// Which number of each deal is kept back until which other one is done, and in how many deals both are to come.
+#[derive(Clone, Copy)]
+pub struct Hold {
+    pub first: u32,
+    pub other: u32,
+    pub rounds: u32,
+}
+
+/// The words of the program or of a call, the files, the numbers of the reads and writes that fail, how many bytes a read gives and a write
+/// takes at most, and which number is kept back.
 #[derive(Drop)]
 pub struct Given {
+    pub is_call: bool,
     pub words: Vec<String>,
     pub files: Vec<(Name, Vec<u8>)>,
     pub failing_reads: Vec<u64>,
     pub failing_writes: Vec<u64>,
     pub given_at_once: u64,
     pub taken_at_once: u64,
+    pub hold: Option<Hold>,
 }
 
 /// A run of the program and how it is to end.
@@ -24,47 +38,133 @@ pub struct Case {
     pub name: String,
     pub given: Given,
     pub expected: Outcome,
+    pub cut: Option<Cut>,
+}
+
+/// A file that is cut, and to how many bytes.
+#[derive(Clone, Copy)]
+pub struct Shorter<'a> {
+    pub file: &'a str,
+    pub length: usize,
 }
 
 /// How many bytes a run may write past those that are expected.
 const ROOM: usize = 65_536;
 
+/// How many bytes of a text of that name are given.
+fn end_of(name: &Name, text: &[u8], shorter: Option<Shorter<'_>>) -> usize {
+    match shorter {
+        Some(shorter) if name.bytes() == shorter.file.as_bytes() => shorter.length.min(text.len()),
+        _ => text.len(),
+    }
+}
+
 impl Given {
     /// No words, no files and no faults.
     pub fn nothing(alloc: Global) -> Given {
         Given {
+            is_call: false,
             words: Vec::new(alloc),
             files: Vec::new(alloc),
             failing_reads: Vec::new(alloc),
             failing_writes: Vec::new(alloc),
             given_at_once: u64::MAX,
             taken_at_once: u64::MAX,
+            hold: None,
         }
     }
 
-    /// How the program ends on this, where some so many bytes are expected of it.
-    pub fn run<R: Threads + Sync + AllocGlobal>(
-        self,
+    /// The text of the first file of this name.
+    pub fn text(&self, name: &str) -> Option<&[u8]> {
+        for (title, text) in self.files.iter() {
+            if title.bytes() == name.as_bytes() {
+                return Some(text);
+            }
+        }
+        None
+    }
+
+    /// The files, of which one may be cut.
+    fn files(
+        &self,
+        alloc: Global,
+        shorter: Option<Shorter<'_>>,
+    ) -> Result<Vec<(Name, Vec<u8>)>, AllocError> {
+        let mut files = Vec::new(alloc);
+        for (name, text) in self.files.iter() {
+            let end = end_of(name, text, shorter).min(text.len());
+            files.push((name.copy()?, text[..end].to_vec(alloc)?))?;
+        }
+        Ok(files)
+    }
+
+    /// Where the writes go, of which so many bytes are expected.
+    pub fn sink(&self, alloc: Global, expected: usize) -> Result<MemSink, AllocError> {
+        let fails = self.failing_writes.as_slice().to_vec(alloc)?;
+        let room = expected.saturating_add(ROOM);
+        MemSink::new(alloc, self.taken_at_once.max(1) as usize, room, fails)
+    }
+
+    /// How the program ends on this.
+    fn run<R: Threads + Sync + AllocGlobal>(
+        &self,
         rt: &R,
+        gate: &Turns,
         expected: usize,
+        shorter: Option<Shorter<'_>>,
     ) -> Result<Outcome, AllocError> {
         let alloc = rt.alloc();
-        let Given {
-            words,
-            files,
-            failing_reads,
-            failing_writes,
-            given_at_once,
-            taken_at_once,
-        } = self;
-        let mut shelf = MemShelf::in_pieces(files, failing_reads, given_at_once.max(1) as usize);
-        let room = expected.saturating_add(ROOM);
-        let mut out = MemSink::new(alloc, taken_at_once.max(1) as usize, room, failing_writes)?;
-        let words: Vec<&str> = words.iter().map(|word| word.as_str()).collect(alloc)?;
-        let status = run_all(rt, &words, &mut shelf, &mut out, &NoGate);
+        let fails = self.failing_reads.as_slice().to_vec(alloc)?;
+        let files = self.files(alloc, shorter)?;
+        let mut shelf = MemShelf::in_pieces(files, fails, self.given_at_once.max(1) as usize);
+        let mut out = self.sink(alloc, expected)?;
+        let words: Vec<&str> = self.words.iter().map(|word| word.as_str()).collect(alloc)?;
+        let status = run_all(rt, &words, &mut shelf, &mut out, gate);
         Ok(Outcome {
             status,
             text: out.bytes().to_vec(alloc)?,
         })
+    }
+
+    /// How the program or the call ends on this, where a file may be cut and so many bytes are expected.
+    pub fn outcome<R: Threads + Sync + AllocGlobal + Print>(
+        &self,
+        rt: &R,
+        gate: &Turns,
+        expected: usize,
+        shorter: Option<Shorter<'_>>,
+    ) -> Result<Outcome, AllocError> {
+        if self.is_call {
+            made(rt, self, gate)
+        } else {
+            self.run(rt, gate, expected, shorter)
+        }
+    }
+
+    /// The gate that keeps back what is to be kept back.
+    pub fn gate(&self) -> Turns {
+        match self.hold {
+            Some(hold) => Turns::new(hold.first, hold.other),
+            None => Turns::none(),
+        }
+    }
+
+    /// What to say of a gate that gave up, or was asked more or less often than it was to be.
+    pub fn held_otherwise(
+        &self,
+        alloc: Global,
+        gate: &Turns,
+    ) -> Result<Option<String>, AllocError> {
+        let Some(hold) = self.hold else {
+            return Ok(None);
+        };
+        let gave_up = gate.gave_up();
+        let rounds = gate.rounds();
+        let expected = hold.rounds;
+        if !gave_up && rounds == expected {
+            return Ok(None);
+        }
+        let text = format!(in alloc; "gave up: {gave_up}, asked: {rounds}, expected {expected}")?;
+        Ok(Some(text))
     }
 }

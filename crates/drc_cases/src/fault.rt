@@ -25,7 +25,10 @@ pub enum Reason {
     UnknownEscape,
     BadNumber,
     BadName,
+    BadMark,
+    NoCut,
     TooLong,
+    NoCall,
     OutOfMemory,
 }
 
@@ -49,6 +52,9 @@ impl Reason {
             Reason::UnknownEscape => "has an escape that is none",
             Reason::BadNumber => "has no number where one is demanded",
             Reason::BadName => "names a shorthand by more than letters, digits and underscores",
+            Reason::BadMark => "says no length above the one before, or does not begin with 0",
+            Reason::NoCut => "says how a case ends of which no file is cut",
+            Reason::NoCall => "is no call on these files",
             Reason::TooLong => "makes a text too long",
             Reason::OutOfMemory => "memory ran out",
         }

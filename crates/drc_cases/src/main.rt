@@ -1,18 +1,33 @@
-//! Runs cases of the whole program that are written as data: each word of the command line names a file of them.
+//! Runs cases of the whole program, and of the calls of the crates just beneath it, that are written as data: each word of the command line
+//! names a file of them.
 //!
 //! Prints the name of each case with ` ok`, or with what differs, and ends with status 1 where one differs. A line
 //! that cannot be read counts as differing, and its case is not tried. `docs/CASES.md` has the format.
 #![tactic(auto)]
 
+mod alike;
+mod all_pairs;
+mod answers;
+mod calls;
 mod case;
+mod cuts;
 mod fault;
+mod nets;
+mod opening;
+mod pairs;
 mod reader;
+mod stopping;
+mod surveys;
 mod texts;
+mod trying;
+mod writing;
 
-use case::Case;
-use case_lines::difference;
+use case::{Case, Given, Shorter};
+use case_lines::{Outcome, difference};
+use cuts::Cut;
 use fault::Fault;
 use reader::{Line, first_case, lines_of, read_case};
+use std::alloc::AllocError;
 use std::env::Env;
 use std::process::ExitCode;
 use std::rt::Files;
@@ -27,26 +42,85 @@ struct Counts {
     differ: u64,
 }
 
-/// Runs a case and prints how it ended.
+/// What differs where a case is run or called, with a file that may be cut.
+fn fault_at<R: Threads + Sync + AllocGlobal + Print>(
+    rt: &R,
+    given: &Given,
+    shorter: Option<Shorter<'_>>,
+    expected: &Outcome,
+) -> Result<Option<String>, AllocError> {
+    let gate = given.gate();
+    let found = given.outcome(rt, &gate, expected.text.len(), shorter)?;
+    match given.held_otherwise(rt.alloc(), &gate)? {
+        Some(text) => Ok(Some(text)),
+        None => difference(rt.alloc(), &found, expected),
+    }
+}
+
+/// What differs at a length of a file that is cut.
+fn fault_of_length<R: Threads + Sync + AllocGlobal + Print>(
+    rt: &R,
+    case: &Case,
+    cut: &Cut,
+    length: usize,
+) -> Result<Option<String>, AllocError> {
+    let wanted = cut.outcome(rt.alloc(), length)?;
+    let expected = match &wanted {
+        Some(outcome) => outcome,
+        None => &case.expected,
+    };
+    let file = cut.file.as_str();
+    fault_at(rt, &case.given, Some(Shorter { file, length }), expected)
+}
+
+/// What differs at the first length of its file at which something differs.
+fn fault_of_cut<R: Threads + Sync + AllocGlobal + Print>(
+    rt: &R,
+    case: &Case,
+    cut: &Cut,
+) -> Result<Option<String>, AllocError> {
+    let whole = case
+        .given
+        .text(cut.file.as_str())
+        .map_or(0, |text| text.len());
+    for length in 0..whole {
+        if let Some(fault) = fault_of_length(rt, case, cut, length)? {
+            return Ok(Some(format!(in rt.alloc(); "cut to {length}: {fault}")?));
+        }
+    }
+    Ok(None)
+}
+
+/// What differs of a case.
+fn fault_of<R: Threads + Sync + AllocGlobal + Print>(
+    rt: &R,
+    case: &Case,
+) -> Result<Option<String>, AllocError> {
+    if let Some(fault) = fault_at(rt, &case.given, None, &case.expected)? {
+        return Ok(Some(fault));
+    }
+    match &case.cut {
+        Some(cut) => fault_of_cut(rt, case, cut),
+        None => Ok(None),
+    }
+}
+
+/// Tries a case and prints how it ended.
 fn try_case<R: Threads + Sync + AllocGlobal + Print>(
     rt: &R,
     counts: &mut Counts,
     case: Case,
 ) -> io::Result<()> {
-    let Case {
-        name,
-        given,
-        expected,
-    } = case;
-    let found = given.run(rt, expected.text.len())?;
-    match difference(rt.alloc(), &found, &expected)? {
+    let fault = fault_of(rt, &case)?;
+    let name = case.name.as_str();
+    match fault {
         None => {
             counts.ok = counts.ok.saturating_add(1);
             println!(rt; "{name} ok")
         }
-        Some(difference) => {
+        Some(fault) => {
             counts.differ = counts.differ.saturating_add(1);
-            println!(rt; "{name}: {difference}")
+            println!(rt; "{name}: {fault}")
         }
     }
 }

@@ -1,6 +1,7 @@
 //! Reads a case from its lines.
 
-use crate::case::{Case, Given};
+use crate::case::{Case, Given, Hold};
+use crate::cuts::{Cut, mark_of};
 use crate::fault::{Fault, Reason};
 use crate::texts::{Shorthands, add_times, first_word, is_in_name, number};
 use case_lines::Outcome;
@@ -20,6 +21,7 @@ struct Draft {
     name: Option<String>,
     given: Given,
     expected: Option<Outcome>,
+    cut: Option<Cut>,
 }
 
 /// The lines of a text that say something.
@@ -138,6 +140,22 @@ fn file_of(
     Ok((name, text_of(alloc, shorthands, written, others)?))
 }
 
+/// A number that 32 bits hold.
+fn small(written: &str) -> Result<u32, Reason> {
+    u32::try_from(number(written)?).map_err(|_| Reason::BadNumber)
+}
+
+/// Reads which number is kept back until which other, and in how many deals.
+fn hold_of(written: &str) -> Result<Hold, Reason> {
+    let (first, rest) = first_word(written);
+    let (other, rounds) = first_word(rest);
+    Ok(Hold {
+        first: small(first)?,
+        other: small(other)?,
+        rounds: small(rounds)?,
+    })
+}
+
 /// Reads a line on what the program is given.
 fn add_given(
     alloc: Global,
@@ -148,6 +166,11 @@ fn add_given(
 ) -> Result<(), Reason> {
     match kind {
         "run" => add_words(alloc, &mut given.words, rest)?,
+        "call" => {
+            given.is_call = true;
+            add_words(alloc, &mut given.words, rest)?
+        }
+        "hold" => given.hold = Some(hold_of(rest)?),
         "file" => given.files.push(file_of(alloc, shorthands, rest, others)?)?,
         "give" => given.given_at_once = number(rest)?,
         "take" => given.taken_at_once = number(rest)?,
@@ -156,6 +179,24 @@ fn add_given(
         _ => return Err(Reason::UnknownLine),
     }
     Ok(())
+}
+
+/// Reads which file is cut, or how the case ends from a length on.
+fn add_cut(
+    alloc: Global,
+    shorthands: &Shorthands,
+    cut: &mut Option<Cut>,
+    kind: &str,
+    rest: &str,
+) -> Result<(), Reason> {
+    if kind == "cut" {
+        *cut = Some(Cut::of(alloc, rest)?);
+        return Ok(());
+    }
+    match cut {
+        Some(cut) => cut.add(mark_of(alloc, shorthands, rest)?),
+        None => Err(Reason::NoCut),
+    }
 }
 
 /// Reads a line that adds to no text. The other lines are those behind it.
@@ -179,6 +220,9 @@ fn read_line(
     }
     if draft.name.is_none() {
         return Err(Reason::NoCase);
+    }
+    if kind == "cut" || kind == "at" {
+        return add_cut(alloc, shorthands, &mut draft.cut, kind, rest);
     }
     if kind != "out" {
         return add_given(alloc, shorthands, &mut draft.given, (kind, rest), others);
@@ -238,12 +282,14 @@ pub fn read_case(
         name: None,
         given: Given::nothing(alloc),
         expected: None,
+        cut: None,
     };
     read_lines(alloc, shorthands, &mut draft, lines)?;
     let Draft {
         name,
         given,
         expected,
+        cut,
     } = draft;
     let Some(name) = name else {
         return Ok(None);
@@ -253,6 +299,7 @@ pub fn read_case(
             name,
             given,
             expected,
+            cut,
         })),
         None => Err(Reason::NoOutcome.at(lines.first().map_or(0, |line| line.number))),
     }

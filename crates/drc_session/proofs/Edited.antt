@@ -19,9 +19,9 @@ use Rattle.board_edits.specs.Touched.{AreEdited, AreKnown}
 use Rattle.drc_state.specs.States.{checked_in}
 use Rattle.drc_session.specs.declared.parts.Parts.{Parts}
 use Rattle.drc_session.specs.declared.editing.Look.{Look}
-use Rattle.drc_session.specs.Holding.{state_with, IsKept}
+use Rattle.drc_session.specs.Holding.{state_with, IsKeptOf, IsKept}
 use Rattle.drc_session.specs.Looks.{HasNetsOf, AsksNone}
-use Rattle.drc_session.specs.Steps.{IsLook}
+use Rattle.drc_session.specs.Steps.{IsLook, IsEditedFrom}
 use Rattle.drc_session.proofs.Clearances.{as_passed}
 use Rattle.drc_session.proofs.Known.{known_look}
 
@@ -60,3 +60,21 @@ module _ (old : Parts) (kept : IsKept old) (board : PlainBoard) (ids lent : List
 -- the index of the items, which reaches so far
 pub index_of_items : (old : Parts) (board : PlainBoard) (index : PlainIndex) (reach : ℤ) → IsLength reach → index.reach ≡ passed reach → IsIndexOfItems board index → IsReach board old.classes (map plain_rule old.rules.rules) reach → IsIndexOf (checked_in (state_with board old)) index
 index_of_items old board index reach length e items far = record { reach = subst (λ (z : ℤ). IsReach board old.classes (map plain_rule old.rules.rules) z) (as_passed reach length ∙ sym e) far; items = items }
+
+-- ---- an edit that was done, under what was held before it
+
+pub kept_with : (was is : PlainBoard) (parts : Parts) → IsKeptOf was parts → IsKeptOf was (record parts { board = is })
+kept_with was is parts k = record { facts = k.facts; index = k.index; reach = k.reach; in_range = k.in_range; rows = k.rows; nets = k.nets; few = k.few }
+
+pub looked_passed : (was : PlainBoard) (ids : List ℕ) (reach : ℤ) (look : Look) → IsLength reach → IsLook was ids reach look → IsLook was ids (passed reach) look
+looked_passed was ids reach look length l = subst (λ (z : ℤ). IsLook was ids z look) (as_passed reach length) l
+
+pub edited_from : (old : Parts) (board : PlainBoard) (touched lent own ids : List ℕ) (look : Look) → IsKept old → lent ≡ touched → AreKnown old.board touched own → IsLook old.board lent (passed old.reach) look → AreEdited old.board board own → ids ≡ own
+    → IsEditedFrom old.board (record old { board = board }) ids look
+edited_from old board touched lent own ids look kept e known looked edited same = record {
+  edited = subst (λ (k : List ℕ). AreEdited old.board board k) (sym same) edited;
+  kept = kept_with old.board board old kept;
+  looked =
+      let own_look = look_of_ids old.board touched lent own e known (passed old.reach) look looked in
+      subst (λ (k : List ℕ). IsLook old.board k old.reach look) (sym same) (subst (λ (z : ℤ). IsLook old.board own z look) (sym (as_passed old.reach kept.in_range)) own_look);
+}

@@ -5,7 +5,7 @@ use claim_board::Dealt;
 /// What a call of a session went through.
 #[derive(Drop)]
 pub struct Applied {
-    /// How the tiles were dealt to the workers: the number k is the tile `tiles[k]`.
+    /// How the tiles were dealt to the workers: as many numbers as tiles.
     pub dealt: Dealt,
     /// The tiles that were gone through, rising.
     pub tiles: Vec<u32>,

@@ -4,7 +4,8 @@ ghost use Rattle.std.specs.Prelude.{◌≡◌, ◌<◌, ◌≤◌, true, false, 
 ghost use Rattle.edit_script.specs.Commands.{plain_command};
 ghost use Rattle.edit_script.specs.Fits.{Fits};
 ghost use Rattle.drc_state.specs.Steps.{is_rules};
-ghost use Rattle.drc_state.specs.Changes.{plain_change, plain_edit, is_replace, Makes, ChangeFits, LeadsBack};
+ghost use Rattle.board_edits.specs.Deeds.{GivesNoItem};
+ghost use Rattle.drc_state.specs.Changes.{plain_change, plain_edit, is_replace, no_change, ChangesNothing, Makes, ChangeFits, LeadsBack};
 ghost use Rattle.drc_session.specs.Sessions.{IsApplied, IsDealt, IsCarriedOut, IsTurned, IsRefusedBy};
 ghost use Rattle.drc_session.specs.Holding.{state_of, IsKept};
 
@@ -36,6 +37,7 @@ fn carry_out<R: Threads + Sync, G: Gate>(
     ensures applied { IfOk result (λ r. IsApplied (state_of parts.old) (state_of parts.new) (is_replace (plain_edit edit)) r.0 × IsDealt workers r.0) }
     ensures back { IfOk result (λ r. LeadsBack (plain_change r.1) (state_of parts.new) (state_of parts.old)) }
     ensures kind { IfOk result (λ r. is_replace (plain_change r.1) ≡ is_replace (plain_edit edit)) }
+    ensures none { IfOk result (λ r. ChangesNothing (plain_edit edit) → plain_change r.1 ≡ no_change) }
 {
     match edit {
         Edit::Board(deed) => {
@@ -64,6 +66,7 @@ impl Session {
         ensures made { IfOk result (λ r. IsTurned self.old self.new (plain_edit edit) r.0 × IsDealt workers r.0) }
         ensures back { IfOk result (λ r. LeadsBack (plain_change r.1) self.new.state self.old.state) }
         ensures kind { IfOk result (λ r. is_replace (plain_change r.1) ≡ is_replace (plain_edit edit)) }
+        ensures none { IfOk result (λ r. ChangesNothing (plain_edit edit) → plain_change r.1 ≡ no_change) }
         ensures stopped { OnErr result (self.new.stopped ≡ true) }
     {
         self.stopped = true;
@@ -90,7 +93,8 @@ impl Session {
         Ok(applied)
     }
 
-    /// The same, and the change that leads back. It replaces the rules exactly where the command does.
+    /// The same, and the change that leads back. It replaces the rules exactly where the command does, and where an added list gives no
+    /// item, or a report is asked for again, it is [`Change::Nothing`].
     pub fn apply_kept<R: Threads + Sync + AllocGlobal, G: Gate>(
         &mut self,
         rt: &R,
@@ -103,6 +107,7 @@ impl Session {
         ensures carried { IfOk result (λ r. IsCarriedOut self.old self.new (plain_command command.now) r.0 × IsDealt workers r.0) }
         ensures back { IfOk result (λ r. LeadsBack (plain_change r.1) self.new.state self.old.state) }
         ensures kind { IfOk result (λ r. is_replace (plain_change r.1) ≡ is_rules (plain_command command.now)) }
+        ensures none { IfOk result (λ r. GivesNoItem self.old.state.board (plain_command command.now) → plain_change r.1 ≡ no_change) }
         ensures refused { IfErr result (IsRefusedBy self.old self.new (plain_command command.now)) }
     {
         if self.stopped {

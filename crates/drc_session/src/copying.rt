@@ -29,19 +29,19 @@ fn copy_parts(parts: &Parts) -> Result<Parts, AllocError>
 {
     let alloc = *parts.rows.allocator();
     Ok(Parts {
-        board: parts.board.copy()?,
-        classes: parts.classes.copy()?,
-        rules: parts.rules.copy()?,
-        facts: parts.facts.copy()?,
         reach: parts.reach,
-        index: parts.index.copy()?,
         rows: Vec::from_slice(alloc, &parts.rows)?,
         nets: copy_nets(alloc, &parts.nets)?,
+        index: parts.index.copy()?,
+        facts: parts.facts.copy()?,
+        classes: parts.classes.copy()?,
+        rules: parts.rules.copy()?,
+        board: parts.board.copy()?,
     })
 }
 
 impl Session {
-    /// An equal session. Only want of memory refuses it, and this one stays as it was.
+    /// An equal session. It is asked only of a session that is not stopped. Only want of memory refuses it, and this one stays as it was.
     pub fn copy(&self) -> Result<Session, AllocError>
         requires { self.now.stopped ≡ false }
         ensures { IfOk result (λ copy. copy ≡ self.now) }

@@ -15,13 +15,14 @@ ghost use Rattle.row_check.specs.Tiles.{IsIndexOf};
 ghost use Rattle.net_groups.specs.NetParts.{AreParts};
 ghost use Rattle.kept_facts.specs.Kept.{AreMarksBefore};
 ghost use Rattle.kept_rows.specs.Steps.{IsStep};
-ghost use Rattle.board_edits.specs.Fitting.{plain_deed, DeedFits, AddsNone};
+ghost use Rattle.board_edits.specs.Deeds.{nothing};
+ghost use Rattle.board_edits.specs.Fitting.{plain_deed, DeedFits, GivesNothing, AddsNone};
 ghost use Rattle.drc_state.specs.States.{checked_in};
 ghost use Rattle.drc_state.specs.Changes.{edit, Makes, LeadsBack};
 ghost use Rattle.drc_session.specs.Sessions.{IsApplied, IsDealt};
-ghost use Rattle.drc_session.specs.Holding.{state_of, IsKept};
+ghost use Rattle.drc_session.specs.Holding.{state_of, state_with, IsKept};
 ghost use Rattle.drc_session.specs.Looks.{HasNetsOf};
-ghost use Rattle.drc_session.specs.Steps.{IsLook, AreTilesNear};
+ghost use Rattle.drc_session.specs.Steps.{IsLook, IsEditedFrom, AreTilesNear};
 
 use crate::applied::Applied;
 use crate::checking::{Near, check_all, check_near};
@@ -187,6 +188,62 @@ fn is_same(reach: Nm, before: Nm) -> bool
     reach == before
 }
 
+/// Finds anew what an edit of these ids changed. `look` is what was looked up before it. Only want of memory fails it.
+fn find_anew<R: Threads + Sync, G: Gate>(
+    rt: &R,
+    alloc: Global,
+    workers: u32,
+    parts: &mut Parts,
+    ids: &[u32],
+    look: Look,
+    gate: &G,
+) -> Result<Applied, AllocError>
+    requires workers { (0 < workers) × (workers ≤ 64) }
+    requires edited { (old : PlainBoard) × IsEditedFrom old parts.old ids.now look }
+    ensures kept { OnOk result (IsKept parts.new) }
+    ensures state { OnOk result (state_of parts.new ≡ state_of parts.old) }
+    ensures applied { (old : PlainBoard) → IsEditedFrom old parts.old ids.now look → IfOk result (λ applied. IsApplied (state_with old parts.old) (state_of parts.new) false applied) }
+    ensures dealt { IfOk result (λ applied. IsDealt workers applied) }
+{
+    let rules = parts.rules.rules.as_slice();
+    let reach = reach_after(
+        &parts.board,
+        &parts.classes,
+        rules,
+        ids,
+        parts.reach,
+        look.asked,
+    );
+    let stays = is_same(reach, parts.reach);
+    index_anew(alloc, &parts.board, &mut parts.index, ids, reach, stays)?;
+    parts.reach = reach;
+    let changed = renew_facts(
+        alloc,
+        &parts.board,
+        &parts.classes,
+        &parts.index,
+        &mut parts.facts,
+        ids,
+        &look.marks,
+    )?;
+    nets_anew(
+        rt,
+        workers,
+        &parts.board,
+        &parts.index,
+        &mut parts.nets,
+        ids,
+        look.nets,
+    )?;
+    let stirred = Stirred {
+        changed,
+        boxes: look.boxes,
+        stays,
+    };
+    let applied = rows_anew(rt, alloc, workers, parts, stirred, gate)?;
+    Ok(applied)
+}
+
 /// Does the deed to the board, and finds anew what it changed. It gives the deed that leads back. Only want of memory fails it.
 pub(crate) fn edit_board<R: Threads + Sync, G: Gate>(
     rt: &R,
@@ -203,52 +260,11 @@ pub(crate) fn edit_board<R: Threads + Sync, G: Gate>(
     ensures makes { OnOk result (Makes (edit (plain_deed deed)) (state_of parts.old) (state_of parts.new)) }
     ensures applied { IfOk result (λ r. IsApplied (state_of parts.old) (state_of parts.new) false r.0 × IsDealt workers r.0) }
     ensures back { IfOk result (λ r. LeadsBack (edit (plain_deed r.1)) (state_of parts.new) (state_of parts.old) × AddsNone (plain_deed r.1)) }
+    ensures none { IfOk result (λ r. GivesNothing (plain_deed deed) → plain_deed r.1 ≡ nothing) }
 {
     let touched = ids_touched(alloc, &parts.board, &deed)?;
     let look = look_up(alloc, &parts.board, &touched, parts.reach)?;
     let made = make(alloc, &mut parts.board, deed, touched)?;
-    let rules = parts.rules.rules.as_slice();
-    let reach = reach_after(
-        &parts.board,
-        &parts.classes,
-        rules,
-        &made.ids,
-        parts.reach,
-        look.asked,
-    );
-    let stays = is_same(reach, parts.reach);
-    index_anew(
-        alloc,
-        &parts.board,
-        &mut parts.index,
-        &made.ids,
-        reach,
-        stays,
-    )?;
-    parts.reach = reach;
-    let changed = renew_facts(
-        alloc,
-        &parts.board,
-        &parts.classes,
-        &parts.index,
-        &mut parts.facts,
-        &made.ids,
-        &look.marks,
-    )?;
-    nets_anew(
-        rt,
-        workers,
-        &parts.board,
-        &parts.index,
-        &mut parts.nets,
-        &made.ids,
-        look.nets,
-    )?;
-    let stirred = Stirred {
-        changed,
-        boxes: look.boxes,
-        stays,
-    };
-    let applied = rows_anew(rt, alloc, workers, parts, stirred, gate)?;
+    let applied = find_anew(rt, alloc, workers, parts, &made.ids, look, gate)?;
     Ok((applied, made.back))
 }

@@ -25,7 +25,6 @@ fn renew_entry(board: &Board, index: &mut TileIndex, id: u32) -> Result<(), Allo
 }
 
 /// The same for each of these ids.
-#[tactic(auto, using(crate::proofs::Entries::renewed_more))]
 fn renew_entries(board: &Board, index: &mut TileIndex, ids: &[u32]) -> Result<(), AllocError>
     ensures renewed { OnOk result (IsRenewed board.now ids.now index.old index.new) }
     ensures reach { index.new.reach ≡ index.old.reach }

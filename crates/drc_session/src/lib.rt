@@ -17,6 +17,8 @@ mod replacing;
 mod session;
 
 pub use applied::Applied;
+pub use drc_state::{Change, EditError};
+pub use kept_nets::NetPart;
 pub use session::Session;
 
 /// Takes a type that may go to another thread and be shared by threads. The calls of it show that each type may.

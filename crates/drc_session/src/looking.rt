@@ -58,7 +58,6 @@ fn push_net(board: &Board, id: u32, nets: &mut Vec<u32>) -> Result<(), AllocErro
 }
 
 /// Appends the nets of the items of these ids.
-#[tactic(auto, using(crate::proofs::Looked::nets_more))]
 pub(crate) fn push_nets(board: &Board, ids: &[u32], nets: &mut Vec<u32>) -> Result<(), AllocError>
     ensures kept { OnOk result ((net : ℕ) → Contains nets.old.items net → Contains nets.new.items net) }
     ensures nets { OnOk result (HasNetsOf board.now ids.now nets.new.items) }

@@ -107,21 +107,27 @@ fn open<R: Threads + Sync, G: Gate>(
     ensures state { IfOk result (λ r. state_of r.0 ≡ record { board = board; classes = classes; rules = plain_rules rules }) }
     ensures applied { IfOk result (λ r. IsOpened (state_of r.0) r.1 × IsDealt workers r.1) }
 {
-    let (facts, (reach, index), nets) = find(
-        rt,
-        alloc,
-        workers,
-        &board,
-        &classes,
-        rules.rules.as_slice(),
-    )?;
+    let found = find(rt, alloc, workers, &board, &classes, rules.rules.as_slice());
+    let (facts, (reach, index), nets) = match found {
+        Ok(found) => found,
+        Err(error) => {
+            drop((board, classes, rules));
+            return Err(error);
+        }
+    };
     let view = CheckView {
         board: &board,
         facts: &facts,
         rules: rules.rules.as_slice(),
         classes: &classes,
     };
-    let (rows, applied) = check_all(rt, alloc, workers, view, &index, gate)?;
+    let (rows, applied) = match check_all(rt, alloc, workers, view, &index, gate) {
+        Ok(checked) => checked,
+        Err(error) => {
+            drop((board, classes, rules, facts, index, nets));
+            return Err(error);
+        }
+    };
     let parts = Parts {
         board,
         classes,

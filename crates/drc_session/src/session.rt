@@ -43,22 +43,25 @@ impl Session {
     /// Lets go of the session: where there are several workers by two threads, since a large board has much to let go of.
     pub fn end(self, rt: &(impl Threads + Sync), workers: u32) {
         if workers == 1 {
+            drop(self);
             return;
         }
-        let parts = self.parts;
         let Parts {
             board,
+            classes,
+            rules,
             facts,
+            reach: _,
             index,
             rows,
             nets,
-            ..
-        } = parts;
+        } = self.parts;
         join(
             rt,
             move || drop(board),
             move || drop((facts, index, rows, nets)),
         );
+        drop((classes, rules));
     }
 
     /// The board as it now is. Nothing is known of it where the session is stopped.
@@ -75,7 +78,7 @@ impl Session {
         &self.parts.rules
     }
 
-    /// All rows of the board, in order.
+    /// All rows of the board, in order. It is asked only of a session that is not stopped.
     pub fn rows(&self) -> &[Row]
         requires { self.now.stopped ≡ false }
         ensures same { result.now ≡ self.now.rows }
@@ -84,7 +87,7 @@ impl Session {
         &self.parts.rows
     }
 
-    /// What is found of each declared net but net 0, in the order of the board.
+    /// What is found of each declared net but net 0, in the order of the board. It is asked only of a session that is not stopped.
     pub fn nets(&self) -> &[NetPart]
         requires { self.now.stopped ≡ false }
         ensures same { result.now ≡ self.now.nets }
@@ -100,7 +103,7 @@ impl Session {
         self.stopped
     }
 
-    /// What is checked: the board, the facts of its items, the rules and the classes.
+    /// What is checked: the board, the facts of its items, the rules and the classes. It is asked only of a session that is not stopped.
     pub fn view(&self) -> CheckView<'_>
         requires { self.now.stopped ≡ false }
         ensures whole { IsWholeView result }

@@ -1,5 +1,5 @@
 -- Items for which there is room, one after another.
-use Rattle.std.proofs.Common.{◌≡◌, refl, ℕ, suc, ◌≤◌, arith, List, [], ◌∷◌, length, length-append, true, All, Result, Ok, Err, OnOk, sym, ap, subst}
+use Rattle.std.proofs.Common.{◌≡◌, refl, ℕ, suc, ◌≤◌, arith, List, [], ◌∷◌, ◌++◌, length, length-append, true, All, Result, Ok, Err, OnOk, sym, ap, subst}
 use Rattle.std.proofs.lemmas.List.Elements.{All-head, All-tail}
 use Rattle.sexpr_read.specs.Tree.{Tree}
 use Rattle.board_errors.specs.declared.errors.BoardError.{BoardError}
@@ -50,6 +50,11 @@ first_ready board unit item items h = All-head (IsReady board unit) item items h
 pub same_copper : (items : List Item) (board : PlainBoard) → (with_items board items).copper ≡ board.copper
 same_copper [] board = refl
 same_copper (item ∷ items) board = same_copper items (with_item board item)
+
+-- the last item is added to the board that has the others
+pub item_last : (items : List Item) (item : Item) (board : PlainBoard) → with_items board (items ++ item ∷ []) ≡ with_item (with_items board items) item
+item_last [] item board = refl
+item_last (other ∷ items) item board = item_last items item (with_item board other)
 
 -- ---- numbers of units
 

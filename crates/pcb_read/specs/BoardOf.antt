@@ -1,7 +1,7 @@
 -- The board of a tree: (kicad_pcb (version N) PART ..), its parts read in the order of the text. The formats are those of the
 -- KiCad developer documentation. A list with a head that is not named here is passed over, and so is what stands in a list beside
 -- the elements that are named; of two elements with one head the first counts.
-use Rattle.std.specs.Prelude.{◌≡◌, ◌⊎◌, List, [], ◌∷◌, find, codes, Bool, true, false, ◌||◌, Option, None, Some, Result, Ok, Err, if◌then◌else◌}
+use Rattle.std.specs.Prelude.{◌≡◌, ◌⊎◌, List, [], ◌∷◌, ◌++◌, find, codes, Bool, true, false, ◌||◌, Option, None, Some, Result, Ok, Err, if◌then◌else◌}
 use Rattle.sexpr_read.specs.Tree.{Tree, parts, is_list}
 use Rattle.board_errors.specs.declared.errors.BoardError.{BoardError}
 use Rattle.board_errors.specs.declared.errors.BoardError.TheVariants.{NotABoard, Version, Missing}
@@ -43,6 +43,10 @@ with_other reading tree =
 abbrev pub with_items : PlainBoard → List Item → PlainBoard
 with_items board [] = board
 with_items board (item ∷ items) = with_items (with_item board item) items
+
+-- the new board is the old one with the first of the items, all or none or some of them: what stood there stays as it was
+abbrev pub HasFirstOf : List Item → PlainBoard → PlainBoard → Type 0
+HasFirstOf items old new = (first : List Item) × (others : List Item) × (items ≡ first ++ others) × (new ≡ with_items old first)
 
 -- with the items that were found
 abbrev pub with_found : PlainBoard → Result (List Item) BoardError → Result PlainBoard BoardError

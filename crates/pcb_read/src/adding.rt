@@ -1,6 +1,6 @@
 //! Items that go into a board. What makes and adds the one item of a track or a via is inlined, so that it is made where it stays.
 
-ghost use Rattle.std.specs.Prelude.{◌≡◌, ◌<◌, ◌≤◌, suc, true, OnOk, IfOk, IfErr, Result};
+ghost use Rattle.std.specs.Prelude.{◌≡◌, ◌<◌, ◌≤◌, suc, true, OnOk, OnErr, IfOk, IfErr, Result};
 ghost use Rattle.board_items.specs.Boards.{with_item, is_admitted};
 ghost use Rattle.board_items.specs.Refusals.{room_of};
 ghost use Rattle.sexpr_read.specs.Views.{tree_of};
@@ -11,7 +11,7 @@ ghost use Rattle.part_read.specs.Graphics.{one_item};
 ghost use Rattle.part_read.specs.Ready.{IsReady, AreReady};
 ghost use Rattle.pcb_read.specs.Answers.{LeavesSome};
 ghost use Rattle.pcb_read.specs.ItemsOf.{in_room};
-ghost use Rattle.pcb_read.specs.BoardOf.{with_items, with_found};
+ghost use Rattle.pcb_read.specs.BoardOf.{with_items, with_found, HasFirstOf};
 
 use board_items::{Board, BoardError, Item, ItemError};
 use list_read::place;
@@ -24,6 +24,7 @@ fn add_item(board: &mut Board, item: Item) -> Result<(), BoardError>
     requires admitted { is_admitted board.old item ≡ true }
     requires room { 0 < room_of board.old }
     ensures added { OnOk result (board.new ≡ with_item board.old item) }
+    ensures unchanged { OnErr result (board.new ≡ board.old) }
     ensures only { IfErr result (λ e. e ≡ BoardError.OutOfMemory) }
 {
     match board.add(item) {
@@ -37,10 +38,12 @@ fn add_item(board: &mut Board, item: Item) -> Result<(), BoardError>
 }
 
 /// Appends the items of a unit in order. They are items that the board takes, one after another, as the readers give them.
-/// Want of memory is the one refusal; the board may then have some of them.
+/// Want of memory is the one refusal; the board then has the first of them, or none, behind the items that it had, and is
+/// else as it was.
 pub fn add_items(board: &mut Board, unit: u32, items: Vec<Item>) -> Result<(), BoardError>
     requires { AreReady board.old unit items.items }
     ensures added { OnOk result (board.new ≡ with_items board.old items.items) }
+    ensures kept { OnErr result (HasFirstOf items.items board.old board.new) }
     ensures copper { OnOk result (board.new.copper ≡ board.old.copper) }
     ensures only { IfErr result (λ e. e ≡ BoardError.OutOfMemory) }
 {

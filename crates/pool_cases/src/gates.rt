@@ -1,33 +1,31 @@
 //! What is called before and after each test.
 
-use case_gates::is_done_in_time;
+use case_gates::Turns;
 use std::sync::atomic::Ordering::SeqCst;
 use std::sync::atomic::{AtomicBool, AtomicU32};
 use tile_pool::Gate;
 
-/// Keeps number 0 from its test until number 2 is done, and gives up after so many turns: of two workers that leave each other's
-/// numbers alone one has both. It also notes whether number 2 began before number 3 was done, as it does where all draw from one counter.
+/// Keeps number 0 from its test until number 2 is done: of two workers that leave each other's numbers alone one has both. It also notes
+/// whether number 2 began before number 3 was done, as it does where all draw from one counter.
 #[derive(Drop)]
 pub struct Theft {
-    two: AtomicBool,
+    turns: Turns,
     three: AtomicBool,
-    gave_up: AtomicBool,
     early: AtomicBool,
 }
 
 impl Theft {
     pub fn new() -> Theft {
         Theft {
-            two: AtomicBool::new(false),
+            turns: Turns::new(0, 2),
             three: AtomicBool::new(false),
-            gave_up: AtomicBool::new(false),
             early: AtomicBool::new(false),
         }
     }
 
-    /// Whether it gave up.
-    pub fn gave_up(&self) -> bool {
-        self.gave_up.load(SeqCst)
+    /// What keeps number 0 back.
+    pub fn turns(&self) -> &Turns {
+        &self.turns
     }
 
     /// Whether number 2 began before number 3 was done.
@@ -41,15 +39,11 @@ impl Gate for Theft {
         if number == 2 && !self.three.load(SeqCst) {
             self.early.store(true, SeqCst);
         }
-        if number == 0 && !is_done_in_time(&self.two) {
-            self.gave_up.store(true, SeqCst);
-        }
+        self.turns.before(number);
     }
 
     fn after(&self, number: u32) {
-        if number == 2 {
-            self.two.store(true, SeqCst);
-        }
+        self.turns.after(number);
         if number == 3 {
             self.three.store(true, SeqCst);
         }

@@ -18,14 +18,15 @@ use tile_pool::{NoGate, run_tiles};
 
 /// Two workers, of which the one that has number 0 needs the other to go on.
 fn side_by_side<R: AllocGlobal + Print + Threads + Sync>(rt: &R) -> io::Result<()> {
-    let gate = Turns::new();
+    let gate = Turns::new(0, 1);
     let work = Squares {
         numbers: &[2, 3, 5, 7],
     };
     let (answers, dealt) = run_tiles(rt, rt.alloc(), 2, 4, &work, &gate)?;
     let seats = dealt.seats();
     let gave_up = gate.gave_up();
-    println!(rt; "side by side: {seats} seats, gave up: {gave_up}")?;
+    let rounds = gate.rounds();
+    println!(rt; "side by side: {seats} seats, gave up: {gave_up}, asked: {rounds}")?;
     for answer in &answers {
         println!(rt; "{answer}")?;
     }

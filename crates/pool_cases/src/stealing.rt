@@ -17,9 +17,10 @@ pub fn side_by_side<R: AllocGlobal + Print + Threads + Sync>(rt: &R) -> io::Resu
         numbers: &[2, 3, 5, 7],
     };
     let (answers, _stolen) = run_stolen(rt, rt.alloc(), 2, 4, &work, &gate)?;
-    let gave_up = gate.gave_up();
+    let gave_up = gate.turns().gave_up();
+    let rounds = gate.turns().rounds();
     let was_early = gate.was_early();
-    println!(rt; "stealing: gave up: {gave_up}, 2 before 3: {was_early}")?;
+    println!(rt; "stealing: gave up: {gave_up}, asked: {rounds}, 2 before 3: {was_early}")?;
     for answer in &answers {
         println!(rt; "{answer}")?;
     }

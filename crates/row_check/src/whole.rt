@@ -1,6 +1,6 @@
 //! The rows of many tiles and items, and of a whole board.
 
-ghost use Rattle.std.specs.Prelude.{◌≡◌, ◌<◌, true, IfOk, IfSome, OnOk};
+ghost use Rattle.std.specs.Prelude.{◌≡◌, ◌<◌, ℕ, true, take, IfOk, IfSome, OnOk, OnErr};
 ghost use Rattle.std.specs.List.Sorted.{IsStrictlyIncreasing};
 ghost use Rattle.box_index.specs.Tiles.{IsSoundIndex};
 ghost use Rattle.pair_check.specs.Alone.{AreEnoughAlone, BreaksNothing};
@@ -95,7 +95,8 @@ fn push_single(
 ) -> Result<(), AllocError>
     requires view { IsWholeView view.now }
     requires enough { IfSome enough (AreEnoughAlone (deciders_of view.now)) }
-    ensures { OnOk result (HasMore (AreRowsOfItem (checked_by view.now) id) rows.old.items rows.new.items) }
+    ensures rows { OnOk result (HasMore (AreRowsOfItem (checked_by view.now) id) rows.old.items rows.new.items) }
+    ensures same { OnErr result (rows.new.items ≡ rows.old.items) }
 {
     match view.board.get(id) {
         None => Ok(()),
@@ -111,7 +112,7 @@ fn push_single(
 }
 
 /// Appends the rows of each of these items alone, in order. The ids rise; one that no item has gives none. Only want of memory
-/// fails it, and some rows are then missing.
+/// fails it; what was in the list is then followed by the rows of some of the first ids alone.
 pub fn push_singles(
     alloc: Global,
     view: &CheckView,
@@ -120,7 +121,8 @@ pub fn push_singles(
 ) -> Result<(), AllocError>
     requires view { IsWholeView view.now }
     requires rise { IsStrictlyIncreasing ids.now }
-    ensures { OnOk result (HasMore (AreSingles (checked_by view.now) ids.now) rows.old.items rows.new.items) }
+    ensures rows { OnOk result (HasMore (AreSingles (checked_by view.now) ids.now) rows.old.items rows.new.items) }
+    ensures first { OnErr result ((count : ℕ) × HasMore (AreSingles (checked_by view.now) (take count ids.now)) rows.old.items rows.new.items) }
 {
     let enough = enough_alone(view);
     for id in ids {

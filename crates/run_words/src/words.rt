@@ -1,7 +1,7 @@
 //! What the words of the command line say.
 
 ghost use Rattle.std.specs.Prelude.{◌≡◌, ◌≤◌, false, Some, None, IfOk, IfSome, option_map};
-ghost use Rattle.clap.specs.Words.{app_of, rule_of, first_value, found_of};
+ghost use Rattle.clap.specs.Words.{app_of, rule_of, with_rule, first_value, found_of};
 ghost use Rattle.run_words.specs.Calls.{option_rule, bare_app, app_with_files, drc_app, number_in, workers_of, source_of, reading_of, reading_by, words_of};
 ghost use Rattle.run_words.specs.Views.{source_in, reading_in, SourceFits, RequestFits};
 
@@ -53,25 +53,34 @@ fn bare_command<'a>(alloc: Global) -> Command<'a>
         .disable_version_flag(true)
 }
 
+/// The command with one more option that has a value.
+fn with_option<'a>(
+    alloc: Global,
+    command: Command<'a>,
+    name: &'a str,
+) -> Result<Command<'a>, AllocError>
+    ensures { IfOk result (λ more. app_of more ≡ with_rule (app_of command.entry) (option_rule name.entry.now)) }
+{
+    command.arg(option(alloc, name))
+}
+
 /// `drc [BOARD] [--project FILE] [--rules FILE] [--script FILE]`.
 fn command_with_files<'a>(alloc: Global) -> Result<Command<'a>, AllocError>
     ensures { IfOk result (λ command. app_of command ≡ app_with_files) }
 {
-    let command = bare_command(alloc)
-        .arg(Arg::new(alloc, "BOARD"))?
-        .arg(option(alloc, "project"))?;
-    command
-        .arg(option(alloc, "rules"))?
-        .arg(option(alloc, "script"))
+    let command = bare_command(alloc).arg(Arg::new(alloc, "BOARD"))?;
+    let command = with_option(alloc, command, "project")?;
+    let command = with_option(alloc, command, "rules")?;
+    with_option(alloc, command, "script")
 }
 
 /// The program's command, with `[--workers N] [--make N]` behind the files.
 fn command<'a>(alloc: Global) -> Result<Command<'a>, AllocError>
     ensures { IfOk result (λ command. app_of command ≡ drc_app) }
 {
-    command_with_files(alloc)?
-        .arg(option(alloc, "workers"))?
-        .arg(option(alloc, "make"))
+    let command = command_with_files(alloc)?;
+    let command = with_option(alloc, command, "workers")?;
+    with_option(alloc, command, "make")
 }
 
 /// What the words ask for, or none where they are no command line.

@@ -26,7 +26,7 @@ fn keep(command: &Command<'_>, change: Change, back: &mut Vec<Change>, on: &mut 
     ensures other { is_again (plain_command command.now) ≡ false → (back.new.items ≡ back.old.items ++ change ∷ []) × (on.new.items ≡ []) }
 {
     match command {
-        Command::Again { .. } => {}
+        Command::Again { .. } => drop(change),
         _ => {
             back.push_reserved(change);
             on.clear();

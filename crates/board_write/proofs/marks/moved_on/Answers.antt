@@ -1,14 +1,14 @@
-use Rattle.std.proofs.Common.{◌≡◌, ◌∙◌, sym, ap, subst, arith}
-use Rattle.std.proofs.lemmas.Int.{ints}
+use Rattle.std.proofs.Common.{◌≡◌, ◌∙◌, sym, ap, subst}
+use Rattle.int_algebra.proofs.Scalars.{clean}
 use Rattle.board_write.specs.declared.marks.Mark.{Mark}
 use Rattle.board_write.specs.Marks.{plain_mark, moved_on, IsShort}
-use Rattle.board_write.proofs.Standing.{moves_same, sum_passed}
+use Rattle.board_write.proofs.Standing.{held, moves_same, sum_passed}
 use Rattle.board_write.proofs.marks.moved_on.Goals as goal
 
 pub returns-in-Moved : goal.returns-in-Moved
 returns-in-Moved c =
-    let short = subst (λ (m : Mark). IsShort 4294967294 (plain_mark m)) c.in-Moved.is c.requires.short in
-    let x : c.from-in-Moved.result ≡ c.args.dx = omega (arith, ints, c.from-in-Moved.ensures, c.requires.dx) in
-    let y : c.from-in-Moved-2.result ≡ c.args.dy = omega (arith, ints, c.from-in-Moved-2.ensures, c.requires.dy) in
-    moves_same _ _ _ _ (sum_passed c.in-Moved.by.dx c.from-in-Moved.result c.args.dx short.0 c.requires.dx x) (sum_passed c.in-Moved.by.dy c.from-in-Moved-2.result c.args.dy short.1 c.requires.dy y)
+    let short = subst (λ (m : Mark). IsShort 4294967294 (plain_mark m)) c.in-Moved.is c.requires in
+    let x : c.from-in-Moved.result ≡ c.args.dx = c.from-in-Moved.ensures ∙ clean c.args.dx c.ranges.dx in
+    let y : c.from-in-Moved-2.result ≡ c.args.dy = c.from-in-Moved-2.ensures ∙ clean c.args.dy c.ranges.dy in
+    moves_same _ _ _ _ (sum_passed c.in-Moved.by.dx c.from-in-Moved.result c.args.dx short.0 (held c.args.dx c.ranges.dx) x) (sum_passed c.in-Moved.by.dy c.from-in-Moved-2.result c.args.dy short.1 (held c.args.dy c.ranges.dy) y)
     ∙ ap (λ (m : Mark). moved_on c.args.dx c.args.dy (plain_mark m)) (sym c.in-Moved.is)

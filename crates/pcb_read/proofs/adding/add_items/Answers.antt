@@ -1,11 +1,16 @@
-use Rattle.std.proofs.Common.{◌≡◌, ◌∙◌, refl, sym, ap, subst, ℕ, ◌<◌, List, [], ◌∷◌, length, arith}
+use Rattle.std.proofs.Common.{◌≡◌, ◌∙◌, refl, sym, ap, subst, ℕ, ◌<◌, List, [], ◌∷◌, ◌++◌, append_assoc, length, Result, Ok, Err, OnErr, arith}
 use Rattle.std.specs.Vec.Iter.{into_iter_items}
+use Rattle.board_errors.specs.declared.errors.BoardError.{BoardError}
 use Rattle.board_items.specs.declared.item.Item.{Item}
-use Rattle.board_items.specs.Boards.{PlainBoard}
+use Rattle.board_items.specs.Boards.{PlainBoard, with_item}
 use Rattle.part_read.specs.Ready.{AreReady}
-use Rattle.pcb_read.specs.BoardOf.{with_items}
-use Rattle.pcb_read.proofs.Rooming.{first_ready, others_ready, same_copper}
+use Rattle.pcb_read.specs.BoardOf.{with_items, HasFirstOf}
+use Rattle.pcb_read.proofs.Rooming.{first_ready, others_ready, same_copper, item_last}
 use Rattle.pcb_read.proofs.adding.add_items.Goals as goal
+
+-- the board is the first one with the items before those that are left
+abbrev HasThese : List Item → PlainBoard → PlainBoard → List Item → Type 0
+HasThese all board new left = (first : List Item) × (all ≡ first ++ left) × (new ≡ with_items board first)
 
 nothing_left : (items : List Item) → length items ≡ 0 → items ≡ []
 nothing_left [] h = refl
@@ -14,6 +19,18 @@ nothing_left (item ∷ items) h = absurd (omega arith)
 -- the items that are left begin with this one
 taken : (board : PlainBoard) (unit : ℕ) (left : List Item) (item : Item) (rest : List Item) → left ≡ item ∷ rest → AreReady board unit left → AreReady board unit (item ∷ rest)
 taken board unit left item rest is h = subst (λ (items : List Item). AreReady board unit items) is h
+
+where_refused : (r : Result (Unit {0}) BoardError) (P : Type 0) → P → OnErr r P
+where_refused (Ok x) P h = tt
+where_refused (Err e) P h = h
+
+-- with one more item
+one_more : (all : List Item) (board old new : PlainBoard) (left rest : List Item) (item : Item) → left ≡ item ∷ rest → HasThese all board old left → new ≡ with_item old item → HasThese all board new rest
+one_more all board old new left rest item cut h added = (
+  h.0 ++ item ∷ [],
+  h.1 ∙ ap (λ (items : List Item). h.0 ++ items) cut ∙ sym (append_assoc h.0 (item ∷ []) rest),
+  added ∙ ap (λ (b : PlainBoard). with_item b item) h.2 ∙ sym (item_last h.0 item board),
+)
 
 pub add_item-requires-clause-unit : goal.add_item-requires-clause-unit
 add_item-requires-clause-unit c =
@@ -46,6 +63,7 @@ loop-item-preserved c =
           subst (λ (board : PlainBoard). AreReady board c.args.unit rest) (sym added)
           (others_ready at.board c.args.unit item rest (taken at.board c.args.unit _ item rest steps at.invariant.ready));
       many = let was = at.invariant.many in let gone = c.in-Some.ensures.steps.1 in let short = ap length steps in omega arith;
+      first = one_more c.args.items.items c.args.board.now at.board c.add_item.new.board (into_iter_items at.item-iterator) rest item steps at.invariant.first added;
     }
 
 pub returns-clause-added : goal.returns-clause-added
@@ -63,3 +81,10 @@ returns-clause-copper c =
     let all : at.board ≡ with_items c.args.board.now c.args.items.items =
     subst (λ (items : List Item). with_items at.board items ≡ with_items c.args.board.now c.args.items.items) empty at.invariant.added in
     ap (λ (board : PlainBoard). board.copper) all ∙ same_copper c.args.items.items c.args.board.now
+
+pub returns-in_err-add_item-clause-kept : goal.returns-in_err-add_item-clause-kept
+returns-in_err-add_item-clause-kept c =
+    let at = c.loop-item in
+    let first = at.invariant.first in
+    where_refused c.from_residual.result (HasFirstOf c.args.items.items c.args.board.now c.add_item.new.board)
+    (first.0, into_iter_items at.item-iterator, first.1, c.in_err-add_item.ensures.unchanged ∙ first.2)
