@@ -102,7 +102,7 @@ def definitions():
     return '\n'.join([
         '# Where each notion is defined', '',
         'Written by `tools/layers.py`: %d modules, in the order in which to read them, by the layers of [ARCHITECTURE.md](ARCHITECTURE.md).' % count,
-        'A path `CRATE/Module` is the file `crates/CRATE/specs/Module.antt`. A module stands in the lowest crate that needs it.',
+        'A path `CRATE/Module` is the file `crates/CRATE/specs/Module.antt`. A module stands in the lowest crate that needs it, and here behind those that it cites.',
         'The second column is the beginning of the comment at the head of the module. The third one names notions that it holds, where that comment does not.',
         'A module that is marked (own) serves the contracts of its crate or of crates next to it, and no definition that a reader of the statement needs.',
     ] + lines) + '\n'

@@ -79,11 +79,23 @@ def crate_head(crate):
     return head(path, '//!') or head(path, '//')
 
 
+@functools.lru_cache(maxsize=None)
 def modules(crate):
-    """the modules of definitions of a crate, in the order of its list of them"""
+    """the modules of definitions of a crate, each behind those of the crate that it cites, and else in the order of its list of them"""
     there = {os.path.basename(path)[:-5] for path in glob.glob(os.path.join(ROOT, 'crates', crate, 'specs', '*.antt'))} - {'Lib'}
     listed = re.findall(r'^(?:pub )?mod (\w+)', read('crates', crate, 'specs', 'Lib.antt'), re.M) if there else []
-    return [name for name in listed if name in there] + sorted(there - set(listed))
+    ordered = []
+
+    def put(module, above):
+        if module not in ordered and module not in above:
+            cited = re.findall(r'^use Rattle\.%s\.specs\.(\w+)' % crate, read('crates', crate, 'specs', module + '.antt'), re.M)
+            for other in [name for name in listed if name in cited and name in there]:
+                put(other, above | {module})
+            ordered.append(module)
+
+    for module in [name for name in listed if name in there] + sorted(there - set(listed)):
+        put(module, frozenset())
+    return tuple(ordered)
 
 
 def module_head(crate, module):

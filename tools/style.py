@@ -8,8 +8,8 @@
 - In the documents: links and paths that lead nowhere, and names `CRATE::NAME` that no crate has.
 
 What was so when this was written is listed in tools/style.txt. What is not listed there is told with its place, and so is what is
-listed and no longer so; the status is 1 then. --shrink takes what is no longer so off the list, and adds nothing to it. --list writes the list as it would be with all that is found
-now to standard output: for a merge of work that began before the list was.
+listed and no longer so; the status is 1 then. --shrink takes what is no longer so off the list, and adds nothing to it. --list
+writes to standard output the list as it would be with all that is found now: for a merge of work that began before the list was.
 """
 import collections
 import glob
