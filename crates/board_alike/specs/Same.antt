@@ -5,7 +5,7 @@ use Rattle.board_items.specs.declared.item.Item.{Item}
 use Rattle.board_items.specs.Boards.{PlainBoard}
 use Rattle.pcb_read.specs.BoardText.{BoardSays}
 use Rattle.edit_script.specs.Commands.{PlainCommand}
-pub use Rattle.edit_script.specs.Fits.{AreShallow}
+use Rattle.edit_script.specs.Fits.{AreShallow}
 use Rattle.board_alike.specs.Written.{IsWritten}
 
 -- equal but for their units

@@ -1,40 +1,16 @@
 //! The lines of the nets of a board that are not whole, each net by itself.
 
-ghost use Rattle.std.specs.Prelude.{◌<◌, All, IsSome, length};
-ghost use Rattle.board_items.specs.Boards.{name_of};
 ghost use Rattle.board_index.specs.Holding.{HoldsItems};
-ghost use Rattle.net_groups.specs.Groups.{IsOnBoard};
-ghost use Rattle.ratsnest.specs.NestOf.{HasPlaces};
 
 use crate::fault::Reason;
 use board_index::index_of;
 use board_items::Board;
 use box_index::TileIndex;
 use drc_io::{Failed, MemSink};
-use drc_rows::{Line, push_net, write_line};
-use net_groups::{Group, anchors, groups};
-use ratsnest::{Anchor, Nest, nest};
+use drc_rows::{write_line, write_net};
+use net_groups::{anchors, groups};
+use ratsnest::nest;
 use std::alloc::Global;
-
-/// Writes the lines of a net.
-fn write_net(
-    board: &Board,
-    net: u32,
-    groups: &[Group],
-    anchors: &[Anchor],
-    nest: &Nest,
-    out: &mut MemSink,
-) -> Result<(), Failed>
-    requires declared { IsSome (name_of board.now net) }
-    requires filled { All (λ group. 0 < length group) groups.now }
-    requires members { All (All (IsOnBoard board.now)) groups.now }
-    requires anchors { All (λ anchor. IsOnBoard board.now anchor.id) anchors.now }
-    requires places { All (HasPlaces anchors.now) nest.now.links }
-{
-    let mut line = Line::new();
-    push_net(&mut line, out, board, net, groups, anchors, nest)?;
-    line.end(out)
-}
 
 /// Writes the lines of a net where it is not whole, and says whether it is open.
 fn write_open(

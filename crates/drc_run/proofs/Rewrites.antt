@@ -1,10 +1,10 @@
 -- From what was written of a board's text and a script to the end of a run.
-use Rattle.std.proofs.Common.{◌≡◌, All, inl, inr, refl, sym, subst, ℕ, ◌≤◌, ◌==◌, Bool, true, false, if◌then◌else◌, List, [], ◌∷◌, Option, arith}
+use Rattle.std.proofs.Common.{◌≡◌, inl, inr, refl, sym, subst, ℕ, ◌≤◌, ◌==◌, Bool, true, false, if◌then◌else◌, List, [], ◌∷◌, Option, arith}
 use Rattle.board_items.specs.Boards.{PlainBoard}
 use Rattle.edit_script.specs.Commands.{PlainCommand}
-use Rattle.edit_script.specs.Fits.{Fits}
+use Rattle.edit_script.specs.Fits.{AreShallow}
 use Rattle.board_alike.specs.Written.{IsWritten}
-use Rattle.board_alike.specs.Same.{AreShallow, IsReadBack}
+use Rattle.board_alike.specs.Same.{IsReadBack}
 use Rattle.board_write.specs.Answers.{Outcome, Wrote, WroteFront}
 use Rattle.run_words.specs.Calls.{write}
 use Rattle.run_texts.specs.declared.texts.Stop.{Stop}
@@ -44,9 +44,9 @@ module _ (IsIt : Output → Type 0) (IsBegun : List ℕ → Type 0) (Fault : Whi
 
 -- ---- what the call that writes a board leaves
 
-module _ (read_back : IsReadBack) (shallow : (commands : List PlainCommand) → All Fits commands → AreShallow commands)
+module _ (read_back : IsReadBack)
     (unchanged : (text out : List ℕ) (last : PlainBoard) → IsWritten text [] out last → out ≡ text)
-    (text : List ℕ) (commands : List PlainCommand) (fit : All Fits commands) (old new : Option (List ℕ)) where
+    (text : List ℕ) (commands : List PlainCommand) (shallow : AreShallow commands) (old new : Option (List ℕ)) where
   abbrev IsIt : Output → Type 0
   IsIt = IsBoardWritten text commands
 
@@ -55,7 +55,7 @@ module _ (read_back : IsReadBack) (shallow : (commands : List PlainCommand) → 
 
   is_output : (refused : ℕ) (outcome : Outcome text commands refused) → IsIt (output_of refused outcome)
   is_output refused outcome =
-      let read = read_back text commands outcome.out outcome.last (shallow commands fit) outcome.written in record {
+      let read = read_back text commands outcome.out outcome.last shallow outcome.written in record {
         refusals = refused;
         outcome = outcome;
         text_is = refl;

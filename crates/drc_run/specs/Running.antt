@@ -88,10 +88,6 @@ IsStepAnswered number why old new before now result = IsAnswered (why ≡ NoMemo
 
 -- ---- steps, of whatever past the history may be said to have
 
--- there is such a past
-abbrev pub HasPast : PlainHistory → Type 0
-HasPast history = (past : Past) × IsPastOf history past
-
 -- the step was taken
 abbrev pub IsStepTaken : ℕ → PlainHistory → PlainStep → PlainHistory → Option (List ℕ) → Option (List ℕ) → Type 0
 IsStepTaken number was step is old new = (past : Past) → IsPastOf was past → (next : Past) × IsPastOf is next × IsTurnTaken IsStepTurn number past step next old new

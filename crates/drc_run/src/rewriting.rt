@@ -3,7 +3,7 @@
 ghost use Rattle.std.specs.Prelude.{◌≡◌, ◌≤◌, length, map, All, IfOk, MatchResult};
 ghost use Rattle.drc_io.specs.Causes.{Rose};
 ghost use Rattle.edit_script.specs.Commands.{plain_command};
-ghost use Rattle.edit_script.specs.Fits.{Fits};
+ghost use Rattle.edit_script.specs.Fits.{Fits, AreShallow};
 ghost use Rattle.board_write.specs.Sources.{IsSource};
 ghost use Rattle.run_words.specs.Calls.{write};
 ghost use Rattle.run_texts.specs.declared.texts.Which.{Which};
@@ -60,6 +60,7 @@ fn rewritten<W: Sink>(
     requires read { IsSource text.now source }
     requires few { length commands.now ≤ 33_554_432 }
     requires fit { All Fits (map plain_command commands.now) }
+    requires shallow { AreShallow (map plain_command commands.now) }
     ensures ends { Ends (IsBoardWritten text.now (map plain_command commands.now)) (IsTextOfOne (IsBoardWritten text.now (map plain_command commands.now))) (λ _. ⊥) (W.written out.old) (W.written out.new) result }
     ensures fault { result ≡ Status.WriteFault → Rose (W.faults out.old) (W.faults out.new) }
 {

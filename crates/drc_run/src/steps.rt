@@ -9,7 +9,7 @@ ghost use Rattle.undo_log.specs.Taking.{IsTaken, IsRefused};
 ghost use Rattle.undo_log.specs.Ways.{IsPastOf};
 ghost use Rattle.drc_run.specs.declared.turns.Break.{Break};
 ghost use Rattle.drc_run.specs.Turns.{IsStepTurn};
-ghost use Rattle.drc_run.specs.Running.{HasPast, IsStepAnswered, IsStepTaken, IsStepBroken, AreTaken, AreBroken};
+ghost use Rattle.drc_run.specs.Running.{IsStepAnswered, IsStepTaken, IsStepBroken, AreTaken, AreBroken};
 
 use crate::lines::write_refused_step;
 use crate::reporting::write_report;
@@ -64,7 +64,6 @@ fn step<R: Threads + Sync + AllocGlobal, W: Sink, G: Gate>(
     out: &mut W,
 ) -> Result<(), Break>
     requires running { history.old.stopped ≡ false }
-    requires past { HasPast history.old }
     requires fits { StepFits (plain_step step.now) }
     ensures taken { IfOk result (λ _. IsStepTaken number history.old (plain_step step.now) history.new (W.written out.old) (W.written out.new)) }
     ensures running { IfOk result (λ _. history.new.stopped ≡ false) }
@@ -93,7 +92,6 @@ pub(crate) fn steps<R: Threads + Sync + AllocGlobal, W: Sink, G: Gate>(
     out: &mut W,
 ) -> Result<(), Break>
     requires running { history.old.stopped ≡ false }
-    requires past { HasPast history.old }
     requires fit { All StepFits (map plain_step steps.now) }
     ensures taken { IfOk result (λ _. (past : Past) → IsPastOf history.old past → (last : Past) × IsPastOf history.new last × AreTaken IsStepTurn past (map plain_step steps.now) last (W.written out.old) (W.written out.new)) }
     ensures running { IfOk result (λ _. history.new.stopped ≡ false) }

@@ -13,7 +13,7 @@ use Rattle.drc_run.proofs.steps.step.Goals as goal
 
 pub write_report-requires-clause-held : goal.write_report-requires-clause-held
 write_report-requires-clause-held g c =
-    let p = c.requires.past in
+    let p = c.in-Ok.ensures.taken.past in
     let from = c.in-Ok.ensures.taken.steps p.0 p.1 in
     let same : from.next.now ≡ c.session.result.now.state = from.is_past.present ∙ ap (λ (s : PlainSession). s.state) (sym c.session.ensures.same) in
     subst (λ (s : State). IsHeldCount (checked_in s) c.tiles_of.result.held) same (subst (IsHeldCount (checked_in from.next.now)) (sym c.tiles_of.ensures.held) from.applied_is.held)

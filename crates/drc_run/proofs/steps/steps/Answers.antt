@@ -10,9 +10,6 @@ use Rattle.drc_run.proofs.steps.steps.Goals as goal
 pub step-requires-clause-fits : goal.step-requires-clause-fits
 step-requires-clause-fits g c κs within = each_has plain_step StepFits c.args.steps.now c.loop-one.one-index c.one-item.result c.requires.fit (omega arith) c.one-item.is
 
-pub step-requires-clause-past : goal.step-requires-clause-past
-step-requires-clause-past g c κs within = let p = c.requires.past in let at = c.loop-one.invariant.taken p.0 p.1 in (at.0, at.1)
-
 pub returns-in_err-step-clause-broken : goal.returns-in_err-step-clause-broken
 returns-in_err-step-clause-broken g c =
     let p = err_from_is_err_and c.from_residual.result c.from_residual.ensures.1 in
