@@ -16,6 +16,7 @@ import sources
 
 BEGIN, END = '<!-- Written by tools/layers.py: -->', '<!-- Up to here. -->'
 NOTIONS = 'tools/notions.txt'
+STATEMENT = ('drc_run', 'Endings')
 
 
 def cell(text):
@@ -85,9 +86,21 @@ def architecture():
     return text[:text.index(BEGIN)] + BEGIN + '\n\n' + layers_text() + '\n\n' + text[text.index(END):]
 
 
+def cited_by(module):
+    """a module of definitions and all that it rests on, each as its crate and its name"""
+    there = {(name, other) for name, _ in sources.crates() for other in sources.modules(name)}
+    found, left = set(), [module]
+    while left:
+        crate, name = left.pop()
+        if (crate, name) in there - found:
+            found.add((crate, name))
+            left += re.findall(r'Rattle\.(\w+)\.specs\.(\w+)', sources.read('crates', crate, 'specs', name + '.antt'))
+    return found
+
+
 def definitions():
     """each module of definitions with what it says of itself, and the notions that it holds"""
-    told, count = notions(), 0
+    told, count, needed = notions(), 0, cited_by(STATEMENT)
     lines = []
     for number, layer in enumerate(sources.layers(), 1):
         body = []
@@ -95,7 +108,8 @@ def definitions():
             for module in sources.modules(name):
                 own, words = told.get('%s/%s' % (name, module), (False, ''))
                 said = sources.first_sentences(sources.module_head(name, module))
-                body.append('| `%s/%s`%s | %s | %s |' % (name, module, ' (own)' if own else '', cell(said), cell(words)))
+                path = '**`%s/%s`**' if (name, module) in needed else '`%s/%s`'
+                body.append('| %s%s | %s | %s |' % (path % (name, module), ' (own)' if own else '', cell(said), cell(words)))
         count += len(body)
         if body:
             lines += ['', '## %d. %s' % (number, layer.name), '', '| module | what it says | notions |', '|---|---|---|'] + body
@@ -104,7 +118,8 @@ def definitions():
         'Written by `tools/layers.py`: %d modules, in the order in which to read them, by the layers of [ARCHITECTURE.md](ARCHITECTURE.md).' % count,
         'A path `CRATE/Module` is the file `crates/CRATE/specs/Module.antt`. A module stands in the lowest crate that needs it, and here behind those that it cites.',
         'The second column is the beginning of the comment at the head of the module. The third one names notions that it holds, where that comment does not.',
-        'A module that is marked (own) serves the contracts of its crate or of crates next to it, and no definition that a reader of the statement needs.',
+        'The statement ([PROVED.md](PROVED.md)) is in `%s/%s`, and rests on %d modules, whose names are bold. The others serve contracts on the way to it;' % (STATEMENT + (len(needed),)),
+        'those that are marked (own) serve the contracts of their crate, or of crates next to it.',
     ] + lines) + '\n'
 
 
