@@ -29,6 +29,13 @@ class Tries:
             self.wrong += 1
             print('%s: %r is not in %.600r' % (what, part, text))
 
+    def none(self, lines):
+        """there is nothing to say"""
+        self.tried += 1
+        self.wrong += len(lines)
+        for line in lines:
+            print(line)
+
 
 def run(*words, text=None, env=None, cwd=ROOT):
     """the status, the output and the errors of a tool"""
