@@ -12,5 +12,5 @@ returns-in-None-bounds_of c = near_nothing c.args.index.now c.args.ids.now.items
 
 pub returns-in-Some-bounds_of : goal.returns-in-Some-bounds_of
 returns-in-Some-bounds_of c =
-    then c.push_ids_near.result c.push_ids_near.ensures
+    then c.push_ids_near.result c.push_ids_near.ensures.reached
     (λ r. near_reached c.args.index.now c.args.ids.now.items (option_copied c.args.mark) c.in-Some.mark.now c.in-Some-bounds_of.bounds c.push_ids_near.new.ids.items (ap option_copied c.in-Some.is) c.in-Some-bounds_of.ensures.least r)

@@ -10,7 +10,7 @@ use Rattle.kept_rows.proofs.renewing.renew_rows.Goals as goal
 pub returns : goal.returns
 returns c = λ old step was.
     let now = checked_by c.args.view.now in
-    let singles = c.in_ok-push_singles.ensures in
+    let singles = c.in_ok-push_singles.ensures.rows in
     let sorted = c.in_ok-put_in_order.ensures in
     let pairs = flat_map (λ (batch : List PlainRow). batch) c.args.batches.now in
     let made = c.in_ok-push_batches.ensures ∙ ap (λ rs. rs ++ pairs) (singles.is ∙ ap (λ rs. rs ++ singles.more) c.keep_untouched.ensures) in
