@@ -112,7 +112,7 @@ fn found_on(alloc: Global, board: &Board, last: Phase) -> Result<u64, AllocError
 /// How much is found in the phase of the board of the text: items, items with facts, tiles that hold one, rows, groups or links. A
 /// text that is not a board has nothing.
 pub fn found(alloc: Global, text: &[u8], last: Phase) -> Option<u64> {
-    if text.len() > crate::LIMIT {
+    if text.len() > crate::texts::LIMIT {
         return None;
     }
     let board = read_board(alloc, text).ok()?;

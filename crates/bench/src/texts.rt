@@ -1,18 +1,11 @@
-// Reads a text, and prints how many bytes it has and how many parts its root.
-//
-// Without words it reads small texts of its own a few times. With `plain FILE` it adds the file's bytes up, with
-// `sexpr FILE` it reads the file as one S-expression, and with `json FILE` as JSON. With `board FILE` it reads the file as
-// a board, whose items it counts; with `facts`, `index`, `rows`, `groups` and `links` it goes on to that phase of a run.
-#![tactic(auto)]
-
-mod phases;
+//! Texts that are read, and boards that are taken through the phases of a run.
 
 use crate::phases::{Phase, found};
 use sexpr_read::parse_one;
 use std::alloc::Global;
+use std::fs;
 use std::io::Print;
 use std::rt::Runtime;
-use std::{env, fs};
 
 /// The most bytes of a text.
 pub(crate) const LIMIT: usize = 33_554_432;
@@ -70,7 +63,8 @@ fn show_phases<R: Print + AllocGlobal>(rt: &R, text: &[u8]) -> anyhow::Result<()
     Ok(())
 }
 
-fn stored<R: Print + AllocGlobal>(rt: &R) -> anyhow::Result<()> {
+/// Reads small texts of its own a few times.
+pub(crate) fn stored<R: Print + AllocGlobal>(rt: &R) -> anyhow::Result<()> {
     let text = b"(kicad_pcb (version 20221018) (net 0 \"\") (net 1 \"N1\"))";
     show(rt, "plain", text.len(), Some(checksum(text)))?;
     for _ in 0..3 {
@@ -104,22 +98,25 @@ fn stored<R: Print + AllocGlobal>(rt: &R) -> anyhow::Result<()> {
     show(rt, "json", 3, items(rt.alloc(), b"[1,"))
 }
 
-fn bench<R: Runtime + Print + AllocGlobal>(rt: &R, kind: &str, path: &str) -> anyhow::Result<()> {
+/// Reads the file of this path as what this kind says, where there is such a kind.
+pub(crate) fn read<R: Runtime + Print + AllocGlobal>(
+    rt: &R,
+    kind: &str,
+    path: &str,
+) -> anyhow::Result<bool> {
+    let phase = Phase::named(kind);
+    if phase.is_none() && kind != "plain" && kind != "sexpr" && kind != "json" {
+        return Ok(false);
+    }
     let text = fs::read(rt, path)?;
-    if let Some(phase) = Phase::named(kind) {
-        return show(rt, kind, text.len(), found(rt.alloc(), &text, phase));
-    }
-    match kind {
-        "sexpr" => show(rt, kind, text.len(), parts(rt.alloc(), &text)),
-        "json" => show(rt, kind, text.len(), items(rt.alloc(), &text)),
-        _ => show(rt, "plain", text.len(), Some(checksum(&text))),
-    }
-}
-
-fn main(rt: HostRuntime) -> anyhow::Result<()> {
-    let words: Vec<String> = env::args(&rt)?.skip(1).collect(rt.alloc())?;
-    match words.as_slice() {
-        [kind, path] => bench(&rt, kind.as_str(), path.as_str()),
-        _ => stored(&rt),
-    }
+    let number = match phase {
+        Some(phase) => found(rt.alloc(), &text, phase),
+        None => match kind {
+            "sexpr" => parts(rt.alloc(), &text),
+            "json" => items(rt.alloc(), &text),
+            _ => Some(checksum(&text)),
+        },
+    };
+    show(rt, kind, text.len(), number)?;
+    Ok(true)
 }
