@@ -1,7 +1,6 @@
 -- What is known of a unit that was moved.
-use Rattle.std.proofs.Common.{◌≡◌, ◌≢◌, ◌⊎◌, inl, inr, refl, sym, ap, subst, ◌∙◌, ℕ, zero, suc, ℤ, pos, neg_ℤ, Bool, true, false, cond, not, ◌&&◌, nat_eq, List, [], ◌∷◌, filter, Option, None, Some, MatchBool, Result, Ok, Err, OnOk, IfErr, is_some, unsigned_abs, ◌≤◌, ◌-ℤ◌, ◌+ℤ◌, ◌*ℤ◌, FitsSigned, arith, true≢false}
+use Rattle.std.proofs.Common.{◌≡◌, ◌≢◌, ◌⊎◌, inl, inr, refl, sym, ap, subst, ◌∙◌, ℕ, zero, suc, ℤ, pos, neg_ℤ, Bool, true, false, cond, not, ◌&&◌, nat_eq, List, [], ◌∷◌, filter, Option, None, Some, MatchBool, Result, Ok, Err, OnOk, IfErr, is_some, unsigned_abs, ◌≤◌, ◌+ℤ◌, ◌*ℤ◌, FitsSigned, arith, true≢false}
 use mir.Syntax.{w64}
-use Rattle.std.proofs.lemmas.Int.{ints}
 use Rattle.int_algebra.proofs.Scalars.{passed, clean}
 use Rattle.board_errors.specs.declared.errors.ItemError.{ItemError}
 use Rattle.board_errors.specs.declared.errors.ItemError.TheVariants.{OutOfBoard}

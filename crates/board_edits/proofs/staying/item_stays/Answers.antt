@@ -1,6 +1,5 @@
-use Rattle.std.proofs.Common.{◌∙◌, ap, subst, sym, ℕ, ◌≤◌, unsigned_abs, ℤ, pos, ◌*ℤ◌}
+use Rattle.std.proofs.Common.{◌∙◌, subst, sym, ◌≤◌, unsigned_abs, ℤ}
 use Rattle.int_algebra.proofs.Scalars.{clean}
-use Rattle.geo_seg.specs.declared.shifts.Shift.{Shift}
 use Rattle.board_edits.proofs.OwnEntries.{item_small, at_places, item_stays_by, twice}
 use Rattle.board_edits.proofs.staying.item_stays.Goals as goal
 
