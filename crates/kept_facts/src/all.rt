@@ -128,6 +128,25 @@ fn have_all(board: &Board, facts: &FactsById) -> bool
     true
 }
 
+/// The facts of all items of the board, which has so many ids, by as many threads as there are processors.
+fn facts_of_all(
+    rt: &(impl Threads + Sync),
+    sources: &Sources<'_, '_>,
+    count: u32,
+) -> Result<FactsById, AllocError>
+    requires { AreReady sources.now }
+    ensures { IfOk result (HasFacts sources.now.board.now sources.now.classes.now) }
+{
+    let mut slots = empty_slots(sources.alloc, count)?;
+    fill(rt, sources, &mut slots);
+    let facts = FactsById::of(slots);
+    if have_all(sources.board, &facts) {
+        Ok(facts)
+    } else {
+        Err(AllocError)
+    }
+}
+
 /// The facts of all items of the board, by id: with one worker, or for few items, as `all_facts` finds them, and else by as many threads
 /// as there are processors. Only want of memory refuses it.
 pub fn all_facts_by(
@@ -145,7 +164,6 @@ pub fn all_facts_by(
     }
     let index = index_marks(alloc, board)?;
     let known = classes_of(alloc, board, classes)?;
-    let mut slots = empty_slots(alloc, count)?;
     let sources = Sources {
         alloc,
         board,
@@ -153,11 +171,5 @@ pub fn all_facts_by(
         index: &index,
         known: &known,
     };
-    fill(rt, &sources, &mut slots);
-    let facts = FactsById::of(slots);
-    if have_all(board, &facts) {
-        Ok(facts)
-    } else {
-        Err(AllocError)
-    }
+    facts_of_all(rt, &sources, count)
 }

@@ -6,12 +6,12 @@ use Rattle.rule_pick.specs.AllFacts.{HasFacts}
 use Rattle.rule_pick.specs.ById.{facts_at}
 use Rattle.kept_facts.specs.Slots.{AreFilled}
 use Rattle.kept_facts.proofs.Filled.{all_found, whole}
-use Rattle.kept_facts.proofs.all.all_facts_by.Goals as goal
+use Rattle.kept_facts.proofs.all.facts_of_all.Goals as goal
 
 pub returns-then-have_all : goal.returns-then-have_all
 returns-then-have_all g c =
-    let board = c.args.board.now in
-    let classes = c.args.classes.now in
+    let board = c.args.sources.now.board.now in
+    let classes = c.args.sources.now.classes.now in
     let slots = c.in_ok-slots.slots in
     let filled = c.fill.new.slots in
     let same : AreFilled board classes slots.items filled =
