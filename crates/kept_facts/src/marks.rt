@@ -45,12 +45,12 @@ pub(crate) fn mark_of(marks: &[Option<Item>], place: usize) -> Option<&Item>
 }
 
 /// An equal item, if there is one.
-fn copy_if(alloc: Global, mark: Option<&Item>) -> Result<Option<Item>, AllocError>
+fn copy_if(mark: Option<&Item>) -> Result<Option<Item>, AllocError>
     ensures { IfOk result (λ copy. copy ≡ option_copied mark.entry) }
 {
     match mark {
         None => Ok(None),
-        Some(mark) => Ok(Some(mark.copy(alloc)?)),
+        Some(mark) => Ok(Some(mark.copy()?)),
     }
 }
 
@@ -60,7 +60,7 @@ fn marks_of(alloc: Global, board: &Board, ids: &[u32]) -> Result<Vec<Option<Item
 {
     let mut marks = Vec::with_capacity(alloc, ids.len())?;
     for id in ids {
-        marks.push(copy_if(alloc, mark_at(board, *id))?)?;
+        marks.push(copy_if(mark_at(board, *id))?)?;
     }
     Ok(marks)
 }
