@@ -30,32 +30,30 @@ pub use found::Found;
 pub use item::{About, Bans, Hole, Item, Nm, What};
 pub use moves::{shapes_stay, stays_near};
 pub use parts::{Part, Parts};
+use plain_types::crosses_threads;
 pub use turns::turn;
 pub use walk::{BoardIter, BoardNets, UnitIter};
 
-/// Takes a type that may go to another thread and be shared by threads. The calls of it show that each type may.
-fn crosses<T: Send + Sync>() {}
-
 fn all_cross() {
-    crosses::<Board>();
+    crosses_threads::<Board>();
 }
 
 fn kept_cross() {
-    crosses::<Kept>();
+    crosses_threads::<Kept>();
 }
 
 fn items_cross() {
-    crosses::<Item>();
+    crosses_threads::<Item>();
 }
 
 fn parts_cross() {
-    crosses::<Parts>();
+    crosses_threads::<Parts>();
 }
 
 fn walks_cross() {
-    crosses::<BoardIter<'_>>();
+    crosses_threads::<BoardIter<'_>>();
 }
 
 fn unit_walks_cross() {
-    crosses::<UnitIter<'_>>();
+    crosses_threads::<UnitIter<'_>>();
 }

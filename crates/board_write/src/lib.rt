@@ -30,6 +30,7 @@ pub use board_errors::InTwo;
 use drc_io::{Sink, put_all};
 use edit_script::Command;
 pub use error::WriteError;
+use plain_types::crosses_threads;
 pub use source::{SourceText, read_source};
 use std::alloc::Global;
 
@@ -76,10 +77,7 @@ pub fn write_source<W: Sink>(
     Ok(written.refused)
 }
 
-/// Takes a type that may go to another thread and be shared by threads. The calls of it show that each type may.
-fn crosses<T: Send + Sync>() {}
-
 fn all_cross() {
-    crosses::<WriteError>();
-    crosses::<InTwo>();
+    crosses_threads::<WriteError>();
+    crosses_threads::<InTwo>();
 }

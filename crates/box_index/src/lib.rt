@@ -27,14 +27,12 @@ pub use boxes::do_boxes_meet;
 pub use entry::Entry;
 pub use index::{Nm, TileIndex};
 pub use near::{push_ids_near, put_in_order};
-
-/// Takes a type that may go to another thread and be shared by threads. The calls of it show that each type may.
-fn crosses<T: Send + Sync>() {}
+use plain_types::crosses_threads;
 
 fn entries_cross() {
-    crosses::<Entry>();
+    crosses_threads::<Entry>();
 }
 
 fn indexes_cross() {
-    crosses::<TileIndex>();
+    crosses_threads::<TileIndex>();
 }

@@ -22,16 +22,14 @@ pub use constraint::Constraint;
 pub use constraints::{Constraints, Rule};
 pub use error::CondError;
 pub use kind::{Family, Kind, Special};
+use plain_types::crosses_threads;
 pub use reader::parse_cond;
 pub use rule::{Disallow, RuleLayer, Severity};
 pub use terms::{Func, Op, Prop, Side, Term};
 
-/// Takes a type that may go to another thread and be shared by threads. The calls of it show that each type may.
-fn crosses<T: Send + Sync>() {}
-
 fn all_cross() {
-    crosses::<Cond>();
-    crosses::<CondError>();
-    crosses::<Kind>();
-    crosses::<Rule>();
+    crosses_threads::<Cond>();
+    crosses_threads::<CondError>();
+    crosses_threads::<Kind>();
+    crosses_threads::<Rule>();
 }

@@ -10,9 +10,10 @@ ghost use Rattle.std.specs.Io.KnownBytes.{WriteAppends};
 ghost use Rattle.drc_io.specs.Causes.{HasCause, Rose};
 ghost use Rattle.drc_io.specs.Fetching.{Decides};
 ghost use Rattle.drc_io.specs.Files.{ReadsFrom, ReadsBehind, IsWholeFile, IsLonger, file_of};
-ghost use Rattle.drc_io.specs.Sinks.{Writes};
+ghost use Rattle.drc_io.specs.Sinks.{Wrote};
 ghost use Rattle.drc_io.specs.declared.FetchError.TheVariants.{OutOfMemory, Failed as FaultOfShelf};
 
+use plain_types::crosses_threads;
 use std::alloc::{AllocError, Global};
 use std::error::Error;
 use std::fmt;
@@ -69,7 +70,7 @@ pub trait Sink {
 /// Writes the whole text. It takes no memory. `Failed` comes only where the sink's count of faults rose, and then
 /// a front part of the text was written.
 pub fn put_all<W: Sink>(sink: &mut W, text: &[u8]) -> Result<(), Failed>
-    ensures { Writes (W.written sink.old) (W.written sink.new) (W.faults sink.old) (W.faults sink.new) text.now result }
+    ensures { Wrote W.written W.faults sink.old sink.new text.now result }
 {
     let mut done = 0;
     while done < text.len() {
@@ -169,13 +170,10 @@ pub fn fetch<F: Shelf>(
     Err(FetchError::TooLong)
 }
 
-/// Takes a type that may go to another thread and be shared by threads. The calls of it show that each type may.
-fn crosses<T: Send + Sync>() {}
-
 fn all_cross() {
-    crosses::<Failed>();
-    crosses::<FetchError>();
-    crosses::<Name>();
-    crosses::<MemShelf>();
-    crosses::<MemSink>();
+    crosses_threads::<Failed>();
+    crosses_threads::<FetchError>();
+    crosses_threads::<Name>();
+    crosses_threads::<MemShelf>();
+    crosses_threads::<MemSink>();
 }

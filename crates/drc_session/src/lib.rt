@@ -19,15 +19,13 @@ mod session;
 pub use applied::Applied;
 pub use drc_state::{Change, EditError};
 pub use kept_nets::NetPart;
+use plain_types::crosses_threads;
 pub use session::Session;
 
-/// Takes a type that may go to another thread and be shared by threads. The calls of it show that each type may.
-fn crosses<T: Send + Sync>() {}
-
 fn sessions_cross() {
-    crosses::<Session>();
+    crosses_threads::<Session>();
 }
 
 fn applied_crosses() {
-    crosses::<Applied>();
+    crosses_threads::<Applied>();
 }

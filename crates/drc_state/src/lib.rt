@@ -9,12 +9,10 @@ mod planning;
 pub use board_errors::{InTwo, ReasonInTwo};
 pub use change::{Change, Edit, change_of, edit_in};
 pub use error::EditError;
+use plain_types::crosses_threads;
 pub use planning::edit_of;
 
-/// Takes a type that may go to another thread and be shared by threads. The calls of it show that each type may.
-fn crosses<T: Send + Sync>() {}
-
 fn all_cross() {
-    crosses::<EditError>();
-    crosses::<InTwo>();
+    crosses_threads::<EditError>();
+    crosses_threads::<InTwo>();
 }

@@ -20,6 +20,7 @@ use crate::laws::one_reading;
 use crate::reading::{commands_in, steps_in};
 pub use command::{Command, Nm, Step};
 pub use error::ScriptError;
+use plain_types::crosses_threads;
 use sexpr_read::laws::spans_in_order;
 use sexpr_read::{TextError, parse_all};
 use std::alloc::Global;
@@ -67,11 +68,8 @@ pub fn read_steps<'t>(alloc: Global, text: &'t [u8]) -> Result<Vec<Step<'t>>, Sc
     }
 }
 
-/// Takes a type that may go to another thread and be shared by threads. The calls of it show that each type may.
-fn crosses<T: Send + Sync>() {}
-
 fn all_cross() {
-    crosses::<ScriptError>();
-    crosses::<Command<'static>>();
-    crosses::<Step<'static>>();
+    crosses_threads::<ScriptError>();
+    crosses_threads::<Command<'static>>();
+    crosses_threads::<Step<'static>>();
 }

@@ -1,5 +1,5 @@
 -- Boxes along the axes. As on a screen y grows downward, so the top of a box is its least y.
-use Rattle.std.specs.Prelude.{ℤ, neg_ℤ, ◌+ℤ◌, ◌-ℤ◌, ◌*ℤ◌, ◌≤ℤ◌, Bool, ◌&&◌, int_le, ◌⊎◌}
+use Rattle.std.specs.Prelude.{pos, ℤ, neg_ℤ, ◌+ℤ◌, ◌-ℤ◌, ◌*ℤ◌, ◌≤ℤ◌, Bool, ◌&&◌, int_le, ◌⊎◌}
 use Rattle.geo_seg.specs.declared.boxes.Bounds.{Bounds}
 use Rattle.geo_seg.specs.Points.{Spot}
 
@@ -55,6 +55,18 @@ pub record FitsWithin (limit : ℤ) (b : Bounds) : Type 0 where
   pub top : neg_ℤ limit ≤ℤ b.top
   pub right : b.right ≤ℤ limit
   pub bottom : b.bottom ≤ℤ limit
+
+-- the box of a core: its points have coordinates
+abbrev pub FitsCore : Bounds → Type 0
+FitsCore b = FitsWithin (pos 1000000000) b
+
+-- the box of a shape, whose core is made wider by up to 500 mm
+abbrev pub FitsShape : Bounds → Type 0
+FitsShape b = FitsWithin (pos 1500000000) b
+
+-- the box of an entry of an index, which may reach as far again
+abbrev pub FitsIndex : Bounds → Type 0
+FitsIndex b = FitsWithin (pos 2000000000) b
 
 -- the range from low to high ends at least d before the other begins, or begins as far after it
 abbrev pub IsClearOf : ℤ → ℤ → ℤ → ℤ → ℤ → Type 0

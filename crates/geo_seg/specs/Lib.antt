@@ -10,3 +10,4 @@ pub mod Runs
 pub mod Kept
 pub mod Shifts
 pub mod ShiftedRuns
+pub mod Ranges

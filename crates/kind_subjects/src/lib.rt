@@ -24,12 +24,10 @@ pub use measure::{Faced, Facings, facings_at, may_face};
 pub use meeting::first_meeting;
 pub use near::{are_kept, gap_if_near, may_not_meet};
 pub use places::{Places, places_of_items, tried_at};
+use plain_types::crosses_threads;
 pub use single_layers::{is_asked_at, is_measured_at, places_measured};
 pub use subject::{Faces, Measure, Subject, subject_of};
 
-/// Takes a type that may go to another thread and be shared by threads. The calls of it show that each type may.
-fn crosses<T: Send + Sync>() {}
-
 fn layers_cross() {
-    crosses::<RowLayer>();
+    crosses_threads::<RowLayer>();
 }

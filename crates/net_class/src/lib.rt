@@ -24,6 +24,7 @@ pub use error::ProjectError;
 use json_exact::{JsonError, parse};
 pub use lengths::{Class, Mins, Nm};
 pub use patterns::wild;
+use plain_types::crosses_threads;
 use std::alloc::Global;
 
 /// The classes of the text of a project, of at most 33,554,432 bytes, or the first reason why there are none, with its
@@ -50,12 +51,9 @@ fn refused(error: JsonError) -> ProjectError
     }
 }
 
-/// Takes a type that may go to another thread and be shared by threads. The calls of it show that each type may.
-fn crosses<T: Send + Sync>() {}
-
 fn all_cross() {
-    crosses::<Class>();
-    crosses::<Classes>();
-    crosses::<Mins>();
-    crosses::<ProjectError>();
+    crosses_threads::<Class>();
+    crosses_threads::<Classes>();
+    crosses_threads::<Mins>();
+    crosses_threads::<ProjectError>();
 }

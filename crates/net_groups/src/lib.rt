@@ -21,18 +21,16 @@ pub use anchors_of::anchors;
 pub use group::Group;
 pub use laws::{one_list, one_list_of_anchors, part_stays, parts_are_writable};
 pub use of_net::groups;
-
-/// Takes a type that may go to another thread and be shared by threads. The calls of it show that each type may.
-fn crosses<T: Send + Sync>() {}
+use plain_types::crosses_threads;
 
 fn groups_cross() {
-    crosses::<Group>();
+    crosses_threads::<Group>();
 }
 
 fn anchors_cross() {
-    crosses::<ratsnest::Anchor>();
+    crosses_threads::<ratsnest::Anchor>();
 }
 
 fn nests_cross() {
-    crosses::<ratsnest::Nest>();
+    crosses_threads::<ratsnest::Nest>();
 }

@@ -25,33 +25,31 @@ use net_class::Classes;
 pub use pair::{test_pair, test_two};
 pub use pair_rows::PairRows;
 pub use passed::are_copper;
+use plain_types::crosses_threads;
 pub use row::Row;
 use rule_pick::FactsById;
 pub use single::{single_at, test_item};
 pub use steps::Steps;
 pub use view::CheckView;
 
-/// Takes a type that may go to another thread and be shared by threads. The calls of it show that each type may.
-fn crosses<T: Send + Sync>() {}
-
 fn rows_cross() {
-    crosses::<Row>();
+    crosses_threads::<Row>();
 }
 
 // What a view lends:
 
 fn boards_cross<'a>() {
-    crosses::<&'a Board>();
+    crosses_threads::<&'a Board>();
 }
 
 fn facts_cross<'a>() {
-    crosses::<&'a FactsById>();
+    crosses_threads::<&'a FactsById>();
 }
 
 fn rules_cross<'a>() {
-    crosses::<&'a [Rule]>();
+    crosses_threads::<&'a [Rule]>();
 }
 
 fn classes_cross<'a>() {
-    crosses::<&'a Classes>();
+    crosses_threads::<&'a Classes>();
 }

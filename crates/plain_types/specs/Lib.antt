@@ -1,2 +1,4 @@
 pub mod Reasons
 pub mod Lengths
+pub mod Limits
+pub mod NewReasons

@@ -14,3 +14,10 @@ pub fn is_length(n: i64) -> bool
 {
     0 <= n && n <= GREATEST_LENGTH
 }
+
+/// A length from 0 to 500 mm, in nanometres.
+#[derive(Clone, Copy, Debug, Drop, PartialEq, Eq)]
+pub struct Length {
+    pub nm: i64,
+    pub ghost in_range: { IsLength nm },
+}

@@ -29,12 +29,10 @@ pub use minimums::{board_minimum, has_default};
 pub use names::Names;
 pub use picked::Picked;
 pub use picking::pick;
-
-/// Takes a type that may go to another thread and be shared by threads. The calls of it show that each type may.
-fn crosses<T: Send + Sync>() {}
+use plain_types::crosses_threads;
 
 fn all_cross() {
-    crosses::<Facts>();
-    crosses::<FactsById>();
-    crosses::<Picked>();
+    crosses_threads::<Facts>();
+    crosses_threads::<FactsById>();
+    crosses_threads::<Picked>();
 }

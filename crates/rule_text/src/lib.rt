@@ -33,6 +33,7 @@ use crate::listed::{list_of, moved};
 use crate::reading::rules_of;
 pub use error::RuleError;
 pub use notes::{RuleNote, RuleNotes};
+use plain_types::crosses_threads;
 pub use rules::{RuleList, Rules};
 use sexpr_read::laws::spans_in_order;
 use sexpr_read::{TextError, parse_all};
@@ -92,18 +93,15 @@ fn list_here(alloc: Global, text: &[u8]) -> Result<Rules, RuleError>
     }
 }
 
-/// Takes a type that may go to another thread and be shared by threads. The calls of it show that each type may.
-fn crosses<T: Send + Sync>() {}
-
 fn all_cross() {
-    crosses::<RuleError>();
-    crosses::<RuleNotes>();
+    crosses_threads::<RuleError>();
+    crosses_threads::<RuleNotes>();
 }
 
 fn lists_cross() {
-    crosses::<RuleList>();
+    crosses_threads::<RuleList>();
 }
 
 fn rules_cross() {
-    crosses::<Rules>();
+    crosses_threads::<Rules>();
 }
