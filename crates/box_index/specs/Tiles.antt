@@ -4,7 +4,7 @@ use Rattle.std.specs.Prelude.{◌≢◌, ℕ, ◌+◌, ◌*◌, ◌/◌, ◌%◌
 use Rattle.std.specs.List.{list_any}
 use Rattle.std.specs.Int.{int_max}
 use Rattle.geo_seg.specs.declared.boxes.Bounds.{Bounds}
-use Rattle.geo_seg.specs.Boxes.{FitsWithin, widened, are_near}
+use Rattle.geo_seg.specs.Boxes.{widened, are_near, FitsIndex}
 use Rattle.box_index.specs.declared.entry.Entry.{Entry}
 
 -- the number, or 0 where it is negative
@@ -46,7 +46,7 @@ pub record IsSoundIndex (index : PlainIndex) : Type 0 where
   pub reach_from : pos 0 ≤ℤ index.reach
   pub reach_to : index.reach ≤ℤ pos 500000000
   pub rising : IsRising index.entries
-  pub fit : All (λ e. FitsWithin (pos 2000000000) e.bounds) index.entries
+  pub fit : All (λ e. FitsIndex e.bounds) index.entries
 
 -- the entry's bounds, widened by the reach, meet the tile
 abbrev pub is_in : PlainIndex → ℕ → Entry → Bool

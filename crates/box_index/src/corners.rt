@@ -1,7 +1,7 @@
 //! Where entries begin.
 
-ghost use Rattle.std.specs.Prelude.{pos, ◌≤◌};
-ghost use Rattle.geo_seg.specs.Boxes.{FitsWithin};
+ghost use Rattle.std.specs.Prelude.{◌≤◌};
+ghost use Rattle.geo_seg.specs.Boxes.{FitsIndex};
 ghost use Rattle.box_index.specs.Corners.{BeginsBy};
 
 use crate::entry::Entry;
@@ -17,7 +17,7 @@ pub(crate) struct Corner {
 impl Corner {
     /// The corner, moved right and down as far as the entry begins.
     pub(crate) fn with(self, entry: Entry) -> Corner
-        requires { FitsWithin (pos 2000000000) entry.bounds }
+        requires { FitsIndex entry.bounds }
         ensures column { self.column ≤ result.column }
         ensures row { self.row ≤ result.row }
         ensures begun { BeginsBy result entry }

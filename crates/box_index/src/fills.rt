@@ -7,7 +7,7 @@ ghost use Rattle.box_index.specs.Walks.{IsFilled};
 use crate::lanes::{LANES, TILES};
 use std::alloc::{AllocError, Global};
 
-/// The same value for each tile. They are put in row by row.
+/// A vector that holds the value for each tile. It is filled row by row.
 pub(crate) fn filled<T: Copy>(alloc: Global, value: T) -> Result<Vec<T>, AllocError>
     ensures { IfOk result (λ values. IsFilled tile_count value values.items) }
 {

@@ -1,8 +1,8 @@
 //! The entries of each tile. Tiles that have the same may share a list: an area or a fill lies in thousands of tiles.
 
-ghost use Rattle.std.specs.Prelude.{◌≡◌, ℕ, ◌<◌, ◌≤◌, true, List, [], ◌∷◌, ◌++◌, length, pos, IfOk, OnOk};
+ghost use Rattle.std.specs.Prelude.{◌≡◌, ℕ, ◌<◌, ◌≤◌, true, List, [], ◌∷◌, ◌++◌, length, IfOk, OnOk};
 ghost use Rattle.std.specs.List.{AllZip};
-ghost use Rattle.geo_seg.specs.Boxes.{FitsWithin};
+ghost use Rattle.geo_seg.specs.Boxes.{FitsIndex};
 ghost use Rattle.box_index.specs.declared.entry.Entry.{Entry};
 ghost use Rattle.box_index.specs.declared.shared.Shared.{Shared};
 ghost use Rattle.box_index.specs.Tiles.{tile_count};
@@ -33,7 +33,8 @@ pub(crate) struct Grid {
 impl Grid {
     /// Tiles without entries. Only want of memory refuses it.
     pub(crate) fn new(alloc: Global) -> Result<Grid, AllocError>
-        ensures shared { IfOk result (λ grid. AreShared (λ tile. []) grid.tiles.items grid.lists.items) }
+        ensures shared { IfOk result (λ grid. AreShared (λ tile.
+            []) grid.tiles.items grid.lists.items) }
         ensures even { IfOk result (λ grid. IsEvenAt grid.even grid.tiles.items) }
     {
         let mut lists = Vec::new(alloc);
@@ -47,8 +48,11 @@ impl Grid {
 
     /// Equal lists of all tiles. Only want of memory refuses it.
     pub(crate) fn copy(&self) -> Result<Grid, AllocError>
-        ensures shared { IfOk result (λ copy. (near : ℕ → List Entry) → AreShared near self.now.tiles.items self.now.lists.items → AreShared near copy.tiles.items copy.lists.items) }
-        ensures even { IsEvenAt self.now.even self.now.tiles.items → IfOk result (λ copy. IsEvenAt copy.even copy.tiles.items) }
+        ensures shared { IfOk result (λ copy. (near : ℕ → List Entry)
+            → AreShared near self.now.tiles.items self.now.lists.items
+            → AreShared near copy.tiles.items copy.lists.items) }
+        ensures even { IsEvenAt self.now.even self.now.tiles.items
+            → IfOk result (λ copy. IsEvenAt copy.even copy.tiles.items) }
     {
         Ok(Grid {
             tiles: copy_numbers(*self.tiles.allocator(), &self.tiles)?,
@@ -99,7 +103,8 @@ impl Grid {
         requires homed { AreHomed self.now.tiles.items self.now.lists.items }
         requires even { IsEvenAt self.now.even self.now.tiles.items }
         ensures even { result ≡ true → IsEven area self.now.tiles.items }
-        ensures lies { result ≡ true → (tile d : ℕ) (s : Shared) → has_tile area tile ≡ true → LiesIn (list_at self.now.tiles.items self.now.lists.items tile d s).home area }
+        ensures lies { result ≡ true → (tile d : ℕ) (s : Shared) → has_tile area tile ≡ true
+            → LiesIn (list_at self.now.tiles.items self.now.lists.items tile d s).home area }
     {
         self.is_known_even(area) && self.at(area.first()).home.lies_in(area)
     }
@@ -108,7 +113,8 @@ impl Grid {
     fn is_filled(&self, area: Area) -> bool
         requires homed { AreHomed self.now.tiles.items self.now.lists.items }
         requires even { IsEvenAt self.now.even self.now.tiles.items }
-        ensures { result ≡ true → (near : ℕ → List Entry) → AreShared near self.now.tiles.items self.now.lists.items → vacant_of near area ≡ [] }
+        ensures { result ≡ true → (near : ℕ → List Entry)
+            → AreShared near self.now.tiles.items self.now.lists.items → vacant_of near area ≡ [] }
     {
         self.is_known_even(area) && !self.at(area.first()).entries.is_empty()
     }
@@ -117,7 +123,8 @@ impl Grid {
     pub(crate) fn vacant(&self, area: Area) -> u32
         requires homed { AreHomed self.now.tiles.items self.now.lists.items }
         requires even { IsEvenAt self.now.even self.now.tiles.items }
-        ensures { (near : ℕ → List Entry) → AreShared near self.now.tiles.items self.now.lists.items → result ≡ length (vacant_of near area) }
+        ensures { (near : ℕ → List Entry) → AreShared near self.now.tiles.items self.now.lists.items
+            → result ≡ length (vacant_of near area) }
     {
         if self.is_filled(area) {
             return 0;
@@ -129,7 +136,8 @@ impl Grid {
     pub(crate) fn at(&self, tile: usize) -> &Shared
         requires homed { AreHomed self.now.tiles.items self.now.lists.items }
         requires within { tile < tile_count }
-        ensures { (d : ℕ) (s : Shared) → result.now ≡ list_at self.now.tiles.items self.now.lists.items tile d s }
+        ensures { (d : ℕ) (s : Shared)
+            → result.now ≡ list_at self.now.tiles.items self.now.lists.items tile d s }
     {
         &self.lists[self.tiles[tile] as usize]
     }
@@ -139,7 +147,9 @@ impl Grid {
     pub(crate) fn make_room(&mut self, area: Area) -> Result<(), AllocError>
         requires homed { AreHomed self.old.tiles.items self.old.lists.items }
         requires even { IsEvenAt self.old.even self.old.tiles.items }
-        ensures shared { (near : ℕ → List Entry) → AreShared near self.old.tiles.items self.old.lists.items → AreShared near self.new.tiles.items self.new.lists.items }
+        ensures shared { (near : ℕ → List Entry)
+            → AreShared near self.old.tiles.items self.old.lists.items
+            → AreShared near self.new.tiles.items self.new.lists.items }
         ensures even { IsEvenAt self.new.even self.new.tiles.items }
         ensures ready { OnOk result (AreReady area self.new.tiles.items self.new.lists.items) }
     {
@@ -162,8 +172,11 @@ impl Grid {
         requires even { IsEvenAt self.old.even self.old.tiles.items }
         requires ready { AreReady area self.old.tiles.items self.old.lists.items }
         requires open { CanTake entry area self.old.tiles.items self.old.lists.items }
-        requires fits { FitsWithin (pos 2000000000) entry.bounds }
-        ensures shared { (near now : ℕ → List Entry) → AreShared near self.old.tiles.items self.old.lists.items → IsPutNear entry area near now → AreShared now self.new.tiles.items self.new.lists.items }
+        requires fits { FitsIndex entry.bounds }
+        ensures shared { (near now : ℕ → List Entry)
+            → AreShared near self.old.tiles.items self.old.lists.items
+            → IsPutNear entry area near now
+            → AreShared now self.new.tiles.items self.new.lists.items }
         ensures even { IsEvenAt self.new.even self.new.tiles.items }
     {
         let end = self.end_of_walk(area);
@@ -175,7 +188,10 @@ impl Grid {
         requires homed { AreHomed self.old.tiles.items self.old.lists.items }
         requires even { IsEvenAt self.old.even self.old.tiles.items }
         requires rising { AreRising area self.old.tiles.items self.old.lists.items }
-        ensures shared { (near now : ℕ → List Entry) → AreShared near self.old.tiles.items self.old.lists.items → IsTakenNear id area near now → AreShared now self.new.tiles.items self.new.lists.items }
+        ensures shared { (near now : ℕ → List Entry)
+            → AreShared near self.old.tiles.items self.old.lists.items
+            → IsTakenNear id area near now
+            → AreShared now self.new.tiles.items self.new.lists.items }
         ensures even { IsEvenAt self.new.even self.new.tiles.items }
     {
         let end = self.end_of_walk(area);
@@ -183,7 +199,7 @@ impl Grid {
     }
 }
 
-/// The same numbers.
+/// A copy of the numbers.
 fn copy_numbers(alloc: Global, numbers: &[u32]) -> Result<Vec<u32>, AllocError>
     ensures { IfOk result (λ copy. copy.items ≡ numbers.now) }
 {
@@ -194,7 +210,8 @@ fn copy_numbers(alloc: Global, numbers: &[u32]) -> Result<Vec<u32>, AllocError>
 
 /// Appends an equal list.
 fn push_copy(copies: &mut Vec<Shared>, list: &Shared) -> Result<(), AllocError>
-    ensures { OnOk result ((lists : List Shared) → AllZip IsEqual lists copies.old.items → AllZip IsEqual (lists ++ list.now ∷ []) copies.new.items) }
+    ensures { OnOk result ((lists : List Shared) → AllZip IsEqual lists copies.old.items
+        → AllZip IsEqual (lists ++ list.now ∷ []) copies.new.items) }
 {
     copies.push(list.copy()?)?;
     Ok(())

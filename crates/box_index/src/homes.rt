@@ -70,7 +70,8 @@ impl Area {
     pub(crate) fn common(self, other: Area, tile: usize) -> Area
         requires own { has_tile self tile ≡ true }
         requires other { has_tile other tile ≡ true }
-        ensures all { (each : ℕ) → has_tile self each ≡ true → has_tile other each ≡ true → has_tile result each ≡ true }
+        ensures all { (each : ℕ) → has_tile self each ≡ true → has_tile other each ≡ true
+            → has_tile result each ≡ true }
         ensures lies { LiesIn result other }
     {
         Area {

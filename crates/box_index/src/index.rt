@@ -1,7 +1,7 @@
 //! The index.
 
 ghost use Rattle.std.specs.Prelude.{◌≡◌, ◌<◌, ◌≤ℤ◌, pos, ◌&&◌, false, [], ℕ, length, slice_index_or, filter, All, IfOk, OnOk, OnErr};
-ghost use Rattle.geo_seg.specs.Boxes.{FitsWithin, widened};
+ghost use Rattle.geo_seg.specs.Boxes.{widened, FitsIndex};
 ghost use Rattle.box_index.specs.declared.entry.Entry.{Entry};
 ghost use Rattle.box_index.specs.Areas.{has_tile};
 ghost use Rattle.box_index.specs.Spans.{HasAll};
@@ -46,7 +46,13 @@ impl Model for TileIndex {
 
     ghost view = { λ t. record { reach = t.reach; entries = t.boxes } };
 
-    ghost invariant = { λ t. IsSoundIndex (record { reach = t.reach; entries = t.boxes }) × AreShared (near_of (record { reach = t.reach; entries = t.boxes })) t.grid.tiles.items t.grid.lists.items × IsEvenAt t.grid.even t.grid.tiles.items × (t.held ≡ length (held_of (record { reach = t.reach; entries = t.boxes }))) };
+    ghost invariant = { λ t. IsSoundIndex (record { reach = t.reach; entries = t.boxes })
+        × AreShared (near_of (record {
+          reach = t.reach;
+          entries = t.boxes;
+        })) t.grid.tiles.items t.grid.lists.items
+        × IsEvenAt t.grid.even t.grid.tiles.items
+        × (t.held ≡ length (held_of (record { reach = t.reach; entries = t.boxes }))) };
 }
 
 impl TileIndex {
@@ -79,9 +85,12 @@ impl TileIndex {
     /// Puts an entry into each tile that is met by the bounds, where they are widened by the reach. No entry has the id
     /// yet. Only want of memory refuses it, and the index is then as it was.
     pub fn insert(&mut self, id: u32, bounds: Bounds) -> Result<(), AllocError>
-        requires bounds { FitsWithin (pos 2000000000) bounds }
+        requires bounds { FitsIndex bounds }
         requires absent { IsAbsent id self.old.entries }
-        ensures ok { OnOk result (self.new ≡ record self.old { entries = placed (record { id = id; bounds = bounds }) self.old.entries }) }
+        ensures ok { OnOk result (self.new ≡ record self.old {
+          entries = placed
+              (record { id = id; bounds = bounds }) self.old.entries;
+        }) }
         ensures unchanged { OnErr result (self.new ≡ self.old) }
     {
         let entry = Entry { id, bounds };
@@ -123,8 +132,8 @@ impl TileIndex {
     /// widened by the reach, shares with the second. Where the two meet so, it is met by both widened boxes, whether they
     /// are in the index or not. It takes no memory.
     pub fn owner(&self, first: Bounds, second: Bounds) -> u32
-        requires first { FitsWithin (pos 2000000000) first }
-        requires second { FitsWithin (pos 2000000000) second }
+        requires first { FitsIndex first }
+        requires second { FitsIndex second }
         ensures value { result ≡ owner_of (margin self.now) first second }
         ensures within { result < tile_count }
         ensures both { OwnsBoth (margin self.now) first second result }
@@ -134,7 +143,7 @@ impl TileIndex {
 
     /// The box, widened by the reach: what it meets, also by touching, is near the box. It takes no memory.
     pub fn widened(&self, bounds: Bounds) -> Bounds
-        requires { FitsWithin (pos 2000000000) bounds }
+        requires { FitsIndex bounds }
         ensures { result ≡ widened bounds (margin self.now) }
     {
         widen(bounds, 2 * self.reach)
@@ -143,8 +152,9 @@ impl TileIndex {
     /// The tiles that the box meets where it is widened by the reach: those that lend the box's entry, where it is in the
     /// index. It takes no memory.
     pub fn area(&self, bounds: Bounds) -> Area
-        requires { FitsWithin (pos 2000000000) bounds }
-        ensures tiles { (tile : ℕ) → has_tile result tile ≡ meets_tile (widened bounds (margin self.now)) tile }
+        requires { FitsIndex bounds }
+        ensures tiles { (tile : ℕ) → has_tile result tile
+            ≡ meets_tile (widened bounds (margin self.now)) tile }
         ensures sound { IsSoundIndex self.now }
     {
         Area::around(2 * self.reach, bounds)
@@ -181,7 +191,7 @@ impl TileIndex {
     /// The numbers, rising, of the tiles with an entry that one of the boxes meets once it is widened by the reach; with
     /// `all`, of all tiles with an entry. Only want of memory refuses it.
     pub fn dirty(&self, boxes: &[Bounds], all: bool) -> Result<Vec<u32>, AllocError>
-        requires { All (λ b. FitsWithin (pos 2000000000) b) boxes.now }
+        requires { All (λ b. FitsIndex b) boxes.now }
         ensures tiles { IfOk result (λ tiles. tiles.items ≡ dirty_of self.now boxes.now all) }
         ensures sound { IsSoundIndex self.now }
     {
@@ -210,7 +220,9 @@ impl TileIndex {
     fn marked(&self, alloc: Global, marks: &[bool], span: Span) -> Result<Vec<u32>, AllocError>
         requires long { length marks.now ≡ tile_count }
         requires span { HasAll (λ tile. slice_index_or marks.now tile false) span }
-        ensures { IfOk result (λ tiles. tiles.items ≡ filter (λ tile. is_held self.now tile && slice_index_or marks.now tile false) (numbers_below tile_count)) }
+        ensures { IfOk result (λ tiles. tiles.items ≡ filter
+            (λ tile. is_held self.now tile && slice_index_or marks.now tile false)
+            (numbers_below tile_count)) }
     {
         let mut tiles = Vec::new(alloc);
         for tile in span.first..span.end {

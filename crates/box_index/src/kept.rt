@@ -1,7 +1,7 @@
 //! The boxes of an index by their ids, so that the box of an item is known without asking the tiles.
 
 ghost use Rattle.std.specs.Prelude.{◌≡◌, ℕ, ◌+◌, ◌≤◌, ◌<◌, [], pos, length, slice_get, Some, IfOk, OnOk, OnErr, IfSome, IfNone, ◌≤ℤ◌, neg_ℤ};
-ghost use Rattle.geo_seg.specs.Boxes.{FitsWithin};
+ghost use Rattle.geo_seg.specs.Boxes.{FitsIndex};
 ghost use Rattle.box_index.specs.Tiles.{IsRising, placed, without};
 ghost use Rattle.box_index.specs.Cuts.{IsCut};
 ghost use Rattle.box_index.specs.Kept.{bounds_of, entries_of, far_entries, all_entries, AreFar};
@@ -31,7 +31,7 @@ const FIRST_SLOTS: usize = 1024;
 /// By how much longer it may be for each box that is put in.
 const SLOTS_FOR_EACH: usize = 2;
 
-/// The same number in 32 bits.
+/// The number in 32 bits, into which it fits.
 fn narrowed(z: i64) -> i32
     requires from { neg_ℤ (pos 2000000000) ≤ℤ z }
     requires to { z ≤ℤ pos 2000000000 }
@@ -42,7 +42,7 @@ fn narrowed(z: i64) -> i32
 
 impl Sides {
     fn of(bounds: Bounds) -> Sides
-        requires { FitsWithin (pos 2000000000) bounds }
+        requires { FitsIndex bounds }
         ensures { bounds_of result ≡ bounds }
     {
         Sides {
@@ -68,7 +68,8 @@ impl Sides {
 /// Appends empty slots until there are that many.
 fn fill_up(slots: &mut Vec<Option<Sides>>, count: usize) -> Result<(), AllocError>
     ensures filled { OnOk result (count ≤ length slots.new.items) }
-    ensures within { (bound : ℕ) → length slots.old.items ≤ bound → count ≤ bound → length slots.new.items ≤ bound }
+    ensures within { (bound : ℕ) → length slots.old.items ≤ bound → count ≤ bound
+        → length slots.new.items ≤ bound }
     ensures same { entries_of slots.new.items ≡ entries_of slots.old.items }
 {
     'fill: while slots.len() < count {
@@ -80,16 +81,19 @@ fn fill_up(slots: &mut Vec<Option<Sides>>, count: usize) -> Result<(), AllocErro
 /// Puts a box into a slot that is there.
 fn put(slots: &mut [Option<Sides>], id: u32, sides: Sides)
     requires { id < length slots.old }
-    ensures { entries_of slots.new ≡ placed (record { id = id; bounds = bounds_of sides }) (entries_of slots.old) }
+    ensures { entries_of slots.new ≡ placed (record { id = id; bounds = bounds_of sides })
+        (entries_of slots.old) }
 {
     slots[id as usize] = Some(sides);
 }
 
 /// Puts a box into its slot. Where the row is too short, it is made long enough.
 fn put_near(slots: &mut Vec<Option<Sides>>, id: u32, sides: Sides) -> Result<(), AllocError>
-    ensures ok { OnOk result (entries_of slots.new.items ≡ placed (record { id = id; bounds = bounds_of sides }) (entries_of slots.old.items)) }
+    ensures ok { OnOk result (entries_of slots.new.items
+        ≡ placed (record { id = id; bounds = bounds_of sides }) (entries_of slots.old.items)) }
     ensures unchanged { OnErr result (entries_of slots.new.items ≡ entries_of slots.old.items) }
-    ensures within { (bound : ℕ) → length slots.old.items ≤ bound → id < bound → length slots.new.items ≤ bound }
+    ensures within { (bound : ℕ) → length slots.old.items ≤ bound → id < bound
+        → length slots.new.items ≤ bound }
 {
     fill_up(slots, id as usize + 1)?;
     put(slots, id, sides);
@@ -99,7 +103,8 @@ fn put_near(slots: &mut Vec<Option<Sides>>, id: u32, sides: Sides) -> Result<(),
 /// Puts a box among the far ones.
 fn put_far(far: &mut BTreeMap<u32, Sides>, id: u32, sides: Sides) -> Result<(), AllocError>
     requires { IsRising (far_entries far.old.entries) }
-    ensures ok { OnOk result (far_entries far.new.entries ≡ placed (record { id = id; bounds = bounds_of sides }) (far_entries far.old.entries)) }
+    ensures ok { OnOk result (far_entries far.new.entries
+        ≡ placed (record { id = id; bounds = bounds_of sides }) (far_entries far.old.entries)) }
     ensures unchanged { OnErr result (far.new.entries ≡ far.old.entries) }
 {
     far.insert(id, sides)?;
@@ -126,7 +131,8 @@ fn take(slots: &mut [Option<Sides>], id: u32) -> Option<Entry>
 fn take_far(far: &mut BTreeMap<u32, Sides>, id: u32) -> Option<Entry>
     requires { IsRising (far_entries far.old.entries) }
     ensures entries { far_entries far.new.entries ≡ without id (far_entries far.old.entries) }
-    ensures found { IfSome result (λ e. IsCut (far_entries far.old.entries) e (far_entries far.new.entries)) }
+    ensures found { IfSome result (λ e. IsCut (far_entries far.old.entries) e
+        (far_entries far.new.entries)) }
     ensures none { IfNone result (far_entries far.new.entries ≡ far_entries far.old.entries) }
 {
     match far.remove(&id) {
@@ -165,7 +171,8 @@ fn move_first(
 ) -> Result<(), AllocError>
     requires first { slice_get far.old.entries 0 ≡ Some first }
     requires far { AreFar (length slots.old.items) far.old.entries }
-    ensures same { all_entries slots.new.items far.new.entries ≡ all_entries slots.old.items far.old.entries }
+    ensures same { all_entries slots.new.items far.new.entries
+        ≡ all_entries slots.old.items far.old.entries }
     ensures far { AreFar (length slots.new.items) far.new.entries }
     ensures within { length slots.new.items ≤ first.0 + 1 }
     ensures fewer { OnOk result (length far.new.entries < length far.old.entries) }
@@ -185,7 +192,8 @@ fn move_below(
 ) -> Result<(), AllocError>
     requires far { AreFar (length slots.old.items) far.old.entries }
     requires within { length slots.old.items ≤ bound }
-    ensures same { all_entries slots.new.items far.new.entries ≡ all_entries slots.old.items far.old.entries }
+    ensures same { all_entries slots.new.items far.new.entries
+        ≡ all_entries slots.old.items far.old.entries }
     ensures far { AreFar (length slots.new.items) far.new.entries }
     ensures within { length slots.new.items ≤ bound }
     ensures moved { OnOk result (AreFar bound far.new.entries) }
@@ -206,8 +214,11 @@ fn put_either(
 ) -> Result<(), AllocError>
     requires far { AreFar bound far.old.entries }
     requires within { length slots.old.items ≤ bound }
-    ensures ok { OnOk result (all_entries slots.new.items far.new.entries ≡ placed (record { id = id; bounds = bounds_of sides }) (all_entries slots.old.items far.old.entries)) }
-    ensures unchanged { OnErr result (all_entries slots.new.items far.new.entries ≡ all_entries slots.old.items far.old.entries) }
+    ensures ok { OnOk result (all_entries slots.new.items far.new.entries
+        ≡ placed (record { id = id; bounds = bounds_of sides })
+        (all_entries slots.old.items far.old.entries)) }
+    ensures unchanged { OnErr result (all_entries slots.new.items far.new.entries
+        ≡ all_entries slots.old.items far.old.entries) }
     ensures far { AreFar (length slots.new.items) far.new.entries }
     ensures within { length slots.new.items ≤ bound }
 {
@@ -239,12 +250,13 @@ impl Model for KeptBoxes {
 
     ghost view = { λ k. all_entries k.slots.items k.far.entries };
 
-    ghost invariant = { λ k. (length k.slots.items ≤ k.limit) × AreFar (length k.slots.items) k.far.entries };
+    ghost invariant = { λ k. (length k.slots.items ≤ k.limit)
+        × AreFar (length k.slots.items) k.far.entries };
 }
 
 impl KeptBoxes {
     /// No boxes. It takes no memory.
-    pub fn new(alloc: Global) -> KeptBoxes
+    pub(crate) fn new(alloc: Global) -> KeptBoxes
         ensures { result ≡ [] }
     {
         KeptBoxes {
@@ -255,7 +267,7 @@ impl KeptBoxes {
     }
 
     /// Equal boxes. Only want of memory refuses it.
-    pub fn copy(&self) -> Result<KeptBoxes, AllocError>
+    pub(crate) fn copy(&self) -> Result<KeptBoxes, AllocError>
         ensures { IfOk result (λ copy. copy ≡ self.now) }
     {
         let mut slots = Vec::with_capacity(*self.slots.allocator(), self.slots.len())?;
@@ -269,8 +281,8 @@ impl KeptBoxes {
 
     /// Puts an entry into its place, in place of that of its id if there is one, or changes nothing. However great the id is, the
     /// row gets no longer than the boxes that were put in so far have paid for.
-    pub fn put(&mut self, entry: Entry) -> Result<(), AllocError>
-        requires bounds { FitsWithin (pos 2000000000) entry.bounds }
+    pub(crate) fn put(&mut self, entry: Entry) -> Result<(), AllocError>
+        requires bounds { FitsIndex entry.bounds }
         ensures ok { OnOk result (self.new ≡ placed entry self.old) }
         ensures unchanged { OnErr result (self.new ≡ self.old) }
     {
@@ -282,7 +294,7 @@ impl KeptBoxes {
     }
 
     /// Takes out the entry of this id, if there is one. It takes no memory.
-    pub fn take_out(&mut self, id: u32) -> Option<Entry>
+    pub(crate) fn take_out(&mut self, id: u32) -> Option<Entry>
         ensures entries { self.new ≡ without id self.old }
         ensures found { IfSome result (λ e. IsCut self.old e self.new) }
         ensures none { IfNone result (self.new ≡ self.old) }

@@ -1,7 +1,7 @@
 //! Columns, rows and tiles.
 
 ghost use Rattle.std.specs.Prelude.{◌≡◌, ℕ, ℤ, ◌<◌, ◌≤◌, ◌+◌, ◌*◌, ◌≤ℤ◌, pos, neg_ℤ, true, false};
-ghost use Rattle.geo_seg.specs.Boxes.{FitsWithin, widened};
+ghost use Rattle.geo_seg.specs.Boxes.{FitsWithin, widened, FitsIndex};
 ghost use Rattle.box_index.specs.Tiles.{lane, meets_tile, owner_of, tile_count};
 ghost use Rattle.box_index.specs.Areas.{has_tile, end_of};
 
@@ -9,7 +9,7 @@ use crate::area::Area;
 use geo_seg::Bounds;
 
 /// Tiles in a row, and rows of tiles.
-pub(crate) const LANES: usize = 125;
+pub const LANES: usize = 125;
 
 /// All tiles.
 pub(crate) const TILES: usize = LANES * LANES;
@@ -29,7 +29,7 @@ pub(crate) fn lane(z: i64) -> usize
 pub(crate) fn widen(bounds: Bounds, margin: i64) -> Bounds
     requires from { pos 0 ≤ℤ margin }
     requires to { margin ≤ℤ pos 1000000000 }
-    requires bounds { FitsWithin (pos 2000000000) bounds }
+    requires bounds { FitsIndex bounds }
     ensures wider { result ≡ widened bounds margin }
     ensures fits { FitsWithin (pos 3000000000) result }
 {
@@ -45,8 +45,8 @@ pub(crate) fn widen(bounds: Bounds, margin: i64) -> Bounds
 pub(crate) fn owner(margin: i64, first: Bounds, second: Bounds) -> usize
     requires from { pos 0 ≤ℤ margin }
     requires to { margin ≤ℤ pos 1000000000 }
-    requires first { FitsWithin (pos 2000000000) first }
-    requires second { FitsWithin (pos 2000000000) second }
+    requires first { FitsIndex first }
+    requires second { FitsIndex second }
     ensures value { result ≡ owner_of margin first second }
     ensures within { result < tile_count }
 {
@@ -61,7 +61,7 @@ impl Area {
     pub(crate) fn around(margin: i64, bounds: Bounds) -> Area
         requires from { pos 0 ≤ℤ margin }
         requires to { margin ≤ℤ pos 1000000000 }
-        requires bounds { FitsWithin (pos 2000000000) bounds }
+        requires bounds { FitsIndex bounds }
         ensures { (tile : ℕ) → has_tile result tile ≡ meets_tile (widened bounds margin) tile }
     {
         let wide = widen(bounds, margin);
@@ -95,7 +95,8 @@ impl Area {
     pub fn after(self, tile: usize) -> usize
         requires { has_tile self tile ≡ true }
         ensures rises { tile < result }
-        ensures none_between { (other : ℕ) → tile < other → other < result → has_tile self other ≡ false }
+        ensures none_between { (other : ℕ) → tile < other → other < result
+            → has_tile self other ≡ false }
         ensures inside { result < end_of self → has_tile self result ≡ true }
     {
         if tile % LANES < self.right {

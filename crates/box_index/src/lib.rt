@@ -26,6 +26,7 @@ pub use area::Area;
 pub use boxes::do_boxes_meet;
 pub use entry::Entry;
 pub use index::{Nm, TileIndex};
+pub use lanes::LANES;
 pub use near::{push_ids_near, put_in_order};
 use plain_types::crosses_threads;
 

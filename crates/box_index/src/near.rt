@@ -1,7 +1,7 @@
 //! The ids of the entries near a box.
 
-ghost use Rattle.std.specs.Prelude.{pos, OnOk};
-ghost use Rattle.geo_seg.specs.Boxes.{FitsWithin};
+ghost use Rattle.std.specs.Prelude.{OnOk};
+ghost use Rattle.geo_seg.specs.Boxes.{FitsIndex};
 ghost use Rattle.box_index.specs.Tiles.{near_of};
 ghost use Rattle.box_index.specs.Reached.{BeginsWith, HasReached, AreSorted};
 
@@ -17,7 +17,8 @@ fn push_tile(
     bounds: Bounds,
     ids: &mut Vec<u32>,
 ) -> Result<(), AllocError>
-    ensures reached { OnOk result (HasReached bounds (near_of index.now tile) ids.old.items ids.new.items) }
+    ensures reached { OnOk result (HasReached bounds
+        (near_of index.now tile) ids.old.items ids.new.items) }
     ensures front { BeginsWith ids.old.items ids.new.items }
 {
     for entry in index.near(tile) {
@@ -36,7 +37,7 @@ pub fn push_ids_near(
     bounds: Bounds,
     ids: &mut Vec<u32>,
 ) -> Result<(), AllocError>
-    requires { FitsWithin (pos 2000000000) bounds }
+    requires { FitsIndex bounds }
     ensures reached { OnOk result (HasReached bounds index.now.entries ids.old.items ids.new.items) }
     ensures front { BeginsWith ids.old.items ids.new.items }
 {

@@ -25,7 +25,8 @@ fn take_made(tiles: &mut [u32], lists: &[Shared], tile: usize, parted: Parted) -
     requires homed { AreHomed tiles.old lists.now }
     requires within { tile < tile_count }
     requires to { parted.to < length lists.now }
-    requires alike { (s : Shared) → IsAlike (slice_index_or lists.now parted.from s) (slice_index_or lists.now parted.to s) }
+    requires alike { (s : Shared) → IsAlike (slice_index_or lists.now parted.from s)
+        (slice_index_or lists.now parted.to s) }
     ensures moved { HasMoved tile tiles.old lists.now tiles.new lists.now }
     ensures taken { result ≡ true → (d : ℕ) → slice_index_or tiles.new tile d ≡ parted.to }
     ensures left { result ≡ false → tiles.new ≡ tiles.old }
@@ -49,7 +50,8 @@ fn make_list(
     requires inside { has_tile area tile ≡ true }
     ensures moved { HasMoved tile tiles.old lists.old.items tiles.new lists.new.items }
     ensures parted { IfOk result (λ p. IsParted area p lists.new.items) }
-    ensures ready { OnOk result ((d : ℕ) (s : Shared) → IsReady area (list_at tiles.new lists.new.items tile d s)) }
+    ensures ready { OnOk result ((d : ℕ) (s : Shared)
+        → IsReady area (list_at tiles.new lists.new.items tile d s)) }
 {
     let from = tiles[tile];
     let list = &lists[from as usize];
@@ -76,7 +78,8 @@ fn part_tile(
     requires parted { IfSome parted (λ p. IsParted area p lists.old.items) }
     ensures moved { HasMoved tile tiles.old lists.old.items tiles.new lists.new.items }
     ensures parted { IfOk result (λ last. IfSome last (λ p. IsParted area p lists.new.items)) }
-    ensures ready { OnOk result ((d : ℕ) (s : Shared) → IsReady area (list_at tiles.new lists.new.items tile d s)) }
+    ensures ready { OnOk result ((d : ℕ) (s : Shared)
+        → IsReady area (list_at tiles.new lists.new.items tile d s)) }
 {
     if let Some(made) = parted {
         if take_made(tiles, lists, tile, made) {
@@ -101,7 +104,8 @@ pub(crate) fn part_each(
 ) -> Result<(), AllocError>
     requires { AreHomed tiles.old lists.old.items }
     ensures homed { AreHomed tiles.new lists.new.items }
-    ensures shared { (near : ℕ → List Entry) → AreShared near tiles.old lists.old.items → AreShared near tiles.new lists.new.items }
+    ensures shared { (near : ℕ → List Entry) → AreShared near tiles.old lists.old.items
+        → AreShared near tiles.new lists.new.items }
     ensures ready { OnOk result (AreReady area tiles.new lists.new.items) }
 {
     let end = area.end();
@@ -123,7 +127,8 @@ pub(crate) fn part_one(
     requires homed { AreHomed tiles.old lists.old.items }
     requires even { IsEven area tiles.old }
     ensures even { IsEven area tiles.new }
-    ensures shared { (near : ℕ → List Entry) → AreShared near tiles.old lists.old.items → AreShared near tiles.new lists.new.items }
+    ensures shared { (near : ℕ → List Entry) → AreShared near tiles.old lists.old.items
+        → AreShared near tiles.new lists.new.items }
     ensures ready { OnOk result (AreReady area tiles.new lists.new.items) }
 {
     let first = area.first();

@@ -1,7 +1,7 @@
 //! Lists of entries that tiles share.
 
-ghost use Rattle.std.specs.Prelude.{◌≡◌, pos, [], List, IfOk, OnOk};
-ghost use Rattle.geo_seg.specs.Boxes.{FitsWithin};
+ghost use Rattle.std.specs.Prelude.{◌≡◌, [], List, IfOk, OnOk};
+ghost use Rattle.geo_seg.specs.Boxes.{FitsIndex};
 ghost use Rattle.box_index.specs.declared.entry.Entry.{Entry};
 ghost use Rattle.box_index.specs.Tiles.{IsRising, IsAbsent, placed};
 ghost use Rattle.box_index.specs.Shares.{HasRoom, IsAlike, IsEqual, IsPut, IsTaken};
@@ -36,7 +36,7 @@ impl Shared {
         }
     }
 
-    /// The same entries, for tiles of another area, with room for one more.
+    /// A copy of the list for the tiles of another area, with room for one more entry.
     pub(crate) fn moved_to(&self, home: Area) -> Result<Shared, AllocError>
         ensures alike { IfOk result (IsAlike self.now) }
         ensures home { IfOk result (λ copy. copy.home ≡ home) }
@@ -78,9 +78,10 @@ impl Shared {
     pub(crate) fn put(&mut self, entry: Entry)
         requires rising { IsRising self.old.entries.items }
         requires room { IsAbsent entry.id self.old.entries.items → HasRoom self.old }
-        requires fits { FitsWithin (pos 2000000000) entry.bounds }
+        requires fits { FitsIndex entry.bounds }
         ensures put { IsAbsent entry.id self.old.entries.items → IsPut entry self.old self.new }
-        ensures once { (xs : List Entry) → self.old.entries.items ≡ placed entry xs → self.new ≡ self.old }
+        ensures once { (xs : List Entry) → self.old.entries.items ≡ placed entry xs
+            → self.new ≡ self.old }
     {
         if has(&self.entries, entry.id) {
             return;

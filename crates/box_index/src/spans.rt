@@ -1,7 +1,7 @@
 //! Runs of tiles.
 
 ghost use Rattle.std.specs.Prelude.{◌≤ℤ◌, ◌||◌, All, pos, true};
-ghost use Rattle.geo_seg.specs.Boxes.{FitsWithin};
+ghost use Rattle.geo_seg.specs.Boxes.{FitsIndex};
 ghost use Rattle.box_index.specs.Tiles.{is_met_by};
 ghost use Rattle.box_index.specs.Spans.{HasAll};
 
@@ -31,7 +31,7 @@ impl Span {
     fn around(margin: i64, boxes: &[Bounds]) -> Span
         requires from { pos 0 ≤ℤ margin }
         requires to { margin ≤ℤ pos 1000000000 }
-        requires boxes { All (λ b. FitsWithin (pos 2000000000) b) boxes.now }
+        requires boxes { All (λ b. FitsIndex b) boxes.now }
         ensures { HasAll (is_met_by margin boxes.now) result }
     {
         let mut span = Span {
@@ -48,11 +48,12 @@ impl Span {
         span
     }
 
-    /// The same; with `all`, all tiles.
+    /// From the first to the last tile that is met by one of the boxes, where these are widened by the margin, in half nanometres;
+    /// with `all`, all tiles.
     pub(crate) fn reached(margin: i64, boxes: &[Bounds], all: bool) -> Span
         requires from { pos 0 ≤ℤ margin }
         requires to { margin ≤ℤ pos 1000000000 }
-        requires boxes { All (λ b. FitsWithin (pos 2000000000) b) boxes.now }
+        requires boxes { All (λ b. FitsIndex b) boxes.now }
         ensures { HasAll (λ tile. all || is_met_by margin boxes.now tile) result }
     {
         if all {

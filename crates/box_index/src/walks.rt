@@ -1,7 +1,7 @@
 //! Walks over the tiles of an area.
 
 ghost use Rattle.std.specs.Prelude.{◌≡◌, ℕ, ◌<◌, ◌≤◌, length, true, slice_index_or, Bool, List, All, pos, ◌≤ℤ◌, ◌||◌};
-ghost use Rattle.geo_seg.specs.Boxes.{FitsWithin};
+ghost use Rattle.geo_seg.specs.Boxes.{FitsIndex};
 ghost use Rattle.box_index.specs.declared.entry.Entry.{Entry};
 ghost use Rattle.box_index.specs.Tiles.{is_met_by, tile_count};
 ghost use Rattle.box_index.specs.Areas.{end_of, LiesIn};
@@ -35,10 +35,11 @@ pub(crate) fn put_each(tiles: &[u32], lists: &mut [Shared], area: Area, end: usi
     requires homed { AreHomed tiles.now lists.old }
     requires ready { AreReady area tiles.now lists.old }
     requires open { CanTake entry area tiles.now lists.old }
-    requires fits { FitsWithin (pos 2000000000) entry.bounds }
+    requires fits { FitsIndex entry.bounds }
     requires end { end ≤ end_of area }
     requires all { DoMeetAll area tiles.now end }
-    ensures { AreChanged (IsPut entry) (λ list. LiesIn list.home area) area tiles.now lists.old lists.new }
+    ensures { AreChanged (IsPut entry)
+        (λ list. LiesIn list.home area) area tiles.now lists.old lists.new }
 {
     let mut tile = area.first();
     'tiles: while tile < end {
@@ -65,7 +66,8 @@ pub(crate) fn take_out_each(tiles: &[u32], lists: &mut [Shared], area: Area, end
 /// How many tiles of the area have no entries.
 pub(crate) fn count_vacant(tiles: &[u32], lists: &[Shared], area: Area) -> u32
     requires { AreHomed tiles.now lists.now }
-    ensures { (near : ℕ → List Entry) → AreShared near tiles.now lists.now → result ≡ length (vacant_of near area) }
+    ensures { (near : ℕ → List Entry) → AreShared near tiles.now lists.now
+        → result ≡ length (vacant_of near area) }
 {
     let end = area.end();
     let mut count = 0;
@@ -97,8 +99,10 @@ pub(crate) fn mark_boxes(marks: &mut [bool], margin: i64, boxes: &[Bounds])
     requires long { length marks.old ≡ tile_count }
     requires from { pos 0 ≤ℤ margin }
     requires to { margin ≤ℤ pos 1000000000 }
-    requires boxes { All (λ b. FitsWithin (pos 2000000000) b) boxes.now }
-    ensures { (tile : ℕ) → (d : Bool) → tile < tile_count → slice_index_or marks.new tile d ≡ (slice_index_or marks.old tile d || is_met_by margin boxes.now tile) }
+    requires boxes { All (λ b. FitsIndex b) boxes.now }
+    ensures { (tile : ℕ) → (d : Bool) → tile < tile_count
+        → slice_index_or marks.new tile d
+        ≡ (slice_index_or marks.old tile d || is_met_by margin boxes.now tile) }
 {
     for bounds in boxes {
         fill_area(marks, Area::around(margin, *bounds), true);

@@ -16,7 +16,8 @@ impl LayerSet {
     pub fn of(layer: u32) -> LayerSet
         requires { layer < 32 }
         ensures value { result ≡ single_layer layer }
-        ensures within { (set : LayerSet) → (IsTrue (is_within result set) ↔ IsTrue (has_layer set layer)) }
+        ensures within { (set : LayerSet) → (IsTrue (is_within result set)
+            ↔ IsTrue (has_layer set layer)) }
     {
         LayerSet { bits: 1 << layer }
     }
@@ -32,7 +33,8 @@ impl LayerSet {
     /// Whether `other` has all layers of this set.
     pub fn is_within(self, other: LayerSet) -> bool
         ensures value { result ≡ is_within self other }
-        ensures each { IsTrue result ↔ ((layer : ℕ) → IsTrue (has_layer self layer) → IsTrue (has_layer other layer)) }
+        ensures each { IsTrue result ↔ ((layer : ℕ) → IsTrue (has_layer self layer)
+            → IsTrue (has_layer other layer)) }
     {
         self.bits & other.bits == self.bits
     }
@@ -40,7 +42,8 @@ impl LayerSet {
     /// The layers of either set.
     pub fn union(self, other: LayerSet) -> LayerSet
         ensures value { result ≡ union_of self other }
-        ensures each { (layer : ℕ) → (IsTrue (has_layer result layer) ↔ (IsTrue (has_layer self layer) ⊎ IsTrue (has_layer other layer))) }
+        ensures each { (layer : ℕ) → (IsTrue (has_layer result layer)
+            ↔ (IsTrue (has_layer self layer) ⊎ IsTrue (has_layer other layer))) }
     {
         LayerSet {
             bits: self.bits | other.bits,
@@ -53,7 +56,8 @@ impl LayerSet {
         requires second { b < 32 }
         ensures value { result ≡ layers_between self a b }
         ensures within { IsTrue (is_within result self) }
-        ensures each { (layer : ℕ) → (IsTrue (has_layer result layer) ↔ (IsTrue (has_layer self layer) × (min a b ≤ layer) × (layer ≤ max a b))) }
+        ensures each { (layer : ℕ) → (IsTrue (has_layer result layer)
+            ↔ (IsTrue (has_layer self layer) × (min a b ≤ layer) × (layer ≤ max a b))) }
     {
         // all layers up to the greater number, less those below the lesser
         let up_to = u32::MAX >> (31 - a.max(b));

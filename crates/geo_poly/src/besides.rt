@@ -3,7 +3,7 @@
 ghost use Rattle.std.specs.Prelude.{◌<◌, ◌≤◌, ◌<ℤ◌, ◌≤ℤ◌, ◌+ℤ◌, pos, IsTrue, IfSome, IfNone, ◌↔◌, ◌⊎◌, length};
 ghost use Rattle.geo_seg.specs.Nearer.{IsUpTo, IsDistance};
 ghost use Rattle.geo_seg.specs.Points.{IsOn, spot_of};
-ghost use Rattle.geo_seg.specs.Boxes.{IsLeastBox, FitsWithin};
+ghost use Rattle.geo_seg.specs.Boxes.{IsLeastBox, FitsCore};
 ghost use Rattle.geo_seg.specs.Inside.{outline, EachEdge, SomeEdge};
 ghost use Rattle.geo_seg.specs.Runs.{IsRunBox};
 ghost use Rattle.geo_poly.specs.Outlines.{IsApart, IsReached, IsEnclosed};
@@ -18,8 +18,8 @@ use geo_seg::{Bounds, FIRST_RUN, FOURTH_RUN, Point, Poly, SECOND_RUN, Seg, THIRD
 /// Whether the box is at least `d` to the left of the other, above it or below it.
 #[inline(always)]
 fn is_beside(b: Bounds, near: Bounds, d: i64) -> bool
-    requires first { FitsWithin (pos 1000000000) b }
-    requires second { FitsWithin (pos 1000000000) near }
+    requires first { FitsCore b }
+    requires second { FitsCore near }
     requires range { IsUpTo (pos 2000000001) d }
     ensures { IsTrue result ↔ IsBeside b near d }
 {
@@ -43,11 +43,13 @@ fn told_clear(
     requires high { high ≤ length corners.now }
     requires hull { IsRunBox (between low high (outline corners.now)) b }
     requires near { IsLeastBox (IsOn s) near }
-    requires fits { FitsWithin (pos 1000000000) near }
+    requires fits { FitsCore near }
     requires range { IsUpTo (pos 2000000001) d }
     requires positive { pos 0 <ℤ d }
-    ensures odd { IfSome result (λ odd. IsTrue odd ↔ PassOdd (spot_of s.a) (between low high (outline corners.now))) }
-    ensures clear { IfSome result (λ odd. EachEdge (LiesClear near d) (between low high (outline corners.now))) }
+    ensures odd { IfSome result (λ odd. IsTrue odd ↔ PassOdd (spot_of s.a)
+        (between low high (outline corners.now))) }
+    ensures clear { IfSome result (λ odd. EachEdge (LiesClear near d)
+        (between low high (outline corners.now))) }
 {
     if is_beside(b, near, d) {
         Some(false)
@@ -64,7 +66,7 @@ fn clear_step(poly: &Poly, low: usize, size: usize, s: Seg, near: Bounds, d: i64
     requires low { low < length poly.now }
     requires size { 0 < size }
     requires near { IsLeastBox (IsOn s) near }
-    requires fits { FitsWithin (pos 1000000000) near }
+    requires fits { FitsCore near }
     requires range { IsUpTo (pos 2000000001) d }
     requires positive { pos 0 <ℤ d }
     ensures { IfSome result (IsPast (EachEdge (LiesClear near d)) poly.now (spot_of s.a) low) }
@@ -81,7 +83,7 @@ fn clear_step(poly: &Poly, low: usize, size: usize, s: Seg, near: Bounds, d: i64
 fn longest_step(poly: &Poly, low: usize, s: Seg, near: Bounds, d: i64) -> Option<Step>
     requires low { low < length poly.now }
     requires near { IsLeastBox (IsOn s) near }
-    requires fits { FitsWithin (pos 1000000000) near }
+    requires fits { FitsCore near }
     requires range { IsUpTo (pos 2000000001) d }
     requires positive { pos 0 <ℤ d }
     ensures { IfSome result (IsPast (EachEdge (LiesClear near d)) poly.now (spot_of s.a) low) }
@@ -100,7 +102,7 @@ fn longest_step(poly: &Poly, low: usize, s: Seg, near: Bounds, d: i64) -> Option
 fn long_step(poly: &Poly, low: usize, s: Seg, near: Bounds, d: i64) -> Option<Step>
     requires low { low < length poly.now }
     requires near { IsLeastBox (IsOn s) near }
-    requires fits { FitsWithin (pos 1000000000) near }
+    requires fits { FitsCore near }
     requires range { IsUpTo (pos 2000000001) d }
     requires positive { pos 0 <ℤ d }
     ensures { IfSome result (IsPast (EachEdge (LiesClear near d)) poly.now (spot_of s.a) low) }
@@ -119,7 +121,7 @@ fn long_step(poly: &Poly, low: usize, s: Seg, near: Bounds, d: i64) -> Option<St
 fn any_step(poly: &Poly, low: usize, s: Seg, near: Bounds, d: i64) -> Option<Step>
     requires low { low < length poly.now }
     requires near { IsLeastBox (IsOn s) near }
-    requires fits { FitsWithin (pos 1000000000) near }
+    requires fits { FitsCore near }
     requires range { IsUpTo (pos 2000000001) d }
     requires positive { pos 0 <ℤ d }
     ensures { IfSome result (IsPast (EachEdge (LiesClear near d)) poly.now (spot_of s.a) low) }
@@ -135,7 +137,8 @@ fn any_step(poly: &Poly, low: usize, s: Seg, near: Bounds, d: i64) -> Option<Ste
 fn near_step(poly: &Poly, low: usize, s: Seg, d: i64) -> Option<Step>
     requires low { low < length poly.now }
     requires range { IsDistance d }
-    ensures past { IfSome result (IsPast (EachEdge (λ e. IsApart e s d)) poly.now (spot_of s.a) low) }
+    ensures past { IfSome result (IsPast (EachEdge (λ e. IsApart e s d)) poly.now
+        (spot_of s.a) low) }
     ensures stuck { IfNone result (¬ (EachEdge (λ e. IsApart e s d) (outline poly.now))) }
 {
     let corners = poly.corners();
@@ -155,10 +158,11 @@ fn near_step(poly: &Poly, low: usize, s: Seg, d: i64) -> Option<Step>
 fn apart_step(poly: &Poly, low: usize, s: Seg, near: Bounds, d: i64) -> Option<Step>
     requires low { low < length poly.now }
     requires near { IsLeastBox (IsOn s) near }
-    requires fits { FitsWithin (pos 1000000000) near }
+    requires fits { FitsCore near }
     requires range { IsDistance d }
     requires positive { pos 0 <ℤ d }
-    ensures past { IfSome result (IsPast (EachEdge (λ e. IsApart e s d)) poly.now (spot_of s.a) low) }
+    ensures past { IfSome result (IsPast (EachEdge (λ e. IsApart e s d)) poly.now
+        (spot_of s.a) low) }
     ensures stuck { IfNone result (¬ (EachEdge (λ e. IsApart e s d) (outline poly.now))) }
 {
     if let Some(step) = any_step(poly, low, s, near, d) {
@@ -172,7 +176,8 @@ fn apart_step(poly: &Poly, low: usize, s: Seg, near: Bounds, d: i64) -> Option<S
 pub(crate) fn is_beyond(poly: &Poly, s: Seg, d: i64) -> bool
     requires range { IsDistance d }
     requires positive { pos 0 <ℤ d }
-    ensures { IsTrue result ↔ ((¬ (IsEnclosed poly.now (spot_of s.a))) × EachEdge (λ e. IsApart e s d) (outline poly.now)) }
+    ensures { IsTrue result ↔ ((¬ (IsEnclosed poly.now (spot_of s.a)))
+        × EachEdge (λ e. IsApart e s d) (outline poly.now)) }
 {
     let corners = poly.corners();
     if poly.run_box(0, FIRST_RUN).is_none() {
@@ -199,7 +204,8 @@ pub(crate) fn is_beyond(poly: &Poly, s: Seg, d: i64) -> bool
 fn far_step(poly: &Poly, low: usize, s: Seg, d: i64) -> Option<Step>
     requires low { low < length poly.now }
     requires range { IsDistance d }
-    ensures past { IfSome result (IsPast (λ es. ¬ (SomeEdge (λ e. IsReached e s d) es)) poly.now (spot_of s.a) low) }
+    ensures past { IfSome result (IsPast (λ es. ¬ (SomeEdge (λ e. IsReached e s d) es)) poly.now
+        (spot_of s.a) low) }
     ensures stuck { IfNone result (SomeEdge (λ e. IsReached e s d) (outline poly.now)) }
 {
     let corners = poly.corners();
@@ -219,9 +225,10 @@ fn far_step(poly: &Poly, low: usize, s: Seg, d: i64) -> Option<Step>
 fn beyond_step(poly: &Poly, low: usize, s: Seg, near: Bounds, d: i64) -> Option<Step>
     requires low { low < length poly.now }
     requires near { IsLeastBox (IsOn s) near }
-    requires fits { FitsWithin (pos 1000000000) near }
+    requires fits { FitsCore near }
     requires range { IsDistance d }
-    ensures past { IfSome result (IsPast (λ es. ¬ (SomeEdge (λ e. IsReached e s d) es)) poly.now (spot_of s.a) low) }
+    ensures past { IfSome result (IsPast (λ es. ¬ (SomeEdge (λ e. IsReached e s d) es)) poly.now
+        (spot_of s.a) low) }
     ensures stuck { IfNone result (SomeEdge (λ e. IsReached e s d) (outline poly.now)) }
 {
     if let Some(step) = any_step(poly, low, s, near, d + 1) {
@@ -234,7 +241,8 @@ fn beyond_step(poly: &Poly, low: usize, s: Seg, near: Bounds, d: i64) -> Option<
 /// Whether some edge of the polygon is within d of the segment, or the segment begins inside.
 pub(crate) fn is_reached(poly: &Poly, s: Seg, d: i64) -> bool
     requires { IsDistance d }
-    ensures { IsTrue result ↔ (IsEnclosed poly.now (spot_of s.a) ⊎ SomeEdge (λ e. IsReached e s d) (outline poly.now)) }
+    ensures { IsTrue result ↔ (IsEnclosed poly.now (spot_of s.a)
+        ⊎ SomeEdge (λ e. IsReached e s d) (outline poly.now)) }
 {
     let corners = poly.corners();
     if poly.run_box(0, FIRST_RUN).is_none() {

@@ -1,9 +1,9 @@
 // The edges of a path, and a segment.
 
-ghost use Rattle.std.specs.Prelude.{◌≡◌, ◌<◌, pos, IsTrue, ◌↔◌, length, drop};
+ghost use Rattle.std.specs.Prelude.{◌≡◌, ◌<◌, IsTrue, ◌↔◌, length, drop};
 ghost use Rattle.geo_seg.specs.Nearer.{IsDistance};
 ghost use Rattle.geo_seg.specs.Points.{IsOn};
-ghost use Rattle.geo_seg.specs.Boxes.{IsLeastBox, FitsWithin};
+ghost use Rattle.geo_seg.specs.Boxes.{IsLeastBox, FitsCore};
 ghost use Rattle.geo_seg.specs.Distances.{IsGap};
 ghost use Rattle.geo_seg.specs.Inside.{path, outline, EachEdge, SomeEdge};
 ghost use Rattle.geo_poly.specs.Outlines.{IsApart, IsReached};
@@ -25,7 +25,7 @@ pub(crate) fn before(corners: &[Point], low: usize) -> Point
 /// Whether the edge is apart from the segment, whose box is `near`.
 fn edge_apart(e: Seg, s: Seg, near: Bounds, d: i64) -> bool
     requires near { IsLeastBox (IsOn s) near }
-    requires fits { FitsWithin (pos 1000000000) near }
+    requires fits { FitsCore near }
     requires range { IsDistance d }
     ensures { IsTrue result ↔ IsApart e s d }
 {
@@ -35,7 +35,7 @@ fn edge_apart(e: Seg, s: Seg, near: Bounds, d: i64) -> bool
 /// Whether the edge is within d of the segment, whose box is `near`.
 fn edge_within(e: Seg, s: Seg, near: Bounds, d: i64) -> bool
     requires near { IsLeastBox (IsOn s) near }
-    requires fits { FitsWithin (pos 1000000000) near }
+    requires fits { FitsCore near }
     requires range { IsDistance d }
     ensures { IsTrue result ↔ IsReached e s d }
 {

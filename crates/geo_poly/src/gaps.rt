@@ -1,10 +1,10 @@
 // The greatest distance at which outlines are apart. A walk keeps the best so far, and looks nearer only
 // at what lies within it.
 
-ghost use Rattle.std.specs.Prelude.{◌<◌, ◌≤◌, pos, length};
+ghost use Rattle.std.specs.Prelude.{◌<◌, ◌≤◌, length};
 ghost use Rattle.geo_seg.specs.Points.{IsOn};
 ghost use Rattle.geo_seg.specs.Nearer.{IsDistance};
-ghost use Rattle.geo_seg.specs.Boxes.{IsLeastBox, FitsWithin};
+ghost use Rattle.geo_seg.specs.Boxes.{IsLeastBox, FitsCore};
 ghost use Rattle.geo_seg.specs.Distances.{IsGap};
 ghost use Rattle.geo_seg.specs.Inside.{path, outline, EachEdge};
 ghost use Rattle.geo_seg.specs.Runs.{IsRunBox};
@@ -29,11 +29,12 @@ struct Kept {
 fn kept_until(poly: &Poly, low: usize, s: Seg, near: Bounds, most: i64) -> Kept
     requires low { low < length poly.now }
     requires near { IsLeastBox (IsOn s) near }
-    requires fits { FitsWithin (pos 1000000000) near }
+    requires fits { FitsCore near }
     requires range { IsDistance most }
     ensures after { low < result.high }
     ensures within { result.high ≤ length poly.now }
-    ensures gap { IsGap (λ d. EachEdge (λ e. IsApart e s d) (between low result.high (outline poly.now))) most result.gap }
+    ensures gap { IsGap (λ d. EachEdge (λ e. IsApart e s d)
+        (between low result.high (outline poly.now))) most result.gap }
 {
     let far = apart_until(poly, low, s, near, most);
     if far > low {
@@ -66,7 +67,7 @@ pub(crate) fn outline_gap(poly: &Poly, s: Seg, most: i64) -> i64
     best
 }
 
-/// The same of a path, whose box is `far`, and a segment.
+/// The greatest distance up to `most` that all edges of a path, whose box is `far`, keep from a segment.
 fn far_gap(from: Point, part: &[Point], far: Bounds, s: Seg, most: i64) -> i64
     requires far { IsRunBox (path from part.now) far }
     requires range { IsDistance most }
@@ -79,7 +80,7 @@ fn far_gap(from: Point, part: &[Point], far: Bounds, s: Seg, most: i64) -> i64
     }
 }
 
-/// The same of each edge of a path and each of another, whose box is `far`.
+/// The greatest distance up to `most` that all edges of a path keep from those of another, whose box is `far`.
 fn paths_gap(
     from: Point,
     part: &[Point],
@@ -120,7 +121,7 @@ fn short_gap(a: &Poly, p: Part, b: &Poly, q: Part, most: i64) -> i64
     )
 }
 
-/// The same of each edge of the one part and each of the other.
+/// The greatest distance up to `most` that all edges of the one part keep from those of the other.
 fn parts_gap(a: &Poly, p: Part, b: &Poly, q: Part, most: i64) -> i64
     requires first { IsRunOf a.now p }
     requires second { IsRunOf b.now q }

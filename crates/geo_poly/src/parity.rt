@@ -1,9 +1,9 @@
 // How often the edges of an outline pass to the right of a point.
 
-ghost use Rattle.std.specs.Prelude.{◌≡◌, ◌<◌, ◌≤◌, ◌<ℤ◌, pos, IsTrue, IfSome, ◌↔◌, length};
+ghost use Rattle.std.specs.Prelude.{◌≡◌, ◌<◌, ◌≤◌, ◌<ℤ◌, IsTrue, IfSome, ◌↔◌, length};
 ghost use Rattle.geo_seg.specs.declared.boxes.Bounds.{Bounds};
 ghost use Rattle.geo_seg.specs.Points.{spot_of};
-ghost use Rattle.geo_seg.specs.Boxes.{FitsWithin};
+ghost use Rattle.geo_seg.specs.Boxes.{FitsCore};
 ghost use Rattle.geo_seg.specs.Inside.{passes, path, outline};
 ghost use Rattle.geo_seg.specs.Runs.{IsRunBox};
 ghost use Rattle.geo_poly.specs.Outlines.{IsEnclosed};
@@ -50,7 +50,7 @@ pub(crate) fn path_odd(from: Point, part: &[Point], p: Point) -> bool
 
 /// Whether the box lies above the ray from the point to the right, below it, or to the left of it.
 fn is_missed(b: Bounds, p: Point) -> bool
-    requires { FitsWithin (pos 1000000000) b }
+    requires { FitsCore b }
     ensures { IsTrue result → IsMissed b p }
 {
     p.y < b.top || b.bottom < p.y || b.right < p.x
@@ -61,7 +61,8 @@ fn is_missed(b: Bounds, p: Point) -> bool
 pub(crate) fn ends_odd(corners: &[Point], low: usize, high: usize, p: Point) -> bool
     requires low { low < high }
     requires high { high ≤ length corners.now }
-    ensures { (b : Bounds) → p.x <ℤ b.left → IsRunBox (between low high (outline corners.now)) b → (IsTrue result ↔ PassOdd (spot_of p) (between low high (outline corners.now))) }
+    ensures { (b : Bounds) → p.x <ℤ b.left → IsRunBox (between low high (outline corners.now)) b
+        → (IsTrue result ↔ PassOdd (spot_of p) (between low high (outline corners.now))) }
 {
     let part = &corners[low..high];
     (before(corners, low).y <= p.y) != (part[part.len() - 1].y <= p.y)
@@ -73,7 +74,8 @@ fn told_by(b: Bounds, corners: &[Point], low: usize, high: usize, p: Point) -> O
     requires low { low < high }
     requires high { high ≤ length corners.now }
     requires hull { IsRunBox (between low high (outline corners.now)) b }
-    ensures { IfSome result (λ odd. IsTrue odd ↔ PassOdd (spot_of p) (between low high (outline corners.now))) }
+    ensures { IfSome result (λ odd. IsTrue odd ↔ PassOdd (spot_of p)
+        (between low high (outline corners.now))) }
 {
     if is_missed(b, p) {
         Some(false)

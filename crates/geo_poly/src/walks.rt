@@ -5,7 +5,7 @@ ghost use Rattle.std.specs.Prelude.{◌≡◌, ◌<◌, ◌≤◌, List, pos, Is
 ghost use Rattle.geo_seg.specs.Nearer.{IsUpTo, IsDistance};
 ghost use Rattle.geo_seg.specs.declared.points.Seg.{Seg};
 ghost use Rattle.geo_seg.specs.Points.{IsOn};
-ghost use Rattle.geo_seg.specs.Boxes.{IsLeastBox, FitsWithin};
+ghost use Rattle.geo_seg.specs.Boxes.{IsLeastBox, FitsCore};
 ghost use Rattle.geo_seg.specs.Inside.{outline, EachEdge};
 ghost use Rattle.geo_poly.specs.Outlines.{IsApart};
 ghost use Rattle.geo_poly.specs.Runs.{between, LiesClear};
@@ -19,7 +19,8 @@ pub(crate) fn end(low: usize, size: usize, all: usize) -> usize
     requires size { 0 < size }
     ensures after { low < result }
     ensures within { result ≤ all }
-    ensures run { (es : List Seg) → length es ≡ all → take size (drop low es) ≡ between low result es }
+    ensures run { (es : List Seg) → length es ≡ all
+        → take size (drop low es) ≡ between low result es }
 {
     if all - low > size { low + size } else { all }
 }
@@ -27,9 +28,10 @@ pub(crate) fn end(low: usize, size: usize, all: usize) -> usize
 /// Whether the polygon keeps the box of the run of `size` edges from `low` on, and that box is clear
 /// of `near`.
 fn is_run_clear(poly: &Poly, low: usize, size: usize, near: Bounds, d: i64) -> bool
-    requires fits { FitsWithin (pos 1000000000) near }
+    requires fits { FitsCore near }
     requires range { IsUpTo (pos 2000000001) d }
-    ensures { IsTrue result → EachEdge (LiesClear near d) (take size (drop low (outline poly.now))) }
+    ensures { IsTrue result → EachEdge (LiesClear near d)
+        (take size (drop low (outline poly.now))) }
 {
     match poly.run_box(low, size) {
         Some(b) => b.is_clear(near, d),
@@ -40,7 +42,7 @@ fn is_run_clear(poly: &Poly, low: usize, size: usize, near: Bounds, d: i64) -> b
 /// Where the longest such run from `low` on ends, or `low` where there is none.
 fn clear_run(poly: &Poly, low: usize, near: Bounds, d: i64) -> usize
     requires low { low < length poly.now }
-    requires fits { FitsWithin (pos 1000000000) near }
+    requires fits { FitsCore near }
     requires range { IsUpTo (pos 2000000001) d }
     ensures after { low ≤ result }
     ensures within { result ≤ length poly.now }
@@ -63,7 +65,7 @@ fn clear_run(poly: &Poly, low: usize, near: Bounds, d: i64) -> usize
 /// Where the last of such runs ends, one behind another from `low` on, or `low` where there is none.
 fn clear_end(poly: &Poly, low: usize, near: Bounds, d: i64) -> usize
     requires low { low < length poly.now }
-    requires fits { FitsWithin (pos 1000000000) near }
+    requires fits { FitsCore near }
     requires range { IsUpTo (pos 2000000001) d }
     ensures after { low ≤ result }
     ensures within { result ≤ length poly.now }
@@ -86,7 +88,7 @@ fn clear_end(poly: &Poly, low: usize, near: Bounds, d: i64) -> usize
 pub(crate) fn apart_until(poly: &Poly, low: usize, s: Seg, near: Bounds, d: i64) -> usize
     requires low { low < length poly.now }
     requires near { IsLeastBox (IsOn s) near }
-    requires fits { FitsWithin (pos 1000000000) near }
+    requires fits { FitsCore near }
     requires range { IsDistance d }
     ensures after { low ≤ result }
     ensures within { result ≤ length poly.now }

@@ -1,11 +1,11 @@
 -- The boxes of runs of edges that a large polygon keeps.
-use Rattle.std.specs.Prelude.{ℕ, pos, List, [], ◌∷◌, take, drop}
+use Rattle.std.specs.Prelude.{ℕ, List, [], ◌∷◌, take, drop}
 use Rattle.geo_seg.specs.declared.runs.TheConstants.{FIRST_RUN, SECOND_RUN, THIRD_RUN, FOURTH_RUN}
 use Rattle.geo_seg.specs.declared.points.Seg.{Seg}
 use Rattle.geo_seg.specs.declared.boxes.Bounds.{Bounds}
 use Rattle.geo_seg.specs.declared.frames.Frame.{Frame}
 use Rattle.geo_seg.specs.declared.runs.Indexed.{Indexed}
-use Rattle.geo_seg.specs.Boxes.{FitsWithin}
+use Rattle.geo_seg.specs.Boxes.{FitsCore}
 use Rattle.geo_seg.specs.Corners.{IsHeld, IsCornerBox}
 use Rattle.geo_seg.specs.Inside.{EachEdge, outline}
 
@@ -20,7 +20,7 @@ AreEndsHeld b e = IsHeld b e.a × IsHeld b e.b
 -- the box holds the edges
 pub record IsRunBox (es : List Seg) (b : Bounds) : Type 0 where
   pub holds : EachEdge (AreEndsHeld b) es
-  pub fits : FitsWithin (pos 1000000000) b
+  pub fits : FitsCore b
 
 -- the first of the frames holds the first `size` of the edges, and so on
 abbrev pub AreRuns : ℕ → List Frame → List Seg → Type 0

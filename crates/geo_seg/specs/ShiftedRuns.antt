@@ -3,7 +3,7 @@ use Rattle.std.specs.Prelude.{ℤ, pos, neg_ℤ, if◌then◌else◌}
 use Rattle.std.specs.Int.Signed.{lt_z}
 use Rattle.geo_seg.specs.declared.points.Point.{Point}
 use Rattle.geo_seg.specs.declared.frames.Frame.{Frame}
-use Rattle.geo_seg.specs.Boxes.{FitsWithin}
+use Rattle.geo_seg.specs.Boxes.{FitsCore}
 use Rattle.geo_seg.specs.Corners.{IsHeld}
 use Rattle.geo_seg.specs.Runs.{sides_of}
 use Rattle.geo_seg.specs.Shifts.{IsShiftedPoint}
@@ -18,4 +18,4 @@ in_range_of z =
 -- what the first frame holds is held by the second, moved
 pub record IsShiftedFrame (dx dy : ℤ) (f g : Frame) : Type 0 where
   pub holds : (p q : Point) → IsShiftedPoint dx dy p q → IsHeld (sides_of f) p → IsHeld (sides_of g) q
-  pub fits : FitsWithin (pos 1000000000) (sides_of g)
+  pub fits : FitsCore (sides_of g)

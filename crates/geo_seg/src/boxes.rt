@@ -1,7 +1,7 @@
 // Boxes along the axes.
 
 ghost use Rattle.std.specs.Prelude.{◌≡◌, ◌⊎◌, ℤ, ◌≤ℤ◌, ◌≤◌, ◌+ℤ◌, pos, unsigned_abs, IsTrue, ◌↔◌};
-ghost use Rattle.geo_seg.specs.Boxes.{FitsWithin, IsUnion, IsClearOf, AreClear};
+ghost use Rattle.geo_seg.specs.Boxes.{FitsWithin, IsUnion, IsClearOf, AreClear, FitsShape};
 ghost use Rattle.geo_seg.specs.Nearer.{IsUpTo};
 
 /// A box along the axes, in half nanometres. Its sides belong to it. As on a screen y grows
@@ -99,15 +99,16 @@ impl Bounds {
     /// The least box that holds both.
     pub fn union(self, other: Bounds) -> Bounds
         ensures least { IsUnion self other result }
-        ensures fits { (limit : ℤ) → FitsWithin limit self → FitsWithin limit other → FitsWithin limit result }
+        ensures fits { (limit : ℤ) → FitsWithin limit self → FitsWithin limit other
+            → FitsWithin limit result }
     {
         let columns = to_right(to_left(self, other), other);
         to_bottom(to_top(columns, other), other)
     }
 
     fn is_clear_in_x(self, other: Bounds, d: i64) -> bool
-        requires first { FitsWithin (pos 1500000000) self }
-        requires second { FitsWithin (pos 1500000000) other }
+        requires first { FitsShape self }
+        requires second { FitsShape other }
         requires range { IsUpTo (pos 2000000001) d }
         ensures { IsTrue result ↔ IsClearOf self.left self.right other.left other.right d }
     {
@@ -115,8 +116,8 @@ impl Bounds {
     }
 
     fn is_clear_in_y(self, other: Bounds, d: i64) -> bool
-        requires first { FitsWithin (pos 1500000000) self }
-        requires second { FitsWithin (pos 1500000000) other }
+        requires first { FitsShape self }
+        requires second { FitsShape other }
         requires range { IsUpTo (pos 2000000001) d }
         ensures { IsTrue result ↔ IsClearOf self.top self.bottom other.top other.bottom d }
     {
@@ -126,8 +127,8 @@ impl Bounds {
     /// Whether the boxes are at least `d` apart in x or in y, for `d` from 0 to 2,000,000,001. Their sides
     /// are at most 1,500,000,000 from 0, as those of the bounds of a shape are.
     pub fn is_clear(self, other: Bounds, d: i64) -> bool
-        requires first { FitsWithin (pos 1500000000) self }
-        requires second { FitsWithin (pos 1500000000) other }
+        requires first { FitsShape self }
+        requires second { FitsShape other }
         requires range { IsUpTo (pos 2000000001) d }
         ensures { IsTrue result ↔ AreClear self other d }
     {

@@ -3,7 +3,7 @@
 ghost use Rattle.std.specs.Prelude.{◌≡◌, ◌++◌, ◌∷◌, [], List, pos};
 ghost use Rattle.geo_seg.specs.Nearer.{IsUpTo};
 ghost use Rattle.geo_seg.specs.declared.points.Point.{Point};
-ghost use Rattle.geo_seg.specs.Boxes.{FitsWithin, IsLeastBox, widened};
+ghost use Rattle.geo_seg.specs.Boxes.{IsLeastBox, widened, FitsCore, FitsShape};
 ghost use Rattle.geo_seg.specs.Corners.{IsCornerBox};
 ghost use Rattle.geo_seg.specs.Points.{IsAt, IsOn};
 ghost use Rattle.geo_seg.specs.Cores.{IsPointOf, IsBoundsOf};
@@ -13,7 +13,7 @@ use crate::points::{Point, Seg};
 use crate::shapes::{Core, Shape};
 
 /// The box of a single corner.
-pub fn around(p: Point) -> Bounds
+pub(crate) fn around(p: Point) -> Bounds
     ensures { IsCornerBox (p ∷ []) result }
 {
     Bounds {
@@ -25,8 +25,8 @@ pub fn around(p: Point) -> Bounds
 }
 
 /// The box, grown to hold one corner more.
-pub fn grown(bounds: Bounds, p: Point) -> Bounds
-    requires { FitsWithin (pos 1000000000) bounds }
+pub(crate) fn grown(bounds: Bounds, p: Point) -> Bounds
+    requires { FitsCore bounds }
     ensures { (cs : List Point) → IsCornerBox cs bounds → IsCornerBox (cs ++ p ∷ []) result }
 {
     bounds.union(around(p))
@@ -34,10 +34,10 @@ pub fn grown(bounds: Bounds, p: Point) -> Bounds
 
 /// The box with each side moved out by `radius`.
 fn widen(bounds: Bounds, radius: i64) -> Bounds
-    requires fits { FitsWithin (pos 1000000000) bounds }
+    requires fits { FitsCore bounds }
     requires range { IsUpTo (pos 500000000) radius }
     ensures wider { result ≡ widened bounds radius }
-    ensures fits { FitsWithin (pos 1500000000) result }
+    ensures fits { FitsShape result }
 {
     Bounds {
         left: bounds.left - radius,
@@ -51,7 +51,7 @@ impl Point {
     /// The box that holds nothing else.
     pub fn bounds(self) -> Bounds
         ensures least { IsLeastBox (IsAt self) result }
-        ensures fits { FitsWithin (pos 1000000000) result }
+        ensures fits { FitsCore result }
     {
         around(self)
     }
@@ -61,7 +61,7 @@ impl Seg {
     /// The least box that holds it.
     pub fn bounds(self) -> Bounds
         ensures least { IsLeastBox (IsOn self) result }
-        ensures fits { FitsWithin (pos 1000000000) result }
+        ensures fits { FitsCore result }
     {
         grown(around(self.a), self.b)
     }
@@ -69,7 +69,7 @@ impl Seg {
 
 fn core_bounds(core: &Core) -> Bounds
     ensures least { IsLeastBox (IsPointOf core.now) result }
-    ensures fits { FitsWithin (pos 1000000000) result }
+    ensures fits { FitsCore result }
 {
     match core {
         Core::Line(s) => s.bounds(),
@@ -81,7 +81,7 @@ impl Shape {
     /// The least box that holds the core, widened on each side by the radius.
     pub fn bounds(&self) -> Bounds
         ensures least { IsBoundsOf self.now result }
-        ensures fits { FitsWithin (pos 1500000000) result }
+        ensures fits { FitsShape result }
     {
         widen(core_bounds(&self.core), self.radius)
     }

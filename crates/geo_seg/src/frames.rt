@@ -1,7 +1,7 @@
 // Boxes whose sides take 32 bits each, as polygons keep them.
 
-ghost use Rattle.std.specs.Prelude.{◌≡◌, pos};
-ghost use Rattle.geo_seg.specs.Boxes.{FitsWithin};
+ghost use Rattle.std.specs.Prelude.{◌≡◌};
+ghost use Rattle.geo_seg.specs.Boxes.{FitsCore};
 ghost use Rattle.geo_seg.specs.Runs.{sides_of};
 
 use crate::boxes::Bounds;
@@ -15,8 +15,8 @@ pub struct Frame {
 }
 
 impl Frame {
-    pub fn of(bounds: Bounds) -> Frame
-        requires { FitsWithin (pos 1000000000) bounds }
+    pub(crate) fn of(bounds: Bounds) -> Frame
+        requires { FitsCore bounds }
         ensures { sides_of result ≡ bounds }
     {
         Frame {
@@ -27,7 +27,7 @@ impl Frame {
         }
     }
 
-    pub fn bounds(self) -> Bounds
+    pub(crate) fn bounds(self) -> Bounds
         ensures { result ≡ sides_of self }
     {
         Bounds {

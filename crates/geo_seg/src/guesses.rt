@@ -31,7 +31,7 @@ fn from_ends(ends: Seg, s: Seg) -> f64 {
 }
 
 /// About the distance of the segments, in half nanometres: that of an end and the other segment.
-pub fn guess(a: Seg, b: Seg) -> u32 {
+pub(crate) fn guess(a: Seg, b: Seg) -> u32 {
     if crosses(a, b) {
         return 0;
     }

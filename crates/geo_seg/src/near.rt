@@ -97,7 +97,7 @@ fn is_framed(whole: i64, part_a: i64, part_b: i64) -> bool
 }
 
 /// Whether the segments are not parallel, and meet.
-pub fn crosses(a: Seg, b: Seg) -> bool
+pub(crate) fn crosses(a: Seg, b: Seg) -> bool
     ensures { IsTrue result ↔ IsCrossing a b }
 {
     let way_a = between(a.a, a.b);
@@ -140,7 +140,7 @@ fn are_close(a: Seg, b: Seg, d: i64) -> bool
 }
 
 /// Whether boxes alone tell that the segments are apart at d. Only a yes is sure.
-pub fn boxes_apart(a: Seg, b: Seg, d: i64) -> bool
+pub(crate) fn boxes_apart(a: Seg, b: Seg, d: i64) -> bool
     requires { IsDistance d }
     ensures { result ≡ true → AreApart (IsOn a) (IsOn b) d }
 {

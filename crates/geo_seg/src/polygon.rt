@@ -1,9 +1,9 @@
 // Polygons, as lists of corners.
 
-ghost use Rattle.std.specs.Prelude.{◌≡◌, ◌≤◌, pos, length, take, drop, true, IfOk, IfSome};
+ghost use Rattle.std.specs.Prelude.{◌≡◌, ◌≤◌, length, take, drop, true, IfOk, IfSome};
 ghost use Rattle.std.specs.List.{AllZip, list_all};
 ghost use Rattle.geo_seg.specs.Shifts.{IsShiftedPoint, point_stays};
-ghost use Rattle.geo_seg.specs.Boxes.{FitsWithin, IsLeastBox};
+ghost use Rattle.geo_seg.specs.Boxes.{IsLeastBox, FitsCore};
 ghost use Rattle.geo_seg.specs.Inside.{IsInside, outline};
 ghost use Rattle.geo_seg.specs.Runs.{IsRunBox};
 
@@ -52,7 +52,7 @@ impl Poly {
         }
     }
 
-    /// The same polygon. One of many corners also gets the boxes of its runs of edges, so that
+    /// The polygon of three or more corners. One of more than 32 also gets the boxes of its runs of edges, so that
     /// questions about it pass over all that lies far away.
     pub fn indexed(alloc: Global, corners: Vec<Point>) -> Result<Poly, AllocError>
         requires { 3 ≤ length corners.items }
@@ -101,7 +101,7 @@ impl Poly {
     /// The least box that holds it.
     pub fn bounds(&self) -> Bounds
         ensures least { IsLeastBox (IsInside self.now) result }
-        ensures fits { FitsWithin (pos 1000000000) result }
+        ensures fits { FitsCore result }
     {
         match &self.outline {
             Outline::Plain(corners) => box_of(corners),

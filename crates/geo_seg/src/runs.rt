@@ -1,8 +1,8 @@
 // The corners of a large polygon, with the boxes of its runs of edges.
 
-ghost use Rattle.std.specs.Prelude.{◌≡◌, ◌<◌, ◌∷◌, List, pos, true, IfOk, IfSome, length, take, drop};
+ghost use Rattle.std.specs.Prelude.{◌≡◌, ◌<◌, ◌∷◌, List, true, IfOk, IfSome, length, take, drop};
 ghost use Rattle.geo_seg.specs.declared.points.Seg.{Seg};
-ghost use Rattle.geo_seg.specs.Boxes.{FitsWithin};
+ghost use Rattle.geo_seg.specs.Boxes.{FitsCore};
 ghost use Rattle.geo_seg.specs.Corners.{IsCornerBox};
 ghost use Rattle.geo_seg.specs.Inside.{outline};
 ghost use Rattle.std.specs.List.{AllZip, list_all};
@@ -54,10 +54,10 @@ pub fn corner_box(first: Point, others: &[Point]) -> Bounds
 }
 
 /// The box of all corners.
-pub fn box_of(corners: &[Point]) -> Bounds
+pub(crate) fn box_of(corners: &[Point]) -> Bounds
     requires { 0 < length corners.now }
     ensures corners { IsCornerBox corners.now result }
-    ensures fits { FitsWithin (pos 1000000000) result }
+    ensures fits { FitsCore result }
 {
     corner_box(corners[0], corners)
 }
@@ -88,7 +88,8 @@ fn row(alloc: Global, corners: &[Point], size: usize) -> Result<Vec<Frame>, Allo
 /// The box of the run that begins at edge `low`, where the row has it.
 fn at(frames: &[Frame], low: usize, size: usize) -> Option<Bounds>
     requires { 0 < size }
-    ensures { (es : List Seg) → AreRuns size frames.now es → IfSome result (λ b. IsRunBox (take size (drop low es)) b) }
+    ensures { (es : List Seg) → AreRuns size frames.now es
+        → IfSome result (λ b. IsRunBox (take size (drop low es)) b) }
 {
     if low % size != 0 {
         return None;
@@ -100,7 +101,7 @@ fn at(frames: &[Frame], low: usize, size: usize) -> Option<Bounds>
 }
 
 impl Indexed {
-    pub fn of(alloc: Global, corners: Vec<Point>) -> Result<Indexed, AllocError>
+    pub(crate) fn of(alloc: Global, corners: Vec<Point>) -> Result<Indexed, AllocError>
         requires { 0 < length corners.items }
         ensures corners { IfOk result (λ index. index.corners ≡ corners) }
         ensures runs { IfOk result HasRuns }
@@ -121,7 +122,7 @@ impl Indexed {
     }
 
     /// Moves all corners and frames.
-    pub fn shift(&mut self, by: Shift)
+    pub(crate) fn shift(&mut self, by: Shift)
         requires some { 0 < length self.old.corners.items }
         requires runs { HasRuns self.old }
         requires stays { list_all (point_stays by.dx by.dy) self.old.corners.items ≡ true }
@@ -137,18 +138,19 @@ impl Indexed {
     }
 
     /// The box of all corners.
-    pub fn bounds(&self) -> Bounds
+    pub(crate) fn bounds(&self) -> Bounds
         requires { HasRuns self.now }
         ensures corners { IsCornerBox self.now.corners.items result }
-        ensures fits { FitsWithin (pos 1000000000) result }
+        ensures fits { FitsCore result }
     {
         self.whole.bounds()
     }
 
     /// The box of the `size` edges from `low` on, where it is kept.
-    pub fn run_box(&self, low: usize, size: usize) -> Option<Bounds>
+    pub(crate) fn run_box(&self, low: usize, size: usize) -> Option<Bounds>
         requires { HasRuns self.now }
-        ensures { IfSome result (λ b. IsRunBox (take size (drop low (outline self.now.corners.items))) b) }
+        ensures { IfSome result (λ b. IsRunBox (take size (drop low
+            (outline self.now.corners.items))) b) }
     {
         match size {
             FIRST_RUN => at(&self.first, low, FIRST_RUN),

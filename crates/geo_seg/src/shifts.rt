@@ -1,8 +1,9 @@
 // Moves of shapes.
 
-ghost use Rattle.std.specs.Prelude.{◌≡◌, ◌+ℤ◌, ◌<◌, ◌≤◌, true, pos, unsigned_abs, All};
+ghost use Rattle.std.specs.Prelude.{◌≡◌, ◌+ℤ◌, ◌<◌, true, All};
+ghost use Rattle.geo_seg.specs.Ranges.{IsOffset};
 ghost use Rattle.std.specs.List.{AllZip, list_all};
-ghost use Rattle.geo_seg.specs.Boxes.{FitsWithin};
+ghost use Rattle.geo_seg.specs.Boxes.{FitsCore};
 ghost use Rattle.geo_seg.specs.Runs.{sides_of};
 ghost use Rattle.geo_seg.specs.Shifts.{IsShiftedPoint, IsShiftedShape, is_coordinate, point_stays, core_stays};
 ghost use Rattle.geo_seg.specs.ShiftedRuns.{IsShiftedFrame, in_range_of};
@@ -67,7 +68,7 @@ fn shift_corners(corners: &mut [Point], by: Shift)
     }
 }
 
-pub fn shift_outline(corners: &mut Vec<Point>, by: Shift)
+pub(crate) fn shift_outline(corners: &mut Vec<Point>, by: Shift)
     requires { list_all (point_stays by.dx by.dy) corners.old.items ≡ true }
     ensures { AllZip (IsShiftedPoint by.dx by.dy) corners.old.items corners.new.items }
 {
@@ -91,9 +92,9 @@ fn in_range(z: i64) -> i64
 impl Bounds {
     /// The box moved, and cut to the range of coordinates.
     fn shifted(self, by: Shift) -> Bounds
-        requires fits { FitsWithin (pos 1000000000) self }
-        requires dx { unsigned_abs by.dx ≤ 2000000000 }
-        requires dy { unsigned_abs by.dy ≤ 2000000000 }
+        requires fits { FitsCore self }
+        requires dx { IsOffset by.dx }
+        requires dy { IsOffset by.dy }
         ensures left { result.left ≡ in_range_of (self.left +ℤ by.dx) }
         ensures top { result.top ≡ in_range_of (self.top +ℤ by.dy) }
         ensures right { result.right ≡ in_range_of (self.right +ℤ by.dx) }
@@ -111,9 +112,9 @@ impl Bounds {
 impl Frame {
     /// What the frame holds is held by the new one, moved.
     fn shifted(self, by: Shift) -> Frame
-        requires fits { FitsWithin (pos 1000000000) (sides_of self) }
-        requires dx { unsigned_abs by.dx ≤ 2000000000 }
-        requires dy { unsigned_abs by.dy ≤ 2000000000 }
+        requires fits { FitsCore (sides_of self) }
+        requires dx { IsOffset by.dx }
+        requires dy { IsOffset by.dy }
         ensures { IsShiftedFrame by.dx by.dy self result }
     {
         Frame::of(self.bounds().shifted(by))
@@ -122,9 +123,9 @@ impl Frame {
 
 /// Moves each frame.
 fn shift_frames(frames: &mut [Frame], by: Shift)
-    requires fits { All (λ frame. FitsWithin (pos 1000000000) (sides_of frame)) frames.old }
-    requires dx { unsigned_abs by.dx ≤ 2000000000 }
-    requires dy { unsigned_abs by.dy ≤ 2000000000 }
+    requires fits { All (λ frame. FitsCore (sides_of frame)) frames.old }
+    requires dx { IsOffset by.dx }
+    requires dy { IsOffset by.dy }
     ensures { AllZip (IsShiftedFrame by.dx by.dy) frames.old frames.new }
 {
     for frame in frames.iter_mut() {
@@ -132,10 +133,10 @@ fn shift_frames(frames: &mut [Frame], by: Shift)
     }
 }
 
-pub fn shift_row(frames: &mut Vec<Frame>, by: Shift)
-    requires fits { All (λ frame. FitsWithin (pos 1000000000) (sides_of frame)) frames.old.items }
-    requires dx { unsigned_abs by.dx ≤ 2000000000 }
-    requires dy { unsigned_abs by.dy ≤ 2000000000 }
+pub(crate) fn shift_row(frames: &mut Vec<Frame>, by: Shift)
+    requires fits { All (λ frame. FitsCore (sides_of frame)) frames.old.items }
+    requires dx { IsOffset by.dx }
+    requires dy { IsOffset by.dy }
     ensures { AllZip (IsShiftedFrame by.dx by.dy) frames.old.items frames.new.items }
 {
     shift_frames(frames, by);

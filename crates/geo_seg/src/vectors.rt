@@ -2,6 +2,7 @@
 // products of two products.
 
 ghost use Rattle.std.specs.Prelude.{◌≡◌, ◌*ℤ◌, ◌+ℤ◌, ◌-ℤ◌, ◌≤◌, unsigned_abs};
+ghost use Rattle.geo_seg.specs.Ranges.{IsOffset};
 ghost use Rattle.geo_seg.specs.Gap.{cross_of};
 
 use crate::points::{Point, Seg};
@@ -10,11 +11,11 @@ use crate::points::{Point, Seg};
 pub struct Vector {
     pub x: i64,
     pub y: i64,
-    ghost x_in_range: { unsigned_abs x ≤ 2000000000 },
-    ghost y_in_range: { unsigned_abs y ≤ 2000000000 },
+    ghost x_in_range: { IsOffset x },
+    ghost y_in_range: { IsOffset y },
 }
 
-pub fn between(from: Point, to: Point) -> Vector
+pub(crate) fn between(from: Point, to: Point) -> Vector
     ensures x { result.x ≡ to.x -ℤ from.x }
     ensures y { result.y ≡ to.y -ℤ from.y }
 {
@@ -24,16 +25,16 @@ pub fn between(from: Point, to: Point) -> Vector
     }
 }
 
-pub fn product(a: i64, b: i64) -> i64
-    requires a_in_range { unsigned_abs a ≤ 2000000000 }
-    requires b_in_range { unsigned_abs b ≤ 2000000000 }
+pub(crate) fn product(a: i64, b: i64) -> i64
+    requires a_in_range { IsOffset a }
+    requires b_in_range { IsOffset b }
     ensures value { result ≡ a *ℤ b }
     ensures in_range { unsigned_abs result ≤ 4000000000000000000 }
 {
     a * b
 }
 
-pub fn large_product(a: i64, b: i64) -> i128
+pub(crate) fn large_product(a: i64, b: i64) -> i128
     requires a_in_range { unsigned_abs a ≤ 8000000000000000000 }
     requires b_in_range { unsigned_abs b ≤ 8000000000000000000 }
     ensures { result ≡ a *ℤ b }
@@ -41,14 +42,14 @@ pub fn large_product(a: i64, b: i64) -> i128
     a as i128 * b as i128
 }
 
-pub fn dot(u: Vector, v: Vector) -> i64
+pub(crate) fn dot(u: Vector, v: Vector) -> i64
     ensures value { result ≡ u.x *ℤ v.x +ℤ u.y *ℤ v.y }
     ensures in_range { unsigned_abs result ≤ 8000000000000000000 }
 {
     product(u.x, v.x) + product(u.y, v.y)
 }
 
-pub fn cross(u: Vector, v: Vector) -> i64
+pub(crate) fn cross(u: Vector, v: Vector) -> i64
     ensures value { result ≡ u.x *ℤ v.y -ℤ u.y *ℤ v.x }
     ensures in_range { unsigned_abs result ≤ 8000000000000000000 }
 {

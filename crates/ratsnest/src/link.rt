@@ -18,7 +18,8 @@ pub struct Link {
 
 // By square, then by the places. Anchors rise by id and number, so that is the order of links.
 impl Ord for Link {
-    ghost cmp = { then_cmp (on (λ l. l.square) nat_cmp) (then_cmp (on (λ l. l.first) nat_cmp) (on (λ l. l.second) nat_cmp)) };
+    ghost cmp = { then_cmp (on (λ l. l.square) nat_cmp)
+        (then_cmp (on (λ l. l.first) nat_cmp) (on (λ l. l.second) nat_cmp)) };
 
     ghost total = { Prim.search (comparing, rules) };
 
@@ -36,9 +37,11 @@ impl Ord for Link {
 }
 
 impl PartialOrd for Link {
-    ghost partial_cmp = { as_partial_cmp (then_cmp (on (λ l. l.square) nat_cmp) (then_cmp (on (λ l. l.first) nat_cmp) (on (λ l. l.second) nat_cmp))) };
+    ghost partial_cmp = { as_partial_cmp (then_cmp (on (λ l. l.square) nat_cmp)
+        (then_cmp (on (λ l. l.first) nat_cmp) (on (λ l. l.second) nat_cmp))) };
 
-    ghost laws = { partial_order_from_own_ties (Prim.search (comparing, rules)) (Prim.search (comparing, rules)) };
+    ghost laws = { partial_order_from_own_ties (Prim.search (comparing, rules))
+        (Prim.search (comparing, rules)) };
 
     fn partial_cmp(&self, other: &Link) -> Option<Ordering> {
         Some(self.cmp(other))

@@ -24,8 +24,10 @@ fn crew_of<X: Drop>(
     requires count { length all.items ≡ length owners.items }
     requires lines { All (λ v. AreUnused tiles others.now v.items) all.items }
     ensures owners { IfOk result (λ crew. map (λ m. m.own) crew.items ≡ owners.items) }
-    ensures lines { IfOk result (λ crew. All (λ m. AreUnused tiles others.now m.lines.items) crew.items) }
-    ensures fresh { IfOk result (λ crew. All (λ m. (m.share.hand.items ≡ []) × (m.share.batch.items ≡ [])) crew.items) }
+    ensures lines { IfOk result (λ crew.
+        All (λ m. AreUnused tiles others.now m.lines.items) crew.items) }
+    ensures fresh { IfOk result (λ crew. All (λ m. (m.share.hand.items ≡ [])
+        × (m.share.batch.items ≡ [])) crew.items) }
 {
     let mut crew = Vec::with_capacity(alloc, owners.len())?;
     for own in owners {
@@ -59,8 +61,10 @@ fn disband<X: Drop>(alloc: Global, crew: Vec<Member<X>>) -> Result<Left<X>, Allo
     ensures owners { IfOk result (λ left. left.owners.items ≡ map (λ m. m.own) crew.items) }
     ensures lines { IfOk result (λ left. left.all.items ≡ map (λ m. m.lines) crew.items) }
     ensures hands { IfOk result (λ left. left.hands.items ≡ map (λ m. m.share.hand) crew.items) }
-    ensures batches { IfOk result (λ left. left.batches.items ≡ map (λ m. m.share.batch) crew.items) }
-    ensures failed { IfOk result (λ left. left.failed ≡ false → All (λ m. m.share.failed ≡ false) crew.items) }
+    ensures batches { IfOk result (λ left. left.batches.items
+        ≡ map (λ m. m.share.batch) crew.items) }
+    ensures failed { IfOk result (λ left. left.failed ≡ false
+        → All (λ m. m.share.failed ≡ false) crew.items) }
 {
     let mut owners = Vec::with_capacity(alloc, crew.len())?;
     let mut all = Vec::with_capacity(alloc, crew.len())?;
@@ -103,7 +107,8 @@ fn run_members<R: Threads + Sync, T: TileWork, G: Gate>(
     requires ready { T.ready job.now.work.now }
     requires count { job.now.tiles ≤ T.count job.now.work.now }
     requires some { 0 < length crew.items }
-    requires members { All (IsReady (T.gives job.now.work.now) job.now.tiles job.now.others.now) crew.items }
+    requires members { All (IsReady
+        (T.gives job.now.work.now) job.now.tiles job.now.others.now) crew.items }
     ensures long { length result.items ≡ length crew.items }
     ensures run { HaveRun (T.gives job.now.work.now) job.now.tiles job.now.others.now crew.items result.items }
 {
@@ -121,14 +126,25 @@ pub(crate) fn run_crew<R: Threads + Sync, T: TileWork, G: Gate>(
     requires ready { T.ready job.now.work.now }
     requires count { job.now.tiles ≤ T.count job.now.work.now }
     requires workers { (0 < length owners.items) × (length owners.items ≤ 64) }
-    requires owners { AreOwners job.now.tiles (1024 - length owners.items) job.now.others.now owners.items × ((h : ℕ → ℕ) → taken_by h owners.items ≡ 0) }
+    requires owners { AreOwners job.now.tiles
+        (1024 - length owners.items) job.now.others.now owners.items
+        × ((h : ℕ → ℕ) → taken_by h owners.items ≡ 0) }
     requires given { AreGiven job.now.tiles owners.items }
-    requires lines { (length all.items ≡ length owners.items) × All (λ v. AreUnused job.now.tiles job.now.others.now v.items) all.items }
-    ensures owners { IfOk result (λ left. AreOwners job.now.tiles (1024 - length owners.items) job.now.others.now left.owners.items × ((h : ℕ → ℕ) → pushed_by h left.owners.items ≡ pushed_by h owners.items)) }
-    ensures lines { IfOk result (λ left. (length left.all.items ≡ length owners.items) × All (λ v. AreLines job.now.tiles job.now.others.now v.items) left.all.items) }
-    ensures kept { IfOk result (λ left. (h : ℕ → ℕ) → sum_by (λ v. sum_by h v.items) left.hands.items ≡ taken_by h left.owners.items + sum_by (λ v. taken_with h v.items) left.all.items) }
-    ensures values { IfOk result (λ left. left.failed ≡ false → AreBatches (T.gives job.now.work.now) (map (λ v. v.items) left.hands.items) left.batches.items) }
-    ensures counts { IfOk result (λ left. (length left.hands.items ≡ length owners.items) × (length left.batches.items ≡ length owners.items)) }
+    requires lines { (length all.items ≡ length owners.items)
+        × All (λ v. AreUnused job.now.tiles job.now.others.now v.items) all.items }
+    ensures owners { IfOk result (λ left. AreOwners job.now.tiles
+        (1024 - length owners.items) job.now.others.now left.owners.items
+        × ((h : ℕ → ℕ) → pushed_by h left.owners.items ≡ pushed_by h owners.items)) }
+    ensures lines { IfOk result (λ left. (length left.all.items ≡ length owners.items)
+        × All (λ v. AreLines job.now.tiles job.now.others.now v.items) left.all.items) }
+    ensures kept { IfOk result (λ left. (h : ℕ → ℕ)
+        → sum_by (λ v. sum_by h v.items) left.hands.items
+        ≡ taken_by h left.owners.items + sum_by (λ v. taken_with h v.items) left.all.items) }
+    ensures values { IfOk result (λ left. left.failed ≡ false
+        → AreBatches (T.gives job.now.work.now)
+        (map (λ v. v.items) left.hands.items) left.batches.items) }
+    ensures counts { IfOk result (λ left. (length left.hands.items ≡ length owners.items)
+        × (length left.batches.items ≡ length owners.items)) }
 {
     let crew = crew_of(job.alloc, job.others, owners, all, job.tiles)?;
     let crew = run_members(rt, job, crew);

@@ -14,8 +14,10 @@ pub(crate) fn deques(
     workers: u32,
     room: usize,
 ) -> Result<(Vec<Other>, Vec<Own>), AllocError>
-    ensures owners { IfOk result (λ r. AreOwners 0 1024 r.0.items r.1.items × (length r.0.items ≡ workers)) }
-    ensures fresh { IfOk result (λ r. (h : ℕ → ℕ) → (pushed_by h r.1.items ≡ 0) × (taken_by h r.1.items ≡ 0)) }
+    ensures owners { IfOk result (λ r. AreOwners 0 1024 r.0.items r.1.items
+        × (length r.0.items ≡ workers)) }
+    ensures fresh { IfOk result (λ r. (h : ℕ → ℕ)
+        → (pushed_by h r.1.items ≡ 0) × (taken_by h r.1.items ≡ 0)) }
 {
     let mut others = Vec::with_capacity(alloc, workers as usize)?;
     let mut owners = Vec::with_capacity(alloc, workers as usize)?;
@@ -35,7 +37,8 @@ pub(crate) fn give_out(others: &[Other], owners: &mut [Own], tiles: u32) -> Resu
     requires fresh { (h : ℕ → ℕ) → (pushed_by h owners.old ≡ 0) × (taken_by h owners.old ≡ 0) }
     ensures owners { IfOk result (λ _. AreOwners tiles 1024 others.now owners.new) }
     ensures given { IfOk result (λ _. AreGiven tiles owners.new) }
-    ensures pushed { IfOk result (λ _. (h : ℕ → ℕ) → (pushed_by h owners.new ≡ sum_below h tiles) × (taken_by h owners.new ≡ 0)) }
+    ensures pushed { IfOk result (λ _. (h : ℕ → ℕ)
+        → (pushed_by h owners.new ≡ sum_below h tiles) × (taken_by h owners.new ≡ 0)) }
 {
     for number in 0..tiles {
         let at = number as usize % others.len();
@@ -59,8 +62,11 @@ pub(crate) fn lines_of(
     requires owners { AreOwners tiles (parts + 1) others.now owners.old }
     ensures owners { IfOk result (λ _. AreOwners tiles parts others.now owners.new) }
     ensures alike { IfOk result (λ _. PutAlike owners.old owners.new) }
-    ensures same { IfOk result (λ _. (h : ℕ → ℕ) → (pushed_by h owners.new ≡ pushed_by h owners.old) × (taken_by h owners.new ≡ taken_by h owners.old)) }
-    ensures lines { IfOk result (λ lines. AreLines tiles others.now lines.items × ((h : ℕ → ℕ) → taken_with h lines.items ≡ 0)) }
+    ensures same { IfOk result (λ _. (h : ℕ → ℕ)
+        → (pushed_by h owners.new ≡ pushed_by h owners.old)
+        × (taken_by h owners.new ≡ taken_by h owners.old)) }
+    ensures lines { IfOk result (λ lines. AreLines tiles others.now lines.items
+        × ((h : ℕ → ℕ) → taken_with h lines.items ≡ 0)) }
 {
     let mut lines = Vec::with_capacity(alloc, others.len())?;
     for at in 0..others.len() {
@@ -83,7 +89,8 @@ pub(crate) fn give_back(
     requires lines { AreLines tiles others.now lines.items }
     ensures owners { AreOwners tiles (parts + 1) others.now owners.new }
     ensures same { (h : ℕ → ℕ) → pushed_by h owners.new ≡ pushed_by h owners.old }
-    ensures taken { (h : ℕ → ℕ) → taken_by h owners.new ≡ taken_by h owners.old + taken_with h lines.items }
+    ensures taken { (h : ℕ → ℕ) → taken_by h owners.new
+        ≡ taken_by h owners.old + taken_with h lines.items }
 {
     while let Some(line) = lines.pop() {
         owners[lines.len()].absorb::<Share>(line.ticket);
@@ -102,8 +109,11 @@ fn all_lines(
     requires owners { AreOwners tiles 1024 others.now owners.old }
     ensures owners { IfOk result (λ _. AreOwners tiles (1024 - workers) others.now owners.new) }
     ensures alike { IfOk result (λ _. PutAlike owners.old owners.new) }
-    ensures same { IfOk result (λ _. (h : ℕ → ℕ) → (pushed_by h owners.new ≡ pushed_by h owners.old) × (taken_by h owners.new ≡ taken_by h owners.old)) }
-    ensures lines { IfOk result (λ all. (length all.items ≡ workers) × All (λ v. AreUnused tiles others.now v.items) all.items) }
+    ensures same { IfOk result (λ _. (h : ℕ → ℕ)
+        → (pushed_by h owners.new ≡ pushed_by h owners.old)
+        × (taken_by h owners.new ≡ taken_by h owners.old)) }
+    ensures lines { IfOk result (λ all. (length all.items ≡ workers)
+        × All (λ v. AreUnused tiles others.now v.items) all.items) }
 {
     let mut all = Vec::with_capacity(alloc, workers as usize)?;
     for seat in 0..workers {
@@ -120,7 +130,8 @@ pub(crate) fn all_back(others: &[Other], owners: &mut [Own], mut all: Vec<Vec<Li
     requires lines { All (λ v. AreLines tiles others.now v.items) all.items }
     ensures owners { AreOwners tiles 1024 others.now owners.new }
     ensures same { (h : ℕ → ℕ) → pushed_by h owners.new ≡ pushed_by h owners.old }
-    ensures taken { (h : ℕ → ℕ) → taken_by h owners.new ≡ taken_by h owners.old + sum_by (λ v. taken_with h v.items) all.items }
+    ensures taken { (h : ℕ → ℕ) → taken_by h owners.new
+        ≡ taken_by h owners.old + sum_by (λ v. taken_with h v.items) all.items }
 {
     while let Some(lines) = all.pop() {
         give_back(others, owners, lines, tiles, 1023 - all.len() as u32);
@@ -138,10 +149,15 @@ pub(crate) struct Dealing {
 /// Gives the numbers out, and makes the passes.
 pub(crate) fn deal_out(alloc: Global, workers: u32, tiles: u32) -> Result<Dealing, AllocError>
     requires workers { (0 < workers) × (workers ≤ 64) }
-    ensures owners { IfOk result (λ dealing. AreOwners tiles (1024 - workers) dealing.others.items dealing.owners.items × (length dealing.owners.items ≡ workers)) }
+    ensures owners { IfOk result (λ dealing.
+        AreOwners tiles (1024 - workers) dealing.others.items dealing.owners.items
+        × (length dealing.owners.items ≡ workers)) }
     ensures given { IfOk result (λ dealing. AreGiven tiles dealing.owners.items) }
-    ensures pushed { IfOk result (λ dealing. (h : ℕ → ℕ) → (pushed_by h dealing.owners.items ≡ sum_below h tiles) × (taken_by h dealing.owners.items ≡ 0)) }
-    ensures lines { IfOk result (λ dealing. (length dealing.all.items ≡ workers) × All (λ v. AreUnused tiles dealing.others.items v.items) dealing.all.items) }
+    ensures pushed { IfOk result (λ dealing. (h : ℕ → ℕ)
+        → (pushed_by h dealing.owners.items ≡ sum_below h tiles)
+        × (taken_by h dealing.owners.items ≡ 0)) }
+    ensures lines { IfOk result (λ dealing. (length dealing.all.items ≡ workers)
+        × All (λ v. AreUnused tiles dealing.others.items v.items) dealing.all.items) }
 {
     let (others, mut owners) = deques(alloc, workers, (tiles / workers) as usize + 1)?;
     give_out(others.as_slice(), owners.as_mut_slice(), tiles)?;

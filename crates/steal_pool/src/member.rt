@@ -18,10 +18,15 @@ use tile_pool::{Gate, TileWork};
 fn take_own<T: TileWork, G: Gate>(job: &Job<'_, T, G>, own: &mut Own, share: &mut Share<T::Out>)
     requires ready { T.ready job.now.work.now }
     requires count { job.now.tiles ≤ T.count job.now.work.now }
-    requires own { (worker_flavor own.old ≡ 0) × (0 < (worker_view own.old).parts) × ((worker_view own.old).limit ≤ job.now.tiles) }
+    requires own { (worker_flavor own.old ≡ 0) × (0 < (worker_view own.old).parts)
+        × ((worker_view own.old).limit ≤ job.now.tiles) }
     requires values { IsShare (T.gives job.now.work.now) share.old }
-    ensures own { (worker_deque own.new ≡ worker_deque own.old) × (worker_flavor own.new ≡ 0) × ((worker_view own.new).parts ≡ (worker_view own.old).parts) × ((worker_view own.new).limit ≡ (worker_view own.old).limit) × ((worker_view own.new).put ≡ (worker_view own.old).put) }
-    ensures kept { (h : ℕ → ℕ) → sum_by h share.new.hand.items + taken_of h own.old ≡ sum_by h share.old.hand.items + taken_of h own.new }
+    ensures own { (worker_deque own.new ≡ worker_deque own.old) × (worker_flavor own.new ≡ 0)
+        × ((worker_view own.new).parts ≡ (worker_view own.old).parts)
+        × ((worker_view own.new).limit ≡ (worker_view own.old).limit)
+        × ((worker_view own.new).put ≡ (worker_view own.old).put) }
+    ensures kept { (h : ℕ → ℕ) → sum_by h share.new.hand.items + taken_of h own.old
+        ≡ sum_by h share.old.hand.items + taken_of h own.new }
     ensures values { IsShare (T.gives job.now.work.now) share.new }
 {
     for _ in 0..job.tiles {
@@ -40,7 +45,8 @@ fn steal_one(others: &[Other], lines: &mut [Line], at: usize, tiles: u32) -> Opt
     requires at { at < length others.now }
     requires lines { AreLines tiles others.now lines.old }
     ensures lines { AreLines tiles others.now lines.new }
-    ensures took { IfSome result (λ number. (number < tiles) × ((h : ℕ → ℕ) → taken_with h lines.new ≡ taken_with h lines.old + h number)) }
+    ensures took { IfSome result (λ number. (number < tiles)
+        × ((h : ℕ → ℕ) → taken_with h lines.new ≡ taken_with h lines.old + h number)) }
     ensures none { IfNone result ((h : ℕ → ℕ) → taken_with h lines.new ≡ taken_with h lines.old) }
 {
     match others[at].steal_as::<Takes>(&mut lines[at].ticket) {
@@ -62,7 +68,8 @@ fn sweep<T: TileWork, G: Gate>(
     requires lines { AreLines job.now.tiles job.now.others.now lines.old }
     requires values { IsShare (T.gives job.now.work.now) share.old }
     ensures lines { AreLines job.now.tiles job.now.others.now lines.new }
-    ensures kept { (h : ℕ → ℕ) → sum_by h share.new.hand.items + taken_with h lines.old ≡ sum_by h share.old.hand.items + taken_with h lines.new }
+    ensures kept { (h : ℕ → ℕ) → sum_by h share.new.hand.items + taken_with h lines.old
+        ≡ sum_by h share.old.hand.items + taken_with h lines.new }
     ensures values { IsShare (T.gives job.now.work.now) share.new }
 {
     let mut gave = false;
@@ -90,7 +97,8 @@ fn steal_all<T: TileWork, G: Gate>(
     requires lines { AreLines job.now.tiles job.now.others.now lines.old }
     requires values { IsShare (T.gives job.now.work.now) share.old }
     ensures lines { AreLines job.now.tiles job.now.others.now lines.new }
-    ensures kept { (h : ℕ → ℕ) → sum_by h share.new.hand.items + taken_with h lines.old ≡ sum_by h share.old.hand.items + taken_with h lines.new }
+    ensures kept { (h : ℕ → ℕ) → sum_by h share.new.hand.items + taken_with h lines.old
+        ≡ sum_by h share.old.hand.items + taken_with h lines.new }
     ensures values { IsShare (T.gives job.now.work.now) share.new }
 {
     let mut nothing = 0u8;
@@ -134,7 +142,8 @@ pub(crate) fn run_all<R: Threads + Sync, T: TileWork, G: Gate>(
     requires ready { T.ready job.now.work.now }
     requires count { job.now.tiles ≤ T.count job.now.work.now }
     requires some { 0 < length members.old }
-    requires members { All (λ m. IsReady (T.gives job.now.work.now) job.now.tiles job.now.others.now m) members.old }
+    requires members { All (λ m. IsReady
+        (T.gives job.now.work.now) job.now.tiles job.now.others.now m) members.old }
     ensures { HaveRun (T.gives job.now.work.now) job.now.tiles job.now.others.now members.old members.new }
 {
     let threads = members.len();
@@ -143,7 +152,8 @@ pub(crate) fn run_all<R: Threads + Sync, T: TileWork, G: Gate>(
         members,
         threads,
         &|_: usize, member: &mut Member<T::Out>|
-            requires { T.ready job.now.work.now × (job.now.tiles ≤ T.count job.now.work.now) × IsReady (T.gives job.now.work.now) job.now.tiles job.now.others.now member.now }
+            requires { T.ready job.now.work.now × (job.now.tiles ≤ T.count job.now.work.now)
+                × IsReady (T.gives job.now.work.now) job.now.tiles job.now.others.now member.now }
             ensures { HasRun (T.gives job.entry.now.work.now) job.entry.now.tiles job.entry.now.others.now member.entry.now member.exit.now }
         { run_member(job, member) },
     );

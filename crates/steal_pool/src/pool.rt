@@ -28,12 +28,20 @@ fn run_seats<R: Threads + Sync, T: TileWork, G: Gate>(
     requires ready { T.ready job.now.work.now }
     requires count { job.now.tiles ≤ T.count job.now.work.now }
     requires workers { (0 < length owners.items) × (length owners.items ≤ 64) }
-    requires owners { AreOwners job.now.tiles (1024 - length owners.items) job.now.others.now owners.items × ((h : ℕ → ℕ) → (pushed_by h owners.items ≡ sum_below h job.now.tiles) × (taken_by h owners.items ≡ 0)) }
+    requires owners { AreOwners job.now.tiles
+        (1024 - length owners.items) job.now.others.now owners.items
+        × ((h : ℕ → ℕ) → (pushed_by h owners.items ≡ sum_below h job.now.tiles)
+        × (taken_by h owners.items ≡ 0)) }
     requires given { AreGiven job.now.tiles owners.items }
-    requires lines { (length all.items ≡ length owners.items) × All (λ v. AreUnused job.now.tiles job.now.others.now v.items) all.items }
-    ensures once { IfOk result (λ taken. (x : ℕ) → sum_by (times x) (map (λ v. v.items) taken.hands.items) ≡ once_below x job.now.tiles) }
-    ensures values { IfOk result (λ taken. taken.failed ≡ false → AreBatches (T.gives job.now.work.now) (map (λ v. v.items) taken.hands.items) taken.batches.items) }
-    ensures counts { IfOk result (λ taken. (length taken.hands.items ≡ length owners.items + 1) × (length taken.batches.items ≡ length owners.items + 1)) }
+    requires lines { (length all.items ≡ length owners.items)
+        × All (λ v. AreUnused job.now.tiles job.now.others.now v.items) all.items }
+    ensures once { IfOk result (λ taken. (x : ℕ)
+        → sum_by (times x) (map (λ v. v.items) taken.hands.items) ≡ once_below x job.now.tiles) }
+    ensures values { IfOk result (λ taken. taken.failed ≡ false
+        → AreBatches (T.gives job.now.work.now)
+        (map (λ v. v.items) taken.hands.items) taken.batches.items) }
+    ensures counts { IfOk result (λ taken. (length taken.hands.items ≡ length owners.items + 1)
+        × (length taken.batches.items ≡ length owners.items + 1)) }
 {
     let left = run_crew(rt, job, owners, all)?;
     with_rest(job, left)
@@ -67,7 +75,8 @@ fn gathered<T: TileWork>(
     requires count { length batches.items ≡ length (stolen_hands stolen.now) }
     requires batches { AreBatches (T.gives work.now) (stolen_hands stolen.now) batches.items }
     requires few { vec_len batches ≤ 65 }
-    ensures { IfOk result (λ answers. AreAnswers (T.gives work.now) (stolen_tiles stolen.now) answers.items) }
+    ensures { IfOk result (λ answers. AreAnswers (T.gives work.now)
+        (stolen_tiles stolen.now) answers.items) }
 {
     let mut slots = slots_of(alloc, stolen.tiles)?;
     let answers = Vec::with_capacity(alloc, stolen.tiles as usize)?;
@@ -92,8 +101,10 @@ pub fn run_stolen<R: Threads + Sync, T: TileWork, G: Gate>(
     requires tiles { tiles ≤ 15625 }
     requires count { tiles ≤ T.count work.now }
     ensures answers { IfOk result (λ r. AreAnswers (T.gives work.now) tiles r.0.items) }
-    ensures hands { IfOk result (λ r. (stolen_tiles r.1 ≡ tiles) × (length (stolen_hands r.1) ≡ workers + 1)) }
-    ensures once { IfOk result (λ r. (x : ℕ) → sum_by (times x) (stolen_hands r.1) ≡ once_below x tiles) }
+    ensures hands { IfOk result (λ r. (stolen_tiles r.1 ≡ tiles)
+        × (length (stolen_hands r.1) ≡ workers + 1)) }
+    ensures once { IfOk result (λ r. (x : ℕ)
+        → sum_by (times x) (stolen_hands r.1) ≡ once_below x tiles) }
 {
     let Dealing {
         others,

@@ -24,9 +24,12 @@ fn drain<T: TileWork, G: Gate>(
 ) -> Result<(), AllocError>
     requires ready { T.ready job.now.work.now }
     requires count { job.now.tiles ≤ T.count job.now.work.now }
-    requires own { (worker_flavor own ≡ 0) × ((worker_view own).parts ≡ 1024) × ((worker_view own).limit ≤ job.now.tiles) }
+    requires own { (worker_flavor own ≡ 0) × ((worker_view own).parts ≡ 1024)
+        × ((worker_view own).limit ≤ job.now.tiles) }
     requires values { IsShare (T.gives job.now.work.now) share.old }
-    ensures kept { IfOk result (λ _. (h : ℕ → ℕ) → sum_by h share.new.hand.items + taken_of h own ≡ sum_by h share.old.hand.items + put_of h own) }
+    ensures kept { IfOk result (λ _. (h : ℕ → ℕ)
+        → sum_by h share.new.hand.items + taken_of h own
+        ≡ sum_by h share.old.hand.items + put_of h own) }
     ensures values { IfOk result (λ _. IsShare (T.gives job.now.work.now) share.new) }
 {
     while let Some(number) = own.pop_as::<Takes>() {
@@ -46,7 +49,9 @@ fn take_rest<T: TileWork, G: Gate>(
     requires count { job.now.tiles ≤ T.count job.now.work.now }
     requires owners { AreOwners job.now.tiles 1024 job.now.others.now owners.items }
     requires values { IsShare (T.gives job.now.work.now) share.old }
-    ensures kept { IfOk result (λ _. (h : ℕ → ℕ) → sum_by h share.new.hand.items + taken_by h owners.items ≡ sum_by h share.old.hand.items + pushed_by h owners.items) }
+    ensures kept { IfOk result (λ _. (h : ℕ → ℕ)
+        → sum_by h share.new.hand.items + taken_by h owners.items
+        ≡ sum_by h share.old.hand.items + pushed_by h owners.items) }
     ensures values { IfOk result (λ _. IsShare (T.gives job.now.work.now) share.new) }
 {
     while let Some(own) = owners.pop() {
@@ -70,7 +75,8 @@ fn whole(others: &[Other], mut owners: Vec<Own>, all: Vec<Vec<Line>>, tiles: u32
     requires lines { All (λ v. AreLines tiles others.now v.items) all.items }
     ensures owners { AreOwners tiles 1024 others.now result.items }
     ensures same { (h : ℕ → ℕ) → pushed_by h result.items ≡ pushed_by h owners.items }
-    ensures taken { (h : ℕ → ℕ) → taken_by h result.items ≡ taken_by h owners.items + sum_by (λ v. taken_with h v.items) all.items }
+    ensures taken { (h : ℕ → ℕ) → taken_by h result.items
+        ≡ taken_by h owners.items + sum_by (λ v. taken_with h v.items) all.items }
 {
     all_back(others, owners.as_mut_slice(), all, tiles);
     owners
@@ -83,14 +89,23 @@ pub(crate) fn with_rest<T: TileWork, G: Gate>(
 ) -> Result<Taken<T::Out>, AllocError>
     requires ready { T.ready job.now.work.now }
     requires count { job.now.tiles ≤ T.count job.now.work.now }
-    requires workers { (vec_len left.all ≤ 64) × (length left.hands.items ≡ length left.batches.items) }
-    requires owners { AreOwners job.now.tiles (1024 - vec_len left.all) job.now.others.now left.owners.items × ((h : ℕ → ℕ) → pushed_by h left.owners.items ≡ sum_below h job.now.tiles) }
+    requires workers { (vec_len left.all ≤ 64) × (length left.hands.items
+        ≡ length left.batches.items) }
+    requires owners { AreOwners job.now.tiles
+        (1024 - vec_len left.all) job.now.others.now left.owners.items
+        × ((h : ℕ → ℕ) → pushed_by h left.owners.items ≡ sum_below h job.now.tiles) }
     requires lines { All (λ v. AreLines job.now.tiles job.now.others.now v.items) left.all.items }
-    requires kept { (h : ℕ → ℕ) → sum_by (λ v. sum_by h v.items) left.hands.items ≡ taken_by h left.owners.items + sum_by (λ v. taken_with h v.items) left.all.items }
-    requires values { left.failed ≡ false → AreBatches (T.gives job.now.work.now) (map (λ v. v.items) left.hands.items) left.batches.items }
-    ensures once { IfOk result (λ taken. (x : ℕ) → sum_by (times x) (map (λ v. v.items) taken.hands.items) ≡ once_below x job.now.tiles) }
-    ensures values { IfOk result (λ taken. taken.failed ≡ false → AreBatches (T.gives job.now.work.now) (map (λ v. v.items) taken.hands.items) taken.batches.items) }
-    ensures counts { IfOk result (λ taken. (length taken.hands.items ≡ length left.hands.items + 1) × (length taken.batches.items ≡ length left.batches.items + 1)) }
+    requires kept { (h : ℕ → ℕ) → sum_by (λ v. sum_by h v.items) left.hands.items
+        ≡ taken_by h left.owners.items + sum_by (λ v. taken_with h v.items) left.all.items }
+    requires values { left.failed ≡ false → AreBatches (T.gives job.now.work.now)
+        (map (λ v. v.items) left.hands.items) left.batches.items }
+    ensures once { IfOk result (λ taken. (x : ℕ)
+        → sum_by (times x) (map (λ v. v.items) taken.hands.items) ≡ once_below x job.now.tiles) }
+    ensures values { IfOk result (λ taken. taken.failed ≡ false
+        → AreBatches (T.gives job.now.work.now)
+        (map (λ v. v.items) taken.hands.items) taken.batches.items) }
+    ensures counts { IfOk result (λ taken. (length taken.hands.items ≡ length left.hands.items + 1)
+        × (length taken.batches.items ≡ length left.batches.items + 1)) }
 {
     let Left {
         owners,

@@ -19,7 +19,8 @@ pub(crate) struct Share<X> {
 impl<X: Drop> Share<X> {
     /// No number is taken. There is room in the hand for all numbers.
     pub(crate) fn new(alloc: Global, tiles: u32) -> Result<Share<X>, AllocError>
-        ensures { IfOk result (λ s. (s.hand.items ≡ []) × (s.batch.items ≡ []) × (s.failed ≡ false) × (tiles ≤ vec_capacity s.hand)) }
+        ensures { IfOk result (λ s. (s.hand.items ≡ []) × (s.batch.items ≡ []) × (s.failed ≡ false)
+            × (tiles ≤ vec_capacity s.hand)) }
     {
         Ok(Share {
             hand: Vec::with_capacity(alloc, tiles as usize)?,
@@ -65,7 +66,8 @@ pub(crate) fn take<T: TileWork, G: Gate>(
 fn add<T: TileWork>(alloc: Global, work: &T, number: u32, batch: &mut Vec<T::Out>) -> bool
     requires ready { T.ready work.now }
     requires number { number < T.count work.now }
-    ensures { result ≡ true → (value : _) × (batch.new.items ≡ batch.old.items ++ value ∷ []) × T.gives work.now number value }
+    ensures { result ≡ true → (value : _) × (batch.new.items ≡ batch.old.items ++ value ∷ [])
+        × T.gives work.now number value }
 {
     let Ok(value) = work.test(alloc, number) else {
         return false;

@@ -33,11 +33,14 @@ fn draw_all<T: TileWork, G: Gate>(
     requires ready { T.ready work.now }
     requires own { IsSeatOf deal.now worker.old.seat }
     requires open { seat_done worker.old.seat ≡ false }
-    requires fresh { (seat_hand worker.old.seat ≡ []) × (worker.old.batch.items ≡ []) × (worker.old.failed ≡ false) }
+    requires fresh { (seat_hand worker.old.seat ≡ []) × (worker.old.batch.items ≡ [])
+        × (worker.old.failed ≡ false) }
     requires count { deal_tiles deal.now ≤ T.count work.now }
-    ensures own { IsSeatOf deal.now worker.new.seat × (seat_number worker.new.seat ≡ seat_number worker.old.seat) }
+    ensures own { IsSeatOf deal.now worker.new.seat
+        × (seat_number worker.new.seat ≡ seat_number worker.old.seat) }
     ensures done { seat_done worker.new.seat ≡ true }
-    ensures batch { worker.new.failed ≡ false → AreValues (T.gives work.now) (seat_hand worker.new.seat) worker.new.batch.items }
+    ensures batch { worker.new.failed ≡ false
+        → AreValues (T.gives work.now) (seat_hand worker.new.seat) worker.new.batch.items }
 {
     while let Some(number) = deal.claim(&mut worker.seat) {
         if worker.failed {
@@ -55,7 +58,8 @@ fn draw_all<T: TileWork, G: Gate>(
 fn add<T: TileWork>(alloc: Global, work: &T, number: u32, batch: &mut Vec<T::Out>) -> bool
     requires ready { T.ready work.now }
     requires number { number < T.count work.now }
-    ensures { result ≡ true → (value : _) × (batch.new.items ≡ batch.old.items ++ value ∷ []) × T.gives work.now number value }
+    ensures { result ≡ true → (value : _) × (batch.new.items ≡ batch.old.items ++ value ∷ [])
+        × T.gives work.now number value }
 {
     let Ok(value) = work.test(alloc, number) else {
         return false;
@@ -70,7 +74,8 @@ fn crew_of<X: Drop>(
     share: usize,
 ) -> Result<Vec<Worker<X>>, AllocError>
     ensures seats { IfOk result (λ crew. map (λ w. w.seat) crew.items ≡ seats.items) }
-    ensures fresh { IfOk result (λ crew. All (λ w. (w.batch.items ≡ []) × (w.failed ≡ false)) crew.items) }
+    ensures fresh { IfOk result (λ crew. All (λ w. (w.batch.items ≡ [])
+        × (w.failed ≡ false)) crew.items) }
 {
     let mut crew = Vec::with_capacity(alloc, seats.len())?;
     for seat in seats {
@@ -142,13 +147,15 @@ fn run_crew<R: Threads + Sync, T: TileWork, G: Gate>(
         crew,
         threads,
         &|_: usize, worker: &mut Worker<T::Out>|
-            requires { T.ready work.now × (deal_tiles deal.now ≤ T.count work.now) × IsFresh deal.now worker.now }
-            ensures { IsDone deal.entry.now (T.gives work.entry.now) worker.entry.now worker.exit.now }
+            requires { T.ready work.now × (deal_tiles deal.now ≤ T.count work.now)
+                × IsFresh deal.now worker.now }
+            ensures { IsDone deal.entry.now
+                (T.gives work.entry.now) worker.entry.now worker.exit.now }
         { draw_all(alloc, deal, work, gate, worker) },
     );
 }
 
-/// The same of a crew that is handed over and comes back.
+/// Has each worker of a crew draw tiles and test them, on so many threads. The crew is handed over and comes back.
 fn run_all<R: Threads + Sync, T: TileWork, G: Gate>(
     rt: &R,
     alloc: Global,
@@ -185,7 +192,8 @@ fn gathered<T: TileWork>(
     requires slots { slots.items ≡ replicate (deal_tiles deal) None }
     requires answers { (answers.items ≡ []) × (deal_tiles deal ≤ vec_capacity answers) }
     ensures answers { AreAnswers (T.gives work.now) (deal_tiles deal) result.0.items }
-    ensures dealt { (dealt_tiles result.1 ≡ deal_tiles deal) × (dealt_seats result.1 ≡ deal_seats deal) }
+    ensures dealt { (dealt_tiles result.1 ≡ deal_tiles deal)
+        × (dealt_seats result.1 ≡ deal_seats deal) }
 {
     let dealt = deal.close(seats);
     place_all(work, slots.as_mut_slice(), &dealt, batches);
@@ -204,7 +212,8 @@ fn gathered_alone<T: TileWork>(
     requires batches { AreBatches (T.gives work.now) (map seat_hand seats.items) batches.items }
     requires alone { (length batches.items ≡ 1) × (length seats.items ≡ 1) }
     ensures answers { AreAnswers (T.gives work.now) (deal_tiles deal) result.0.items }
-    ensures dealt { (dealt_tiles result.1 ≡ deal_tiles deal) × (dealt_seats result.1 ≡ deal_seats deal) }
+    ensures dealt { (dealt_tiles result.1 ≡ deal_tiles deal)
+        × (dealt_seats result.1 ≡ deal_seats deal) }
 {
     let dealt = deal.close(seats);
     match batches.pop() {
@@ -229,8 +238,10 @@ fn played<R: Threads + Sync, T: TileWork, G: Gate>(
     ensures deal { IfOk result (λ r. (deal_tiles r.0 ≡ tiles) × (deal_seats r.0 ≡ workers)) }
     ensures own { IfOk result (λ r. AreSeatsOf r.0 r.1.seats.items) }
     ensures done { IfOk result (λ r. All (λ s. seat_done s ≡ true) r.1.seats.items) }
-    ensures batches { IfOk result (λ r. AreBatches (T.gives work.now) (map seat_hand r.1.seats.items) r.1.batches.items) }
-    ensures counts { IfOk result (λ r. (length r.1.seats.items ≡ workers) × (length r.1.batches.items ≡ workers)) }
+    ensures batches { IfOk result (λ r. AreBatches (T.gives work.now)
+        (map seat_hand r.1.seats.items) r.1.batches.items) }
+    ensures counts { IfOk result (λ r. (length r.1.seats.items ≡ workers)
+        × (length r.1.batches.items ≡ workers)) }
 {
     let seats_left = Vec::with_capacity(alloc, workers as usize)?;
     let batches = Vec::with_capacity(alloc, workers as usize)?;
