@@ -1,7 +1,7 @@
 //! Calls on lines, as segments are written.
 
 use crate::shapes::segment;
-use case_lines::{Fault, add, parts_of, told};
+use case_lines::{Fault, add, parts_of};
 use courtyard::chain;
 use geo_seg::{Point, Poly, Seg};
 use std::alloc::Global;
@@ -52,6 +52,9 @@ pub fn chained(alloc: Global, written: &str) -> Result<Vec<u8>, Fault> {
     }
     match chain(alloc, &lines) {
         Ok(polys) => shown(alloc, &polys),
-        Err(error) => told(alloc, &error),
+        Err(error) => {
+            let number = error.code();
+            Ok(format!(in alloc; "{error} ({number})")?.into_bytes())
+        }
     }
 }

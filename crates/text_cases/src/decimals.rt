@@ -4,10 +4,14 @@ use case_lines::{Fault, first_word, number, text_of, told};
 use exact_dec::{DecError, count_of, mm_cut, mm_near, ratio_near, with_unit, write_mm};
 use std::alloc::Global;
 
+/// What a call answers: the number, or why there is none, by its name and its number.
 fn shown(alloc: Global, answer: Result<i64, DecError>) -> Result<Vec<u8>, Fault> {
     match answer {
         Ok(number) => told(alloc, &number),
-        Err(error) => Ok(format!(in alloc; "{error:?}")?.into_bytes()),
+        Err(error) => {
+            let number = error as u8;
+            Ok(format!(in alloc; "{error:?} ({number})")?.into_bytes())
+        }
     }
 }
 
