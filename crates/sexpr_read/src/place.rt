@@ -39,8 +39,8 @@ impl HasReason for TextError {
 
     ghost depth = { 1 };
 
-    /// What it is called, its number and its byte of the text. Want of memory has no number, which is written 0, and no place.
-    /// An empty text is refused at 0.
+    /// What it is called, its number and its byte of the text. Want of memory has no number, which is written 0, and
+    /// no place. An empty text is refused at 0.
     fn reason(&self) -> NewReason {
         match self {
             TextError::NotUtf8 { at } => NewReason::new("NotUtf8", 1, Some(*at)),
