@@ -122,7 +122,9 @@ fn note_word<'d, 't>(
 )
     requires word { value (tree_of first) ≡ Some word.now }
     requires places { length wanted.now ≡ length found.old }
-    ensures { map (option_map tree_of) found.new ≡ noted (tree_of part.entry) (tree_of first.entry) wanted.now (map (option_map tree_of) found.old) }
+    ensures { map (option_map tree_of) found.new
+        ≡ noted (tree_of part.entry) (tree_of first.entry) wanted.now
+        (map (option_map tree_of) found.old) }
 {
     for k in 0..wanted.len() {
         let sought = wanted[k];
@@ -141,7 +143,9 @@ fn note_any<'d, 't>(
     found: &mut [Option<Node<'d, 't>>],
 )
     requires { length wanted.now ≡ length found.old }
-    ensures { map (option_map tree_of) found.new ≡ noted (tree_of part.entry) (tree_of first.entry) wanted.now (map (option_map tree_of) found.old) }
+    ensures { map (option_map tree_of) found.new
+        ≡ noted (tree_of part.entry) (tree_of first.entry) wanted.now
+        (map (option_map tree_of) found.old) }
 {
     for k in 0..wanted.len() {
         let sought = wanted[k];
@@ -164,7 +168,9 @@ fn note_in_turn<'d, 't>(
     requires word { value (tree_of first) ≡ Some word.now }
     requires places { length wanted.now ≡ length found.old }
     requires distinct { are_distinct wanted.now ≡ true }
-    ensures { map (option_map tree_of) found.new ≡ noted (tree_of part.entry) (tree_of first.entry) wanted.now (map (option_map tree_of) found.old) }
+    ensures { map (option_map tree_of) found.new
+        ≡ noted (tree_of part.entry) (tree_of first.entry) wanted.now
+        (map (option_map tree_of) found.old) }
 {
     if next < wanted.len() && is_new_word(&found[next], first, word, wanted[next]) {
         found[next] = Some(part);
@@ -186,7 +192,9 @@ fn note_part<'d, 't>(
 ) -> usize
     requires places { length wanted.now ≡ length found.old }
     requires distinct { are_distinct wanted.now ≡ true }
-    ensures { map (option_map tree_of) found.new ≡ noted (tree_of part.entry) (tree_of first.entry) wanted.now (map (option_map tree_of) found.old) }
+    ensures { map (option_map tree_of) found.new
+        ≡ noted (tree_of part.entry) (tree_of first.entry) wanted.now
+        (map (option_map tree_of) found.old) }
 {
     match first.word() {
         Some(word) => note_in_turn(part, first, word, wanted, next, found),
@@ -229,7 +237,8 @@ pub fn find_elements<'d, 't>(
 /// What was found at this place.
 pub fn pick<'d, 't>(found: &[Option<Node<'d, 't>>], k: usize) -> Option<Node<'d, 't>>
     requires { k < length found.now }
-    ensures { option_map tree_of result ≡ slice_index_or (map (option_map tree_of) found.now) k None }
+    ensures { option_map tree_of result
+        ≡ slice_index_or (map (option_map tree_of) found.now) k None }
 {
     found[k]
 }
