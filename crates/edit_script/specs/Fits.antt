@@ -1,22 +1,24 @@
--- What the calls that carry commands out ask of them: texts and places of a script of at most 33,554,432 bytes. What a script gives
--- beside: added lists of at most 63 levels, so that each can stand in the list of a board, and shifts of at most 10^12 nanometres.
+-- What the calls that carry commands out ask of them: texts and places of a script that is not too long to be read. What a script
+-- gives beside: added lists of at most 63 levels, so that each can stand in the list of a board, and shifts of at most 10^12
+-- nanometres.
 use Rattle.std.specs.Prelude.{◌≡◌, ℕ, ℤ, ◌-◌, ◌≤◌, true, List, [], ◌∷◌, length, sum_by, All, unsigned_abs, ⊤}
+use Rattle.plain_types.specs.Limits.{IsInText, IsReadable}
 use Rattle.sexpr_read.specs.Tree.{Tree, span, parts, is_list, levels}
 use Rattle.sexpr_read.specs.Spelling.{SpellsAll}
 use Rattle.edit_script.specs.Commands.{PlainCommand, PlainStep, add, delete, move, rules, again, edit, undo, redo}
 use Rattle.edit_script.specs.CommandsOf.{standing}
 
 abbrev pub Fits : PlainCommand → Type 0
-Fits (add text at) = (length text ≤ 33554432) × (at ≤ 33554432)
-Fits (delete name at) = at ≤ 33554432
-Fits (move name dx dy at) = at ≤ 33554432
-Fits (rules text at) = (length text ≤ 33554432) × (at ≤ 33554432)
-Fits (again at) = at ≤ 33554432
+Fits (add text at) = IsReadable text × IsInText at
+Fits (delete name at) = IsInText at
+Fits (move name dx dy at) = IsInText at
+Fits (rules text at) = IsReadable text × IsInText at
+Fits (again at) = IsInText at
 
 abbrev pub StepFits : PlainStep → Type 0
 StepFits (edit command) = Fits command
-StepFits (undo at) = at ≤ 33554432
-StepFits (redo at) = at ≤ 33554432
+StepFits (undo at) = IsInText at
+StepFits (redo at) = IsInText at
 
 -- ---- what a script gives beside
 
@@ -47,12 +49,13 @@ IsNearIfMoved (move name dx dy at) = IsNear dx × IsNear dy
 IsNearIfMoved (rules text at) = ⊤
 IsNearIfMoved (again at) = ⊤
 
--- the same of a step
+-- no list that a step adds has more than 63 levels
 abbrev pub IsShallowStep : PlainStep → Type 0
 IsShallowStep (edit command) = IsShallowIfAdded command
 IsShallowStep (undo at) = ⊤
 IsShallowStep (redo at) = ⊤
 
+-- a step that moves is near either way
 abbrev pub IsNearStep : PlainStep → Type 0
 IsNearStep (edit command) = IsNearIfMoved command
 IsNearStep (undo at) = ⊤

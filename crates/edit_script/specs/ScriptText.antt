@@ -10,6 +10,6 @@ use Rattle.edit_script.specs.CommandsOf.{commands_of, steps_of}
 abbrev pub ScriptSays : List ℕ → Result (List PlainCommand) ScriptError → Type 0
 ScriptSays text answer = OfForms Text (λ tree told. told ≡ commands_of text tree) text answer
 
--- the same of a script with steps
+-- the text of a script with steps says this: steps, or a refusal
 abbrev pub SaysSteps : List ℕ → Result (List PlainStep) ScriptError → Type 0
 SaysSteps text answer = OfForms Text (λ tree told. told ≡ steps_of text tree) text answer

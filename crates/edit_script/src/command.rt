@@ -1,4 +1,4 @@
-//! Commands and steps.
+//! What the forms of a script ask for: commands, and steps of a history.
 
 use drc_io::Name;
 

@@ -1,6 +1,6 @@
 //! Why a script is refused.
 
-use plain_types::Reason;
+use plain_types::{HasReason, NewReason};
 use sexpr_read::TextError;
 use std::alloc::{AllocError, AllocFailed};
 use std::error::Error;
@@ -18,40 +18,21 @@ pub enum ScriptError {
     OutOfMemory,
 }
 
-impl ScriptError {
-    ghost use Rattle.std.specs.Prelude.{◌≡◌};
-    ghost use Rattle.plain_types.specs.Reasons.{plain_reason};
-    ghost use Rattle.edit_script.specs.Reasons.{reason_in, name_of, code_of, script_place_of};
+impl HasReason for ScriptError {
+    ghost use Rattle.edit_script.specs.Reasons.{script_reason};
 
-    fn reason(&self) -> Reason
-        ensures { plain_reason result ≡ reason_in self.now }
-    {
+    ghost reason_of = { script_reason };
+
+    ghost depth = { 2 };
+
+    /// What it is called, its number and its byte of the text; behind `Text` and 1 those of the text's refusal. Want of
+    /// memory has no number, which is written 0, and no place.
+    fn reason(&self) -> NewReason {
         match self {
-            ScriptError::Text(error) => error.carried_reason(),
-            ScriptError::Bad { at } => Reason::new("Bad", "2", Some(*at)),
-            ScriptError::OutOfMemory => Reason::new("OutOfMemory", "0", None),
+            ScriptError::Text(error) => error.reason().behind("Text", 1),
+            ScriptError::Bad { at } => NewReason::new("Bad", 2, Some(*at)),
+            ScriptError::OutOfMemory => NewReason::new("OutOfMemory", 0, None),
         }
-    }
-
-    /// Its name; behind `Text.` that of the text's refusal.
-    pub fn name(&self) -> &'static str
-        ensures { result.now ≡ name_of self.now }
-    {
-        self.reason().name
-    }
-
-    /// Its number; behind `1.` that of the text's refusal. Want of memory has none, which is written 0.
-    pub fn code(&self) -> &'static str
-        ensures { result.now ≡ code_of self.now }
-    {
-        self.reason().code
-    }
-
-    /// Its byte of the text, at most 33,554,432. Want of memory has no place.
-    pub fn place(&self) -> Option<u32>
-        ensures { result ≡ script_place_of self.now }
-    {
-        self.reason().place
     }
 }
 
@@ -79,14 +60,13 @@ impl<T: Drop> From<AllocFailed<T>> for ScriptError {
 
 impl fmt::Display for ScriptError {
     ghost use Rattle.std.specs.Prelude.{Some};
-    ghost use Rattle.edit_script.specs.Reasons.{script_reason_of};
+    ghost use Rattle.plain_types.specs.NewReasons.{written};
+    ghost use Rattle.edit_script.specs.Reasons.{script_reason};
 
-    ghost output = { λ e. Some (script_reason_of e) };
+    ghost output = { λ e. Some (written (script_reason e)) };
 
     fn fmt<W: fmt::Write>(&self, f: &mut fmt::Formatter<W>) -> fmt::Result {
-        let name = self.name();
-        let code = self.code();
-        write!(f, "{name} ({code})")
+        write!(f, "{}", self.reason())
     }
 }
 

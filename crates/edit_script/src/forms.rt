@@ -1,4 +1,4 @@
-//! The parts of a form behind its head.
+//! What the parts of a form behind its head have to be: an atom, a list, a number, or none.
 
 ghost use Rattle.std.specs.Prelude.{◌≡◌, IfOk};
 ghost use Rattle.sexpr_read.specs.Views.{tree_of, trees_left};

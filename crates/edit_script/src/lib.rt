@@ -5,6 +5,7 @@
 #![tactic(auto)]
 
 ghost use Rattle.std.specs.Prelude.{◌≡◌, ◌≤◌, ◌⊎◌, List, length, map, sum_by, All, IfOk, MatchResult, Result, Ok, Err};
+ghost use Rattle.plain_types.specs.Limits.{IsReadable};
 ghost use Rattle.edit_script.specs.declared.error.ScriptError.{ScriptError};
 ghost use Rattle.edit_script.specs.Commands.{PlainCommand, PlainStep, plain_command, plain_step};
 ghost use Rattle.edit_script.specs.Fits.{Fits, StepFits, AreShallow, IsShallowStep, IsNearIfMoved, IsNearStep, added_by, added_by_step};
@@ -31,13 +32,19 @@ use std::alloc::Global;
 /// is by more than 10^12 nanometres, and all added lists together have no more bytes than the script.
 #[tactic(auto, unfolding(crate::specs::CommandsOf::commands_of))]
 pub fn read_script<'t>(alloc: Global, text: &'t [u8]) -> Result<Vec<Command<'t>>, ScriptError>
-    requires { length text.now ≤ 33_554_432 }
-    ensures says { MatchResult result (λ commands. ScriptSays text.entry.now (Ok (map plain_command commands.items))) (λ e. (e ≡ ScriptError.OutOfMemory) ⊎ ScriptSays text.entry.now (Err e)) }
-    ensures only { (answer : Result (List PlainCommand) ScriptError) → ScriptSays text.entry.now answer → MatchResult result (λ commands. answer ≡ Ok (map plain_command commands.items)) (λ e. (e ≡ ScriptError.OutOfMemory) ⊎ (answer ≡ Err e)) }
+    requires { IsReadable text.now }
+    ensures says { MatchResult result
+        (λ commands. ScriptSays text.entry.now (Ok (map plain_command commands.items)))
+        (λ e. (e ≡ ScriptError.OutOfMemory) ⊎ ScriptSays text.entry.now (Err e)) }
+    ensures only { (answer : Result (List PlainCommand) ScriptError)
+        → ScriptSays text.entry.now answer
+        → MatchResult result (λ commands. answer ≡ Ok (map plain_command commands.items))
+        (λ e. (e ≡ ScriptError.OutOfMemory) ⊎ (answer ≡ Err e)) }
     ensures fit { IfOk result (λ commands. All Fits (map plain_command commands.items)) }
     ensures shallow { IfOk result (λ commands. AreShallow (map plain_command commands.items)) }
     ensures near { IfOk result (λ commands. All IsNearIfMoved (map plain_command commands.items)) }
-    ensures together { IfOk result (λ commands. sum_by added_by (map plain_command commands.items) ≤ length text.entry.now) }
+    ensures together { IfOk result
+        (λ commands. sum_by added_by (map plain_command commands.items) ≤ length text.entry.now) }
 {
     one_reading();
     spans_in_order();
@@ -48,16 +55,25 @@ pub fn read_script<'t>(alloc: Global, text: &'t [u8]) -> Result<Vec<Command<'t>>
     }
 }
 
-/// The same of a script in which `(undo)` and `(redo)` are forms too. How the two readers agree is a law, `steps_and_commands`.
+/// The steps of the text of a script in which `(undo)` and `(redo)` are forms too, of at most 33,554,432 bytes, in their order, or the
+/// first reason why there are none, with its place. The reasons are those of [`ScriptError`], exactly where `specs/ScriptText` has them;
+/// want of memory alone is free. Each step fits the calls that carry steps out, by `StepFits` of `specs/Fits`. Beside that no added list
+/// has more than 63 levels, no move is by more than 10^12 nanometres, and all added lists together have no more bytes than the script.
+/// How this reader and `read_script` agree is a law, `steps_and_commands`.
 #[tactic(auto, unfolding(crate::specs::CommandsOf::steps_of))]
 pub fn read_steps<'t>(alloc: Global, text: &'t [u8]) -> Result<Vec<Step<'t>>, ScriptError>
-    requires { length text.now ≤ 33_554_432 }
-    ensures says { MatchResult result (λ steps. SaysSteps text.entry.now (Ok (map plain_step steps.items))) (λ e. (e ≡ ScriptError.OutOfMemory) ⊎ SaysSteps text.entry.now (Err e)) }
-    ensures only { (answer : Result (List PlainStep) ScriptError) → SaysSteps text.entry.now answer → MatchResult result (λ steps. answer ≡ Ok (map plain_step steps.items)) (λ e. (e ≡ ScriptError.OutOfMemory) ⊎ (answer ≡ Err e)) }
+    requires { IsReadable text.now }
+    ensures says { MatchResult result
+        (λ steps. SaysSteps text.entry.now (Ok (map plain_step steps.items)))
+        (λ e. (e ≡ ScriptError.OutOfMemory) ⊎ SaysSteps text.entry.now (Err e)) }
+    ensures only { (answer : Result (List PlainStep) ScriptError) → SaysSteps text.entry.now answer
+        → MatchResult result (λ steps. answer ≡ Ok (map plain_step steps.items))
+        (λ e. (e ≡ ScriptError.OutOfMemory) ⊎ (answer ≡ Err e)) }
     ensures fit { IfOk result (λ steps. All StepFits (map plain_step steps.items)) }
     ensures shallow { IfOk result (λ steps. All IsShallowStep (map plain_step steps.items)) }
     ensures near { IfOk result (λ steps. All IsNearStep (map plain_step steps.items)) }
-    ensures together { IfOk result (λ steps. sum_by added_by_step (map plain_step steps.items) ≤ length text.entry.now) }
+    ensures together { IfOk result
+        (λ steps. sum_by added_by_step (map plain_step steps.items) ≤ length text.entry.now) }
 {
     one_reading();
     spans_in_order();

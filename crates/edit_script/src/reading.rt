@@ -1,6 +1,7 @@
 //! The command of a form, and the commands and steps of a script.
 
 ghost use Rattle.std.specs.Prelude.{◌≡◌, ◌≤◌, length, map, sum_by, IfOk, All};
+ghost use Rattle.plain_types.specs.Limits.{IsInText, IsReadable};
 ghost use Rattle.sexpr_read.specs.Tree.{parts};
 ghost use Rattle.sexpr_read.specs.Views.{tree_of, trees_left};
 ghost use Rattle.list_read.specs.Heads.{place};
@@ -30,12 +31,13 @@ fn standing<'t>(text: &'t [u8], node: Node<'_, '_>) -> &'t [u8]
 /// `(add LIST)`.
 #[tactic(auto, unfolding(crate::specs::CommandsOf::added, list_read::specs::Heads::behind_head))]
 fn added<'t>(text: &'t [u8], form: Node<'_, '_>) -> Result<Command<'t>, ScriptError>
-    requires size { length text.now ≤ 33_554_432 }
+    requires size { IsReadable text.now }
     requires form { FormStandsIn (length text.now) (tree_of form) }
     requires shallow { AllShallow text.now (parts (tree_of form)) }
     ensures read { Gives plain_command result (added text.entry.now (tree_of form.entry)) }
     ensures known { IfOk result (λ command. IsRead (plain_command command)) }
-    ensures size { IfOk result (λ command. added_by (plain_command command) ≤ size_of (tree_of form.entry)) }
+    ensures size { IfOk result
+        (λ command. added_by (plain_command command) ≤ size_of (tree_of form.entry)) }
 {
     let mut parts = behind_head(form);
     let Some(part) = parts.next() else {
@@ -52,7 +54,7 @@ fn added<'t>(text: &'t [u8], form: Node<'_, '_>) -> Result<Command<'t>, ScriptEr
 /// `(delete NAME)`.
 #[tactic(auto, unfolding(crate::specs::CommandsOf::deleted))]
 fn deleted<'t>(alloc: Global, form: Node<'_, '_>) -> Result<Command<'t>, ScriptError>
-    requires { place (tree_of form) ≤ 33_554_432 }
+    requires { IsInText (place (tree_of form)) }
     ensures read { Gives plain_command result (deleted (tree_of form.entry)) }
     ensures known { IfOk result (λ command. IsRead (plain_command command)) }
     ensures adds_nothing { IfOk result (λ command. added_by (plain_command command) ≡ 0) }
@@ -73,7 +75,7 @@ fn deleted<'t>(alloc: Global, form: Node<'_, '_>) -> Result<Command<'t>, ScriptE
 /// `(move NAME DX DY)`.
 #[tactic(auto, unfolding(crate::specs::CommandsOf::moved))]
 fn moved<'t>(alloc: Global, form: Node<'_, '_>) -> Result<Command<'t>, ScriptError>
-    requires { place (tree_of form) ≤ 33_554_432 }
+    requires { IsInText (place (tree_of form)) }
     ensures read { Gives plain_command result (moved (tree_of form.entry)) }
     ensures known { IfOk result (λ command. IsRead (plain_command command)) }
     ensures adds_nothing { IfOk result (λ command. added_by (plain_command command) ≡ 0) }
@@ -103,8 +105,9 @@ fn moved<'t>(alloc: Global, form: Node<'_, '_>) -> Result<Command<'t>, ScriptErr
 
 /// `(again)`.
 fn again<'t>(form: Node<'_, '_>) -> Result<Command<'t>, ScriptError>
-    requires { place (tree_of form) ≤ 33_554_432 }
-    ensures read { Gives plain_command result (alone (again (place (tree_of form.entry))) (tree_of form.entry)) }
+    requires { IsInText (place (tree_of form)) }
+    ensures read { Gives plain_command result
+        (alone (again (place (tree_of form.entry))) (tree_of form.entry)) }
     ensures known { IfOk result (λ command. IsRead (plain_command command)) }
     ensures adds_nothing { IfOk result (λ command. added_by (plain_command command) ≡ 0) }
 {
@@ -119,12 +122,13 @@ fn command_of<'t>(
     text: &'t [u8],
     form: Node<'_, '_>,
 ) -> Result<Command<'t>, ScriptError>
-    requires size { length text.now ≤ 33_554_432 }
+    requires size { IsReadable text.now }
     requires form { FormStandsIn (length text.now) (tree_of form) }
     requires shallow { AllShallow text.now (parts (tree_of form)) }
     ensures read { Gives plain_command result (command_of text.entry.now (tree_of form.entry)) }
     ensures known { IfOk result (λ command. IsRead (plain_command command)) }
-    ensures size { IfOk result (λ command. added_by (plain_command command) ≤ size_of (tree_of form.entry)) }
+    ensures size { IfOk result
+        (λ command. added_by (plain_command command) ≤ size_of (tree_of form.entry)) }
 {
     if has_word_head(form, b"add") {
         added(text, form)
@@ -147,12 +151,13 @@ fn command_of<'t>(
 /// The step of a form.
 #[tactic(auto, unfolding(crate::specs::CommandsOf::step_of))]
 fn step_of<'t>(alloc: Global, text: &'t [u8], form: Node<'_, '_>) -> Result<Step<'t>, ScriptError>
-    requires size { length text.now ≤ 33_554_432 }
+    requires size { IsReadable text.now }
     requires form { FormStandsIn (length text.now) (tree_of form) }
     requires shallow { AllShallow text.now (parts (tree_of form)) }
     ensures read { Gives plain_step result (step_of text.entry.now (tree_of form.entry)) }
     ensures known { IfOk result (λ step. IsReadStep (plain_step step)) }
-    ensures size { IfOk result (λ step. added_by_step (plain_step step) ≤ size_of (tree_of form.entry)) }
+    ensures size { IfOk result
+        (λ step. added_by_step (plain_step step) ≤ size_of (tree_of form.entry)) }
 {
     if has_word_head(form, b"undo") {
         no_more(behind_head(form))?;
@@ -175,13 +180,15 @@ pub(crate) fn commands_in<'t>(
     text: &'t [u8],
     forms: Children<'_, '_>,
 ) -> Result<Vec<Command<'t>>, ScriptError>
-    requires size { length text.now ≤ 33_554_432 }
+    requires size { IsReadable text.now }
     requires forms { FormsStandIn (length text.now) (trees_left forms) }
     requires shallow { FormsShallow text.now (trees_left forms) }
     requires room { HaveRoom (length text.now) (trees_left forms) }
-    ensures read { Gives (λ commands. map plain_command commands.items) result (each_of (command_of text.entry.now) (trees_left forms.entry)) }
+    ensures read { Gives (λ commands. map plain_command commands.items) result
+        (each_of (command_of text.entry.now) (trees_left forms.entry)) }
     ensures known { IfOk result (λ commands. All IsRead (map plain_command commands.items)) }
-    ensures together { IfOk result (λ commands. sum_by added_by (map plain_command commands.items) ≤ length text.entry.now) }
+    ensures together { IfOk result
+        (λ commands. sum_by added_by (map plain_command commands.items) ≤ length text.entry.now) }
 {
     let mut commands = Vec::new(alloc);
     for form in forms {
@@ -200,13 +207,15 @@ pub(crate) fn steps_in<'t>(
     text: &'t [u8],
     forms: Children<'_, '_>,
 ) -> Result<Vec<Step<'t>>, ScriptError>
-    requires size { length text.now ≤ 33_554_432 }
+    requires size { IsReadable text.now }
     requires forms { FormsStandIn (length text.now) (trees_left forms) }
     requires shallow { FormsShallow text.now (trees_left forms) }
     requires room { HaveRoom (length text.now) (trees_left forms) }
-    ensures read { Gives (λ steps. map plain_step steps.items) result (each_of (step_of text.entry.now) (trees_left forms.entry)) }
+    ensures read { Gives (λ steps. map plain_step steps.items) result
+        (each_of (step_of text.entry.now) (trees_left forms.entry)) }
     ensures known { IfOk result (λ steps. All IsReadStep (map plain_step steps.items)) }
-    ensures together { IfOk result (λ steps. sum_by added_by_step (map plain_step steps.items) ≤ length text.entry.now) }
+    ensures together { IfOk result
+        (λ steps. sum_by added_by_step (map plain_step steps.items) ≤ length text.entry.now) }
 {
     let mut steps = Vec::new(alloc);
     for form in forms {
