@@ -1,12 +1,12 @@
 -- What a board is after a net or an item was added, or its layers were set.
-use Rattle.std.proofs.Common.{◌≡◌, ℕ, ◌+◌, ◌-◌, ◌<◌, min, max, false, cond, List, [], ◌∷◌, ◌++◌, length, Option, None, Some, is_some, nat_eq, refl, sym, ◌∙◌, ap, subst, arith, length-append}
+use Rattle.std.proofs.Common.{◌≡◌, ℕ, ◌+◌, ◌-◌, ◌<◌, min, max, true, false, cond, List, [], ◌∷◌, ◌++◌, length, Option, None, Some, is_some, nat_eq, refl, sym, ◌∙◌, ap, subst, arith, length-append}
 use Rattle.board_items.specs.declared.item.Item.{Item}
-use Rattle.board_items.specs.Boards.{PlainBoard, IsSound, Rise, UnitsBelow, AllAdmitted, name_of, with_net, marks_of}
+use Rattle.board_items.specs.Boards.{PlainBoard, IsSound, Rise, UnitsBelow, AllAdmitted, name_of, with_net, is_admitted, marks_of}
 use Rattle.copper_layers.specs.declared.set.LayerSet.{LayerSet}
-use Rattle.board_items.specs.Refusals.{room_of, refusal_of}
+use Rattle.board_items.specs.Refusals.{room_of}
 use Rattle.board_items.proofs.Rising.{rise_added, units_added, marks-append}
 use Rattle.board_items.proofs.Nets.{still_first, distinct_added}
-use Rattle.board_items.proofs.Admitted.{all_kept, all_added, still_declared, admitted_declared, admitted_layered, admitted_unless}
+use Rattle.board_items.proofs.Admitted.{all_kept, all_added, still_declared, admitted_declared, admitted_layered}
 
 pub no_value : {X : Type 0} (o : Option X) → is_some o ≡ false → o ≡ None
 no_value None h = refl
@@ -49,10 +49,10 @@ room_left : (n k : ℕ) → 0 < min (200000 - n) (4294967295 - k) → (n < 20000
 room_left n k h = (grind arith, grind arith)
 
 pub sound_added : (b : PlainBoard) (item : Item) (items : List (ℕ × Item)) (marks more : List ℕ) (next_unit : ℕ)
-    → IsSound b → marks ≡ marks_of b.items → refusal_of b item ≡ None → 0 < room_of b → item.unit < 4294967295
+    → IsSound b → marks ≡ marks_of b.items → is_admitted b item ≡ true → 0 < room_of b → item.unit < 4294967295
     → items ≡ b.items ++ (b.next_id, item) ∷ [] → more ≡ marks ++ marks_of ((b.next_id, item) ∷ []) → next_unit ≡ max b.next_unit (item.unit + 1)
     → IsSound (record { copper = b.copper; nets = b.nets; items = items; next_id = b.next_id + 1; next_unit = next_unit }) × (more ≡ marks_of items)
-sound_added b item items marks more next_unit s m free room unit e f u =
+sound_added b item items marks more next_unit s m may room unit e f u =
     let left = room_left (length b.items) b.next_id room in (
       record {
         ids = subst (λ (xs : List (ℕ × Item)). Rise 0 (b.next_id + 1) xs) (sym e) (rise_added 0 b.next_id b.items item s.ids);
@@ -65,7 +65,7 @@ sound_added b item items marks more next_unit s m free room unit e f u =
         distinct = s.distinct;
         no_net = s.no_net;
         admitted = all_kept b (record { copper = b.copper; nets = b.nets; items = items; next_id = b.next_id + 1; next_unit = next_unit }) (λ i h. h) items
-            (subst (λ (xs : List (ℕ × Item)). AllAdmitted b xs) (sym e) (all_added b b.next_id item (admitted_unless b item free) b.items s.admitted));
+            (subst (λ (xs : List (ℕ × Item)). AllAdmitted b xs) (sym e) (all_added b b.next_id item may b.items s.admitted));
       },
       f ∙ ap (λ ms. ms ++ marks_of ((b.next_id, item) ∷ [])) m ∙ sym (marks-append b.items ((b.next_id, item) ∷ [])) ∙ ap marks_of (sym e),
     )

@@ -1,12 +1,13 @@
 -- The parts of an item move with it.
-use Rattle.std.proofs.Common.{ℤ, pos, ◌*ℤ◌, List, [], ◌∷◌, ◌++◌, Option, None, Some, sym, subst}
+use Rattle.std.proofs.Common.{◌≡◌, ℕ, ℤ, pos, ◌*ℤ◌, Bool, true, false, MatchBool, List, [], ◌∷◌, ◌++◌, Option, None, Some, sym, subst}
 use Rattle.std.specs.List.{AllZip}
 use Rattle.board_items.specs.declared.item.Hole.{Hole}
 use Rattle.board_items.specs.declared.item.What.{What}
 use Rattle.board_items.specs.declared.item.What.TheVariants.{Track, Via, Pad, Graphic, Fill, Edge, Area, Body, Note}
 use Rattle.board_items.specs.declared.item.Item.{Item}
-use Rattle.board_items.specs.Parts.{parts_of, hole_parts, kind_parts}
-use Rattle.board_items.specs.Moves.{IsShiftedPart, AreShifted, HoleIsShifted, KindIsShifted, IsShiftedItem}
+use Rattle.board_items.specs.Parts.{parts_of, hole_parts, kind_parts, FirstHasPoints}
+use Rattle.board_items.specs.Moves.{IsShiftedPart, AreShifted, HoleIsShifted, KindIsShifted, IsShiftedItem, moves}
+use Rattle.board_items.specs.Slots.{IsMovedItem}
 
 zip_append : {X : Type 0} (R : X → X → Type 0) (xs ys us vs : List X) → AllZip R xs ys → AllZip R us vs → AllZip R (xs ++ us) (ys ++ vs)
 zip_append R [] [] us vs h k = k
@@ -35,3 +36,11 @@ pub parts_zip : (dx dy : ℤ) (a b : Item) → IsShiftedItem dx dy a b → AreSh
 parts_zip dx dy a b s =
     zip_append (IsShiftedPart (pos 2 *ℤ dx) (pos 2 *ℤ dy)) a.copper b.copper (hole_parts a.hole ++ kind_parts a.what) (hole_parts b.hole ++ kind_parts b.what) s.copper
     (zip_append (IsShiftedPart (pos 2 *ℤ dx) (pos 2 *ℤ dy)) (hole_parts a.hole) (hole_parts b.hole) (kind_parts a.what) (kind_parts b.what) (hole_zip (pos 2 *ℤ dx) (pos 2 *ℤ dy) a.hole b.hole s.hole) (kind_zip (pos 2 *ℤ dx) (pos 2 *ℤ dy) a.what b.what s.what))
+
+-- where points are of no matter
+pub moved_item : (unit : ℕ) (dx dy : ℤ) (o n : Item) → IsMovedItem unit dx dy o n → MatchBool (moves unit o) (IsShiftedItem dx dy o n) (n ≡ o)
+moved_item unit dx dy o n h = by (moves unit o) h
+  where
+    by : (b : Bool) → MatchBool b (IsShiftedItem dx dy o n × FirstHasPoints (parts_of o)) (n ≡ o) → MatchBool b (IsShiftedItem dx dy o n) (n ≡ o)
+    by true k = k.0
+    by false k = k

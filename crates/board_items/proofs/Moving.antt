@@ -1,9 +1,10 @@
 -- A board after the items of a unit were moved.
-use Rattle.std.proofs.Common.{◌≡◌, ◌⊎◌, ℕ, ◌+◌, ◌<◌, ◌≤◌, ℤ, pos, neg_ℤ, ◌+ℤ◌, ◌*ℤ◌, unsigned_abs, Bool, true, false, cond, ◌&&◌, List, [], ◌∷◌, ◌++◌, length, map, filter, All, Vec, nat_eq, Option, None, Some, is_some, inl, inr, refl, sym, ◌∙◌, ap, subst, arith}
+use Rattle.std.proofs.Common.{◌≡◌, ◌⊎◌, ℕ, ◌+◌, ◌<◌, ◌≤◌, ℤ, pos, neg_ℤ, ◌+ℤ◌, ◌*ℤ◌, unsigned_abs, FitsSigned, Bool, true, false, cond, ◌&&◌, List, [], ◌∷◌, ◌++◌, length, map, filter, All, Vec, nat_eq, Option, None, Some, is_some, inl, inr, refl, sym, ◌∙◌, ap, subst, arith}
 use Rattle.std.proofs.lemmas.Int.{ints}
 use Rattle.std.proofs.lemmas.Bool.{and_from, and_parts}
 use Rattle.std.specs.Int.Signed.{le_z}
-use Rattle.int_algebra.proofs.Scalars.{passed}
+use Rattle.int_algebra.proofs.Scalars.{passed, clean}
+use mir.Syntax.{w64}
 use Rattle.std.proofs.lemmas.List.Elements.{All-nil, All-cons}
 use Rattle.std.specs.Prelude.{MatchBool}
 use Rattle.std.specs.List.{AllZip, list_all}
@@ -259,6 +260,14 @@ lengths_moved dx dy (Edge lines) b h l = subst HasLengths (sym h.1) (no_lengths 
 lengths_moved dx dy (Area t s p) b h l = subst HasLengths (sym h.1) (no_lengths (Area t s h.0) (λ w e. absurd cc) (λ s d m k e. absurd cc))
 lengths_moved dx dy (Body r f k o) b h l = subst HasLengths (sym h.2) (no_lengths (Body r h.0 h.1 o) (λ w e. absurd cc) (λ s d m k e. absurd cc))
 lengths_moved dx dy (Note a k) b h l = subst HasLengths (sym h) l
+
+-- ---- by distances that were passed on
+pub stays_passed : (unit : ℕ) (dx dy : ℤ) (xs ys : List (Option Item)) → FitsSigned w64 dx → FitsSigned w64 dy → xs ≡ ys → unit_stays unit dx dy (present 0 ys) ≡ true
+    → list_all (λ slot. slot_stays unit (passed dx) (passed dy) slot) xs ≡ true
+stays_passed unit dx dy xs ys fits_x fits_y same stays =
+    ap (λ (x : ℤ). list_all (λ slot. slot_stays unit x (passed dy) slot) xs) (clean dx fits_x)
+    ∙ ap (λ (y : ℤ). list_all (λ slot. slot_stays unit dx y slot) xs) (clean dy fits_y)
+    ∙ ap (list_all (λ slot. slot_stays unit dx dy slot)) same ∙ sym (stays_slots unit dx dy 0 ys) ∙ stays
 
 -- ---- all that the board keeps
 pub kept_moved : (b : PlainBoard) (unit : ℕ) (dx dy : ℤ) (v : Vec (Option Item) Global) (xs from ws : List (Option Item)) (marks : List ℕ) (lists : List (Vec ℕ Global)) (live : ℕ) → IsKept b marks lists live

@@ -1,11 +1,15 @@
 -- What a row of slots holds.
 use Rattle.std.proofs.Common.{◌≡◌, ◌≢◌, ◌∙◌, ap, sym, subst, refl, ℕ, ◌+◌, ◌<◌, ◌≤◌, zero, suc, ℤ, Bool, true, false, cond, not, ◌&&◌, nat_eq, nat_lt, List, [], ◌∷◌, ◌++◌, length, get_or, set, filter, Option, None, Some, arith, eq-eqb}
+use Rattle.std.specs.Prelude.{MatchBool}
 use Rattle.std.specs.List.{AllZip, list_all, slice_get}
+use Rattle.std.proofs.lemmas.List.Elements.{All-nil, All-cons}
 use Rattle.std.proofs.lemmas.Bool.{eqb-true, ne_eqb}
 use Rattle.board_items.specs.declared.item.Item.{Item}
 use Rattle.board_items.specs.Boards.{PlainBoard, item_at}
-use Rattle.board_items.specs.Moves.{IsMovedEntry, moves, item_stays, unit_stays}
+use Rattle.board_items.specs.Parts.{parts_of, FirstHasPoints}
+use Rattle.board_items.specs.Moves.{IsShiftedItem, IsMovedEntry, HaveFirstPoints, moves, item_stays, unit_stays}
 use Rattle.board_items.specs.Slots.{present, at_slot, without_id, is_slot_of, slot_stays, IsMovedSlot}
+use Rattle.board_items.proofs.MovedParts.{moved_item}
 
 -- ---- numbers
 is_lt : (a b : ℕ) → a < b → nat_lt a b ≡ true
@@ -209,7 +213,18 @@ moved_slots unit dx dy k (o ∷ os) [] h = absurd h
 moved_slots unit dx dy k (None ∷ os) (None ∷ ns) h = moved_slots unit dx dy (k + 1) os ns h.1
 moved_slots unit dx dy k (None ∷ os) (Some n ∷ ns) h = absurd h.0
 moved_slots unit dx dy k (Some o ∷ os) (None ∷ ns) h = absurd h.0
-moved_slots unit dx dy k (Some o ∷ os) (Some n ∷ ns) h = (record { id = refl; item = h.0 }, moved_slots unit dx dy (k + 1) os ns h.1)
+moved_slots unit dx dy k (Some o ∷ os) (Some n ∷ ns) h = (record { id = refl; item = moved_item unit dx dy o n h.0 }, moved_slots unit dx dy (k + 1) os ns h.1)
+
+-- what moved starts with a part that has points
+pub points_moved : (unit : ℕ) (dx dy : ℤ) (k : ℕ) (old new : List (Option Item)) → AllZip (IsMovedSlot unit dx dy) old new → HaveFirstPoints unit (present k old)
+points_moved unit dx dy k [] new h = All-nil (λ (e : ℕ × Item). moves unit e.1 ≡ true → FirstHasPoints (parts_of e.1))
+points_moved unit dx dy k (o ∷ os) [] h = absurd h
+points_moved unit dx dy k (None ∷ os) (None ∷ ns) h = points_moved unit dx dy (k + 1) os ns h.1
+points_moved unit dx dy k (None ∷ os) (Some n ∷ ns) h = absurd h.0
+points_moved unit dx dy k (Some o ∷ os) (None ∷ ns) h = absurd h.0
+points_moved unit dx dy k (Some o ∷ os) (Some n ∷ ns) h =
+    All-cons (λ (e : ℕ × Item). moves unit e.1 ≡ true → FirstHasPoints (parts_of e.1)) (k, o) (present (k + 1) os)
+    (λ m. (subst (λ (b : Bool). MatchBool b (IsShiftedItem dx dy o n × FirstHasPoints (parts_of o)) (n ≡ o)) m h.0).1) (points_moved unit dx dy (k + 1) os ns h.1)
 
 pub same_row : {X : Type 0} (R : X → X → Type 0) (old new : List X) → AllZip R old new → length new ≡ length old
 same_row R [] [] h = refl

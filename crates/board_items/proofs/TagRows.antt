@@ -11,6 +11,7 @@ use Rattle.board_items.specs.declared.item.Item.{Item}
 use Rattle.board_items.specs.Moves.{IsShiftedItem, moves}
 use Rattle.board_items.specs.Slots.{present, IsMovedSlot}
 use Rattle.board_items.specs.Tags.{tag_of, IsTagIn, AreTagsIn, is_tag_in, are_tags_in, all_named, named_from, only_named}
+use Rattle.board_items.proofs.MovedParts.{moved_item}
 use Rattle.board_items.proofs.Walking.{left_at}
 
 pub as_many : (slots : List (Option Item)) (tags : List ℕ) → AreTagsIn slots tags → length tags ≡ length slots
@@ -73,7 +74,7 @@ tags_moved unit dx dy v from ws tags h f long zip =
     moved (None ∷ os) (None ∷ ns) (t ∷ ts) h z = (tt, moved os ns ts h.1 z.1)
     moved (None ∷ os) (Some n ∷ ns) (t ∷ ts) h z = absurd z.0
     moved (Some o ∷ os) (None ∷ ns) (t ∷ ts) h z = absurd z.0
-    moved (Some o ∷ os) (Some n ∷ ns) (t ∷ ts) h z = (kept_tag unit dx dy o n z.0 ∙ h.0, moved os ns ts h.1 z.1)
+    moved (Some o ∷ os) (Some n ∷ ns) (t ∷ ts) h z = (kept_tag unit dx dy o n (moved_item unit dx dy o n z.0) ∙ h.0, moved os ns ts h.1 z.1)
 
 -- ---- the row of tags as a test
 shown_in : (s : Option Item) (t : ℕ) → IsTagIn s t → is_tag_in s t ≡ true

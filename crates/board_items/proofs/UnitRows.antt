@@ -7,8 +7,10 @@ use Rattle.std.specs.Vec.{with_items}
 use Rattle.std.specs.List.{AllZip, list_all}
 use Rattle.std.specs.declared.alloc.Global.{Global}
 use Rattle.board_items.specs.declared.item.Item.{Item}
+use Rattle.board_items.specs.Parts.{parts_of, FirstHasPoints}
 use Rattle.board_items.specs.Moves.{IsShiftedItem, moves, is_note, item_stays}
 use Rattle.board_items.specs.Slots.{present, unit_items, only_of, without_id, is_slot_of, IsUnitIn, AreUnitsIn, is_unit_in, are_units_in, slot_stays, IsMovedSlot}
+use Rattle.board_items.proofs.MovedParts.{moved_item}
 use Rattle.board_items.proofs.Walking.{left_at}
 use Rattle.board_items.proofs.SlotLists.{part, without_part, empty_slot}
 
@@ -68,7 +70,7 @@ units_moved unit dx dy v from ws units h f long zip =
     moved (None ∷ os) (None ∷ ns) (u ∷ us) h z = (tt, moved os ns us h.1 z.1)
     moved (None ∷ os) (Some n ∷ ns) (u ∷ us) h z = absurd z.0
     moved (Some o ∷ os) (None ∷ ns) (u ∷ us) h z = absurd z.0
-    moved (Some o ∷ os) (Some n ∷ ns) (u ∷ us) h z = (kept_unit unit dx dy o n z.0 ∙ h.0, moved os ns us h.1 z.1)
+    moved (Some o ∷ os) (Some n ∷ ns) (u ∷ us) h z = (kept_unit unit dx dy o n (moved_item unit dx dy o n z.0) ∙ h.0, moved os ns us h.1 z.1)
 
 -- ---- walks over slots
 pub stays_on : {X : Type 0} (f : X → Bool) (xs : List X) (i : ℕ) (d : X) → list_all f xs ≡ list_all f (drop i xs) → i < length xs → list_all f xs ≡ f (get_or xs i d) && list_all f (drop (suc i) xs)
@@ -95,7 +97,7 @@ pub own_moves_not : (unit own : ℕ) (dx dy : ℤ) (s : Option Item) → IsUnitI
 own_moves_not unit own dx dy None h e = (refl, tt)
 own_moves_not unit own dx dy (Some x) h e =
     let still : moves unit x ≡ false = ap (λ b. b && not (is_note x.what)) (ap (λ n. nat_eq n unit) h ∙ e) in
-    (ap (λ b. cond b (item_stays dx dy x) true) still, subst (λ b. MatchBool b (IsShiftedItem dx dy x x) (x ≡ x)) (sym still) refl)
+    (ap (λ b. cond b (item_stays dx dy x) true) still, subst (λ b. MatchBool b (IsShiftedItem dx dy x x × FirstHasPoints (parts_of x)) (x ≡ x)) (sym still) refl)
 
 -- ---- the items of a unit
 pub one_of : (unit k : ℕ) (s : Option Item) (ss : List (Option Item)) (x : Item) → only_of unit s ≡ Some x → unit_items unit k (s ∷ ss) ≡ (k, x) ∷ unit_items unit (k + 1) ss

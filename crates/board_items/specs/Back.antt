@@ -1,6 +1,7 @@
 -- Units that are taken out of a board, and put back under the ids that their items had.
 use Rattle.std.specs.Prelude.{◌≡◌, ◌≢◌, ◌⊎◌, ◌<◌, ◌≤◌, ℕ, ◌+◌, ◌&&◌, true, List, [], ◌∷◌, length, filter, nat_eq, nat_lt, None, All, Contains, if◌then◌else◌}
 use Rattle.std.specs.List.{AllPairs}
+use Rattle.plain_types.specs.Limits.{most_items}
 use Rattle.board_items.specs.declared.back.Kept.{Kept}
 use Rattle.board_items.specs.declared.item.Item.{Item}
 use Rattle.board_items.specs.Boards.{PlainBoard, Rise, item_at, is_admitted}
@@ -35,7 +36,7 @@ pub record FitsBack (board : PlainBoard) (items : List (ℕ × Item)) : Type 0 w
   pub given : All (λ e. e.1.unit < board.next_unit) items
   pub gone : All (λ e. e.1.unit ≢ unit) board.items
   pub admitted : All (λ e. is_admitted board e.1 ≡ true) items
-  pub few : length board.items + length items ≤ 200000
+  pub few : length board.items + length items ≤ most_items
 
 -- ---- one item at a time
 -- the entry stands before the first one with a greater id
@@ -59,7 +60,7 @@ pub record FitsOne (board : PlainBoard) (e : ℕ × Item) : Type 0 where
   pub free : item_at board.items e.0 ≡ None
   pub unit : e.1.unit < board.next_unit
   pub admitted : is_admitted board e.1 ≡ true
-  pub few : length board.items < 200000
+  pub few : length board.items < most_items
 
 -- the item of the id, where it is of the unit
 abbrev pub own_at : ℕ → ℕ → List (ℕ × Item) → List (ℕ × Item)

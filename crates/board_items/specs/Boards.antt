@@ -4,6 +4,7 @@ use Rattle.std.specs.Int.Signed.{le_z}
 use Rattle.std.specs.List.{list_all}
 use Rattle.std.specs.Map.{lookup}
 use Rattle.plain_types.specs.Lengths.{greatest}
+use Rattle.plain_types.specs.Limits.{most_items}
 use Rattle.copper_layers.specs.declared.set.LayerSet.{LayerSet}
 use Rattle.board_items.specs.declared.item.What.{What}
 use Rattle.board_items.specs.declared.item.What.TheVariants.{Area, Body}
@@ -112,7 +113,7 @@ pub record IsSound (board : PlainBoard) : Type 0 where
   pub units : UnitsBelow board.next_unit board.items
   pub last_id : board.next_id ≤ 4294967295
   pub last_unit : board.next_unit ≤ 4294967295
-  pub few : length board.items ≤ 200000
+  pub few : length board.items ≤ most_items
   pub first_net : slice_get board.nets 0 ≡ Some (0, [])
   pub distinct : AreDistinct board.nets
   pub no_net : is_some (name_of board 0) ≡ true

@@ -1,5 +1,5 @@
 -- Items that are moved. Positions move by nanometres; shapes count half nanometres, so they move by the doubles.
-use Rattle.std.specs.Prelude.{◌≡◌, ℕ, ℤ, pos, ◌+ℤ◌, ◌*ℤ◌, Bool, true, false, ◌&&◌, not, nat_eq, List, Option, None, Some, MatchBool, if◌then◌else◌}
+use Rattle.std.specs.Prelude.{◌≡◌, ℕ, ℤ, pos, ◌+ℤ◌, ◌*ℤ◌, Bool, true, false, ◌&&◌, not, nat_eq, List, Option, None, Some, All, MatchBool, if◌then◌else◌}
 use Rattle.std.specs.List.{AllZip, list_all}
 use Rattle.geo_seg.specs.Shifts.{IsShiftedShape, core_stays}
 use Rattle.board_items.specs.declared.parts.Part.{Part}
@@ -7,7 +7,7 @@ use Rattle.board_items.specs.declared.item.Hole.{Hole}
 use Rattle.board_items.specs.declared.item.What.{What}
 use Rattle.board_items.specs.declared.item.What.TheVariants.{Edge, Area, Body, Note}
 use Rattle.board_items.specs.declared.item.Item.{Item}
-use Rattle.board_items.specs.Parts.{parts_of}
+use Rattle.board_items.specs.Parts.{parts_of, FirstHasPoints}
 use Rattle.board_items.specs.Boards.{PlainBoard, is_near}
 
 -- ---- shapes, moved by half nanometres
@@ -78,3 +78,7 @@ pub record IsMovedEntry (unit : ℕ) (dx dy : ℤ) (old new : ℕ × Item) : Typ
 pub record IsMoved (unit : ℕ) (dx dy : ℤ) (old new : PlainBoard) : Type 0 where
   pub items : AllZip (IsMovedEntry unit dx dy) old.items new.items
   pub others : new ≡ record old { items = new.items }
+
+-- the first part of each item that moves, if it has one, has points
+abbrev pub HaveFirstPoints : ℕ → List (ℕ × Item) → Type 0
+HaveFirstPoints unit items = All (λ entry. moves unit entry.1 ≡ true → FirstHasPoints (parts_of entry.1)) items

@@ -1,6 +1,8 @@
 -- The parts of an item: its copper, its hole, and by its kind the lines of an edge, the area of a rule area, or the
 -- courtyards of a footprint, those of the front first.
-use Rattle.std.specs.Prelude.{List, [], ◌∷◌, ◌++◌, Option, None, Some}
+use Rattle.std.specs.Prelude.{◌≤◌, List, [], ◌∷◌, ◌++◌, length, Option, None, Some}
+use Rattle.geo_seg.specs.declared.shapes.Core.{Core}
+use Rattle.geo_seg.specs.declared.shapes.Core.TheVariants.{Line, Area as Polygon}
 use Rattle.board_items.specs.declared.parts.Part.{Part}
 use Rattle.board_items.specs.declared.item.Hole.{Hole}
 use Rattle.board_items.specs.declared.item.What.{What}
@@ -21,3 +23,14 @@ kind_parts _ = []
 
 abbrev pub parts_of : Item → List Part
 parts_of item = item.copper ++ (hole_parts item.hole ++ kind_parts item.what)
+
+-- ---- points
+-- a segment has points, and so has a polygon with corners
+abbrev pub HasPoints : Core → Type 0
+HasPoints (Line s) = Unit {0}
+HasPoints (Polygon corners) = 3 ≤ length corners
+
+-- the first part, if there is one, has points
+abbrev pub FirstHasPoints : List Part → Type 0
+FirstHasPoints [] = Unit {0}
+FirstHasPoints (part ∷ parts) = HasPoints part.shape.core

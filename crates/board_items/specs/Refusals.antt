@@ -1,5 +1,6 @@
 -- When an item is refused: the first of four reasons, in this order.
 use Rattle.std.specs.Prelude.{ℕ, ◌-◌, min, not, length, nat_le, Option, None, Some, Result, Ok, Err, is_some, if◌then◌else◌}
+use Rattle.plain_types.specs.Limits.{most_items}
 use Rattle.board_errors.specs.declared.errors.ItemError.{ItemError}
 use Rattle.board_errors.specs.declared.errors.ItemError.TheVariants.{OutOfBoard, UnknownNet, UnknownLayer, TooMany, OutOfMemory}
 use Rattle.board_items.specs.declared.item.Item.{Item}
@@ -8,7 +9,7 @@ pub use Rattle.board_items.specs.Boards.{is_near, is_on_board, has_layers_of}
 
 -- how many more items a board takes: up to 200,000 items, and as long as an id below 2 ^ 32 - 1 is left
 abbrev pub room_of : PlainBoard → ℕ
-room_of board = min (200000 - length board.items) (4294967295 - board.next_id)
+room_of board = min (most_items - length board.items) (4294967295 - board.next_id)
 
 abbrev pub refusal_of : PlainBoard → Item → Option ItemError
 refusal_of board item =

@@ -1,6 +1,7 @@
 -- Items by id, kept as a row of slots: slot k is for the id k, and it is empty once its item was taken out.
 use Rattle.std.specs.Prelude.{◌≡◌, ◌<◌, ◌≤◌, ℕ, ◌+◌, ℤ, Bool, true, false, ◌&&◌, not, nat_eq, List, [], ◌∷◌, length, get_or, filter, Option, None, Some, MatchBool, if◌then◌else◌}
 use Rattle.board_items.specs.declared.item.Item.{Item}
+use Rattle.board_items.specs.Parts.{parts_of, FirstHasPoints}
 use Rattle.board_items.specs.Boards.{is_on_board}
 use Rattle.board_items.specs.Moves.{IsShiftedItem, moves, item_stays}
 
@@ -93,8 +94,13 @@ abbrev pub slot_stays : ℕ → ℤ → ℤ → Option Item → Bool
 slot_stays unit dx dy None = true
 slot_stays unit dx dy (Some item) = if moves unit item then item_stays dx dy item else true
 
+-- the item is moved if it moves with the unit; then its first part has points
+abbrev pub IsMovedItem : ℕ → ℤ → ℤ → Item → Item → Type 0
+IsMovedItem unit dx dy old new =
+    MatchBool (moves unit old) (IsShiftedItem dx dy old new × FirstHasPoints (parts_of old)) (new ≡ old)
+
 abbrev pub IsMovedSlot : ℕ → ℤ → ℤ → Option Item → Option Item → Type 0
 IsMovedSlot unit dx dy None None = Unit {0}
 IsMovedSlot unit dx dy None (Some new) = ⊥
 IsMovedSlot unit dx dy (Some old) None = ⊥
-IsMovedSlot unit dx dy (Some old) (Some new) = MatchBool (moves unit old) (IsShiftedItem dx dy old new) (new ≡ old)
+IsMovedSlot unit dx dy (Some old) (Some new) = IsMovedItem unit dx dy old new

@@ -60,7 +60,8 @@ impl Board {
     fn take_into(&mut self, unit: u32, items: &mut Vec<Kept>)
         requires { vec_len items.old + length (entries_of unit self.old.items) ≤ vec_capacity items.old }
         ensures taken { self.new ≡ without_unit self.old unit }
-        ensures items { map kept_entry items.new.items ≡ map kept_entry items.old.items ++ entries_of unit self.old.items }
+        ensures items { map kept_entry items.new.items ≡ map kept_entry items.old.items ++
+            entries_of unit self.old.items }
     {
         let places = self.places_of(unit);
         for id in places.from..places.end {
@@ -72,8 +73,12 @@ impl Board {
     fn take_own(&mut self, id: u32, unit: u32, items: &mut Vec<Kept>)
         requires id { id < self.old.next_id }
         requires room { vec_len items.old + length (own_at id unit self.old.items) ≤ vec_capacity items.old }
-        ensures taken { self.new ≡ record self.old { items = filter (λ entry. not (nat_eq entry.0 id && nat_eq entry.1.unit unit)) self.old.items } }
-        ensures items { map kept_entry items.new.items ≡ map kept_entry items.old.items ++ own_at id unit self.old.items }
+        ensures taken { self.new ≡ record self.old {
+          items = filter
+              (λ entry. not (nat_eq entry.0 id && nat_eq entry.1.unit unit)) self.old.items;
+        } }
+        ensures items { map kept_entry items.new.items ≡ map kept_entry items.old.items ++
+            own_at id unit self.old.items }
         ensures len { vec_len items.new ≡ vec_len items.old + length (own_at id unit self.old.items) }
         ensures capacity { vec_capacity items.new ≡ vec_capacity items.old }
     {
@@ -112,7 +117,7 @@ fn put_id(ids: &mut Vec<u32>, id: u32)
     prove!(put);
 }
 
-/// The same where it belongs there.
+/// Puts an id among others where it belongs there, and for which there is room.
 fn put_if(ids: &mut Vec<u32>, id: u32, listed: bool)
     requires { vec_len ids.old < vec_capacity ids.old }
     ensures { ids.new.items ≡ (if listed then id_placed id ids.old.items else ids.old.items) }
@@ -144,7 +149,8 @@ pub(crate) fn make_room(
 fn put_unit(in_order: bool, units: &mut Vec<u32>, id: u32, unit: u32) -> bool
     requires { id < vec_len units.old }
     ensures row { units.new.items ≡ set units.old.items id unit }
-    ensures rise { (in_order ≡ true → UnitsRise 0 units.old.items) → result ≡ true → UnitsRise 0 units.new.items }
+    ensures rise { (in_order ≡ true → UnitsRise 0 units.old.items) → result ≡ true →
+        UnitsRise 0 units.new.items }
 {
     let same = units[id as usize] == unit;
     units[id as usize] = unit;
@@ -180,7 +186,10 @@ impl Board {
     /// Puts one item back, or gives it back where memory is wanting.
     fn put_one(&mut self, kept: Kept) -> Result<(), Kept>
         requires { FitsOne self.old (kept_entry kept) }
-        ensures put { OnOk result (self.new ≡ record self.old { items = placed (kept_entry kept) self.old.items }) }
+        ensures put { OnOk result (self.new ≡ record self.old {
+          items = placed (kept_entry kept)
+              self.old.items;
+        }) }
         ensures same { IfErr result (λ other. other ≡ kept) }
         ensures unchanged { OnErr result (self.new ≡ self.old) }
     {

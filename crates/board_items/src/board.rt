@@ -3,12 +3,12 @@
 ghost use Rattle.std.specs.Prelude.{◌≡◌, ◌<◌, true, false, None, Some, Err, ◌≢◌, not, nat_eq, filter, ◌&&◌, ◌++◌, ◌∷◌, [], IfOk, IfErr, OnOk, OnErr, IfSome, length, vec_len, vec_capacity};
 ghost use Rattle.std.specs.Option.{option_copied};
 ghost use Rattle.std.specs.List.{list_all};
+ghost use Rattle.plain_types.specs.Limits.{AreCounted};
 ghost use Rattle.copper_layers.specs.Layers.{is_within};
 ghost use Rattle.board_items.specs.Parts.{parts_of};
 ghost use Rattle.board_items.specs.Refusals.{refusal_of, reason_in, room_of};
 ghost use Rattle.board_items.specs.Boards.{PlainBoard, IsSound, empty_board, name_of, with_net, item_at, with_item, is_near, is_admitted, is_mark, marks_of, ids_of_net};
-ghost use Rattle.board_items.specs.Kept.{IsNetAt};
-ghost use Rattle.board_items.specs.Moves.{unit_stays, IsMoved};
+ghost use Rattle.board_items.specs.Moves.{unit_stays, IsMoved, HaveFirstPoints};
 ghost use Rattle.board_items.specs.Slots.{present, without_id};
 ghost use Rattle.board_items.specs.Notes.{notes_of, body_of};
 ghost use Rattle.board_items.specs.Units.{without_unit, found_of};
@@ -18,7 +18,7 @@ ghost use Rattle.board_items.specs.Walks.{items_left, unit_left, nets_left};
 use crate::back::make_room;
 use crate::found::Found;
 use crate::item::{Item, Nm, What};
-use crate::moves::{Step, shift_unit, unit_stays};
+use crate::moves::{Step, shift_slots, slots_stay};
 use crate::notes::{goes_on, last_body};
 use crate::parts::Part;
 use crate::places::places_in;
@@ -30,12 +30,9 @@ use board_errors::ItemError;
 use copper_layers::LayerSet;
 use drc_io::Name;
 use indexmap::IndexMap;
-use plain_types::GREATEST_LENGTH;
+use plain_types::{GREATEST_LENGTH, MOST_ITEMS};
 use std::alloc::{AllocError, Global};
 use std::marker::Model;
-
-/// The most items that a board holds at once.
-pub const MOST_ITEMS: usize = 200_000;
 
 /// All ids and unit numbers are below this.
 const LAST: u32 = 4_294_967_295;
@@ -84,7 +81,7 @@ fn are_within(parts: &[Part], copper: LayerSet) -> bool
     parts.iter().all(|part| part.layers.is_within(copper))
 }
 
-/// Whether all parts of the item do.
+/// Whether all parts of the item lie on layers of the board.
 fn has_layers_of(copper: LayerSet, item: &Item) -> bool
     ensures { result ≡ list_all (λ part. is_within part.layers copper) (parts_of item.now) }
 {
@@ -189,8 +186,27 @@ impl Board {
         ensures added { OnOk result (self.new ≡ with_item self.old item) }
         ensures unchanged { OnErr result (self.new ≡ self.old) }
     {
-        let place = self.admit(&item)?;
-        let id = self.next_id();
+        self.admit(&item)?;
+        Ok(self.push_admitted(item)?)
+    }
+
+    /// Appends an item that the board takes, and gives its id, one above the greatest that was ever given, or 0.
+    ///
+    /// That the board takes it was tested before: its position lies there, its net is declared, the board has all its layers,
+    /// and there is room for it. Only want of memory refuses it, and the board is then as it was.
+    #[inline(always)]
+    pub fn push_admitted(&mut self, item: Item) -> Result<u32, AllocError>
+        requires unit { item.unit < 4294967295 }
+        requires admitted { is_admitted self.old item ≡ true }
+        requires room { 0 < room_of self.old }
+        ensures id { IfOk result (λ id. id ≡ self.old.next_id) }
+        ensures added { OnOk result (self.new ≡ with_item self.old item) }
+        ensures unchanged { OnErr result (self.new ≡ self.old) }
+    {
+        let Some(place) = self.names.get_index_of(&item.net) else {
+            // The net of such an item is declared.
+            unreachable!()
+        };
         let next_unit = self.next_unit.max(item.unit + 1);
         let in_order = goes_on(self.in_order, &self.units, item.unit);
         let of_net = &mut self.of_nets[place];
@@ -198,33 +214,33 @@ impl Board {
         let units = &mut self.units;
         let marks = &mut self.marks;
         let notes = &mut self.notes;
-        push_slot(&mut self.slots, tags, units, marks, notes, of_net, id, item)?;
+        let id = push_slot(&mut self.slots, tags, units, marks, notes, of_net, item)?;
         self.in_order = in_order;
         self.live += 1;
         self.next_unit = next_unit;
         Ok(id)
     }
 
-    /// Whether the item may be added: the place of its net.
-    fn admit(&self, item: &Item) -> Result<usize, ItemError>
+    /// Whether the item may be added, and else the first reason why not.
+    fn admit(&self, item: &Item) -> Result<(), ItemError>
         ensures refused { refusal_of self.now item.now ≡ reason_in result }
+        ensures admitted { OnOk result (is_admitted self.now item.now ≡ true) }
         ensures room { OnOk result (0 < room_of self.now) }
         ensures only { result ≢ Err ItemError.OutOfMemory }
-        ensures place { IfOk result (IsNetAt item.now.net self.now.nets) }
     {
         if !(is_near(item.x) && is_near(item.y)) {
             return Err(ItemError::OutOfBoard);
         }
-        let Some(place) = self.names.get_index_of(&item.net) else {
+        if !self.names.contains_key(&item.net) {
             return Err(ItemError::UnknownNet);
-        };
+        }
         if !has_layers_of(self.copper, item) {
             return Err(ItemError::UnknownLayer);
         }
         if self.left() == 0 {
             return Err(ItemError::TooMany);
         }
-        Ok(place)
+        Ok(())
     }
 
     /// Removes every item that carries the unit's number. It takes no memory.
@@ -248,7 +264,10 @@ impl Board {
     /// Takes the item with this id out if it is of the unit.
     fn drop_if_of(&mut self, id: u32, unit: u32)
         requires { id < self.old.next_id }
-        ensures { self.new ≡ record self.old { items = filter (λ entry. not (nat_eq entry.0 id && nat_eq entry.1.unit unit)) self.old.items } }
+        ensures { self.new ≡ record self.old {
+          items = filter
+              (λ entry. not (nat_eq entry.0 id && nat_eq entry.1.unit unit)) self.old.items;
+        } }
     {
         if self.units[id as usize] == unit {
             self.take_out(id);
@@ -278,16 +297,36 @@ impl Board {
     pub fn moved(&mut self, unit: u32, dx: Nm, dy: Nm) -> Result<(), ItemError>
         ensures moved { OnOk result (IsMoved unit dx dy self.old self.new) }
         ensures stays { OnOk result (unit_stays unit dx dy self.old.items ≡ true) }
-        ensures refused { IfErr result (λ e. (e ≡ ItemError.OutOfBoard) × (unit_stays unit dx dy self.old.items ≡ false)) }
+        ensures refused { IfErr result (λ e. (e ≡ ItemError.OutOfBoard) ×
+            (unit_stays unit dx dy self.old.items ≡ false)) }
         ensures unchanged { OnErr result (self.new ≡ self.old) }
     {
-        let step = Step { dx, dy };
-        let places = places_in(&self.units, self.in_order, unit);
-        if !unit_stays(&self.slots, &self.units, places, unit, step) {
+        if !self.unit_stays(unit, dx, dy) {
             return Err(ItemError::OutOfBoard);
         }
-        shift_unit(&mut self.slots, &self.units, places, unit, step);
+        self.shift_unit(unit, dx, dy);
         Ok(())
+    }
+
+    /// Whether every item of the unit but its notes stays on the board where it is moved by `dx` and `dy` nanometres: its
+    /// position and all points of its shapes are then at most 500 mm from 0.
+    pub fn unit_stays(&self, unit: u32, dx: Nm, dy: Nm) -> bool
+        ensures { result ≡ unit_stays unit dx dy self.now.items }
+    {
+        let places = places_in(&self.units, self.in_order, unit);
+        slots_stay(&self.slots, &self.units, places, unit, Step { dx, dy })
+    }
+
+    /// Moves every item of the unit but its notes by `dx` and `dy` nanometres. That each of them stays on the board was tested
+    /// before, as [`Board::unit_stays`] does. It takes no memory. The first part of each has points, so that none is moved onto
+    /// itself.
+    pub fn shift_unit(&mut self, unit: u32, dx: Nm, dy: Nm)
+        requires { unit_stays unit dx dy self.old.items ≡ true }
+        ensures moved { IsMoved unit dx dy self.old self.new }
+        ensures points { HaveFirstPoints unit self.old.items }
+    {
+        let places = places_in(&self.units, self.in_order, unit);
+        shift_slots(&mut self.slots, &self.units, places, unit, Step { dx, dy });
     }
 
     /// What the name stands for: no unit, several, a part of a footprint, or one unit. It takes no memory. It walks a row of
@@ -461,7 +500,7 @@ fn make_all_room(
 }
 
 /// Appends a slot with the item, its tag and its unit, and its id to those of its net and where it is a mark or a note, or
-/// changes nothing.
+/// changes nothing. The id is the place of the slot.
 #[inline(always)]
 fn push_slot(
     slots: &mut Vec<Option<Item>>,
@@ -470,16 +509,16 @@ fn push_slot(
     marks: &mut Vec<u32>,
     notes: &mut Vec<u32>,
     of_net: &mut Vec<u32>,
-    id: u32,
     item: Item,
-) -> Result<(), ItemError>
-    ensures only { IfErr result (λ e. e ≡ ItemError.OutOfMemory) }
+) -> Result<u32, AllocError>
+    requires { AreCounted slots.old.items }
+    ensures id { IfOk result (λ id. id ≡ length slots.old.items) }
     ensures slots { OnOk result (slots.new.items ≡ slots.old.items ++ Some item ∷ []) }
     ensures tags { OnOk result (tags.new.items ≡ tags.old.items ++ tag_of item.name ∷ []) }
     ensures units { OnOk result (units.new.items ≡ units.old.items ++ item.unit ∷ []) }
-    ensures marks { OnOk result (marks.new.items ≡ marks.old.items ++ marks_of ((id, item) ∷ [])) }
-    ensures notes { OnOk result (notes.new.items ≡ notes.old.items ++ notes_of ((id, item) ∷ [])) }
-    ensures of_net { OnOk result (of_net.new.items ≡ of_net.old.items ++ id ∷ []) }
+    ensures marks { IfOk result (λ id. marks.new.items ≡ marks.old.items ++ marks_of ((id, item) ∷ [])) }
+    ensures notes { IfOk result (λ id. notes.new.items ≡ notes.old.items ++ notes_of ((id, item) ∷ [])) }
+    ensures of_net { IfOk result (λ id. of_net.new.items ≡ of_net.old.items ++ id ∷ []) }
     ensures slots_stay { OnErr result (slots.new.items ≡ slots.old.items) }
     ensures tags_stay { OnErr result (tags.new.items ≡ tags.old.items) }
     ensures units_stay { OnErr result (units.new.items ≡ units.old.items) }
@@ -487,6 +526,7 @@ fn push_slot(
     ensures notes_stay { OnErr result (notes.new.items ≡ notes.old.items) }
     ensures of_net_stays { OnErr result (of_net.new.items ≡ of_net.old.items) }
 {
+    let id = slots.len() as u32;
     let tag = tag_of(&item.name);
     let unit = item.unit;
     let is_mark = item.what.is_mark();
@@ -503,5 +543,5 @@ fn push_slot(
     if is_note {
         notes.push_reserved(id);
     }
-    Ok(())
+    Ok(id)
 }

@@ -65,7 +65,7 @@ fn copy_list(alloc: Global, parts: &[Part]) -> Result<SmallVec<Part, 1>, AllocEr
 
 impl Parts {
     /// Equal parts. They are made with the allocator that the list keeps.
-    pub fn copy(&self) -> Result<Parts, AllocError>
+    pub(crate) fn copy(&self) -> Result<Parts, AllocError>
         ensures { IfOk result (λ copy. copy ≡ self.now) }
     {
         let alloc = *self.list.allocator();
@@ -78,7 +78,7 @@ impl Parts {
 impl Hole {
     /// An equal hole.
     #[tactic(auto, using(crate::proofs::OneMove::hole_is))]
-    pub fn copy(&self, alloc: Global) -> Result<Hole, AllocError>
+    pub(crate) fn copy(&self, alloc: Global) -> Result<Hole, AllocError>
         ensures { IfOk result (λ copy. copy ≡ self.now) }
     {
         Ok(Hole {
@@ -113,7 +113,7 @@ fn copy_parts(alloc: Global, parts: &Boxed<Parts>) -> Result<Boxed<Parts>, Alloc
 
 impl What {
     /// An equal kind.
-    pub fn copy(&self, alloc: Global) -> Result<What, AllocError>
+    pub(crate) fn copy(&self, alloc: Global) -> Result<What, AllocError>
         ensures { IfOk result (λ copy. copy ≡ self.now) }
     {
         Ok(match self {
@@ -165,7 +165,7 @@ impl What {
 impl Item {
     /// An equal item. It is made with the allocator that the list of its copper keeps.
     #[tactic(auto, using(crate::proofs::OneMove::item_is))]
-    pub fn copy(&self) -> Result<Item, AllocError>
+    pub(crate) fn copy(&self) -> Result<Item, AllocError>
         ensures { IfOk result (λ copy. copy ≡ self.now) }
     {
         let alloc = *self.copper.list.allocator();
@@ -234,7 +234,8 @@ pub(crate) fn copy_slots(
 
 /// The ids of each net.
 pub(crate) fn copy_ids(alloc: Global, of_nets: &[Vec<u32>]) -> Result<Vec<Vec<u32>>, AllocError>
-    ensures { IfOk result (λ copy. map (λ (v : Vec ℕ Global). v.items) copy.items ≡ map (λ (v : Vec ℕ Global). v.items) of_nets.now) }
+    ensures { IfOk result (λ copy. map (λ (v : Vec ℕ Global). v.items) copy.items ≡ map
+        (λ (v : Vec ℕ Global). v.items) of_nets.now) }
 {
     let mut list = Vec::with_capacity(alloc, of_nets.len())?;
     for ids in of_nets {

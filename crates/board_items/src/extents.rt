@@ -1,8 +1,8 @@
 //! The room that an item takes up.
 
-ghost use Rattle.std.specs.Prelude.{◌≡◌, ◌++◌, pos, List, Option, IfSome, [], ◌∷◌};
+ghost use Rattle.std.specs.Prelude.{◌≡◌, ◌++◌, List, Option, IfSome, [], ◌∷◌};
 ghost use Rattle.geo_seg.specs.declared.boxes.Bounds.{Bounds};
-ghost use Rattle.geo_seg.specs.Boxes.{FitsWithin};
+ghost use Rattle.geo_seg.specs.Boxes.{FitsShape};
 ghost use Rattle.board_items.specs.declared.parts.Part.{Part};
 ghost use Rattle.board_items.specs.Extents.{AreBoundsOf};
 ghost use Rattle.board_items.specs.Parts.{parts_of, hole_parts, kind_parts};
@@ -14,9 +14,10 @@ use std::slice;
 
 /// The box around what was found so far and one shape more.
 fn grown(found: Option<Bounds>, shape: &Shape) -> Bounds
-    requires fits { IfSome found (FitsWithin (pos 1500000000)) }
-    ensures grown { (parts : List Part) (part : Part) → part.shape ≡ shape.now → AreBoundsOf parts found → AreBoundsOf (parts ++ part ∷ []) (Some result) }
-    ensures fits { FitsWithin (pos 1500000000) result }
+    requires fits { IfSome found FitsShape }
+    ensures grown { (parts : List Part) (part : Part) → part.shape ≡ shape.now → AreBoundsOf parts found →
+        AreBoundsOf (parts ++ part ∷ []) (Some result) }
+    ensures fits { FitsShape result }
 {
     let bounds = shape.bounds();
     match found {
@@ -27,9 +28,9 @@ fn grown(found: Option<Bounds>, shape: &Shape) -> Bounds
 
 /// The box around what was found so far and more parts.
 fn around(found: Option<Bounds>, parts: &[Part]) -> Option<Bounds>
-    requires fits { IfSome found (FitsWithin (pos 1500000000)) }
+    requires fits { IfSome found FitsShape }
     ensures grown { (before : List Part) → AreBoundsOf before found → AreBoundsOf (before ++ parts.now) result }
-    ensures fits { IfSome result (FitsWithin (pos 1500000000)) }
+    ensures fits { IfSome result FitsShape }
 {
     let mut so_far = found;
     for part in parts {
@@ -40,9 +41,10 @@ fn around(found: Option<Bounds>, parts: &[Part]) -> Option<Bounds>
 
 /// The box around what was found so far and a hole.
 fn around_hole(found: Option<Bounds>, hole: &Option<Hole>) -> Option<Bounds>
-    requires fits { IfSome found (FitsWithin (pos 1500000000)) }
-    ensures grown { (before : List Part) → AreBoundsOf before found → AreBoundsOf (before ++ hole_parts hole.now) result }
-    ensures fits { IfSome result (FitsWithin (pos 1500000000)) }
+    requires fits { IfSome found FitsShape }
+    ensures grown { (before : List Part) → AreBoundsOf before found → AreBoundsOf (before ++
+        hole_parts hole.now) result }
+    ensures fits { IfSome result FitsShape }
 {
     match hole {
         None => found,
@@ -74,7 +76,7 @@ impl Item {
     /// with its radius; None exactly where it has none of them. The box is in half nanometres.
     pub fn bounds(&self) -> Option<Bounds>
         ensures least { AreBoundsOf (parts_of self.now) result }
-        ensures fits { IfSome result (FitsWithin (pos 1500000000)) }
+        ensures fits { IfSome result FitsShape }
     {
         let (first, second) = self.what.parts();
         let copper = around(None, self.copper.as_slice());

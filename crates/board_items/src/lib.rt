@@ -22,13 +22,12 @@ mod units;
 mod walk;
 
 pub use back::Kept;
-pub use board::{Board, MOST_ITEMS, is_near};
+pub use board::{Board, is_near};
 pub use board_errors::{BoardError, ItemError};
 pub use boxed::Boxed;
 pub use copper_layers::LayerSet;
 pub use found::Found;
 pub use item::{About, Bans, Hole, Item, Nm, What};
-pub use moves::{shapes_stay, stays_near};
 pub use parts::{Part, Parts};
 use plain_types::crosses_threads;
 pub use turns::turn;

@@ -1,18 +1,18 @@
 //! Moves of units.
 
-ghost use Rattle.std.specs.Prelude.{◌≡◌, ◌≤◌, ◌+ℤ◌, ◌*ℤ◌, ◌++◌, ◌&&◌, pos, true, All, MatchBool, unsigned_abs, if◌then◌else◌};
+ghost use Rattle.std.specs.Prelude.{◌≡◌, ◌≤◌, ◌+ℤ◌, ◌*ℤ◌, ◌++◌, ◌&&◌, pos, true, All, unsigned_abs, if◌then◌else◌};
 ghost use Rattle.std.specs.List.{AllZip, list_all};
 ghost use Rattle.geo_seg.specs.Shifts.{core_stays};
 ghost use Rattle.board_items.specs.Boards.{is_near, is_on_board};
-ghost use Rattle.board_items.specs.Parts.{parts_of, hole_parts, kind_parts};
+ghost use Rattle.board_items.specs.Parts.{parts_of, hole_parts, kind_parts, HasPoints, FirstHasPoints};
 ghost use Rattle.board_items.specs.Moves.{is_note, moves, item_stays, IsShiftedItem, IsShiftedPart, AreShifted, HoleIsShifted, KindIsShifted};
-ghost use Rattle.board_items.specs.Slots.{IsUnitIn, AreUnitsIn, ArePlacesOf, is_slot_on_board, slot_stays, IsMovedSlot};
+ghost use Rattle.board_items.specs.Slots.{IsUnitIn, AreUnitsIn, ArePlacesOf, is_slot_on_board, slot_stays, IsMovedItem, IsMovedSlot};
 
 use crate::board::is_near;
 use crate::item::{Hole, Item, Nm, What};
 use crate::parts::{Part, Parts};
 use crate::places::Places;
-use geo_seg::Shift;
+use geo_seg::{Core, Shift};
 
 /// How far positions are moved, in nanometres.
 #[derive(Clone, Copy, Drop)]
@@ -22,7 +22,7 @@ pub(crate) struct Step {
 }
 
 impl Step {
-    /// The same in half nanometres.
+    /// The step in half nanometres, which shapes count.
     fn doubled(self) -> Shift
         requires dx { unsigned_abs self.dx ≤ 1000000000 }
         requires dy { unsigned_abs self.dy ≤ 1000000000 }
@@ -51,7 +51,7 @@ fn moves(item: &Item, unit: u32) -> bool
 }
 
 /// Whether the coordinate of a position stays on the board where it changes by so much.
-pub fn stays_near(at: Nm, by: Nm) -> bool
+fn stays_near(at: Nm, by: Nm) -> bool
     ensures { result ≡ is_near (at +ℤ by) }
 {
     match at.checked_add(by) {
@@ -86,13 +86,14 @@ fn kind_stays(what: &What, by: Shift) -> bool
 
 /// Its hole, and what its kind gives.
 fn others_stay(item: &Item, by: Shift) -> bool
-    ensures { result ≡ list_all (λ part. core_stays by.dx by.dy part.shape.core) (hole_parts item.now.hole ++ kind_parts item.now.what) }
+    ensures { result ≡ list_all (λ part. core_stays by.dx by.dy part.shape.core) (hole_parts item.now.hole
+        ++ kind_parts item.now.what) }
 {
     hole_stays(&item.hole, by) && kind_stays(&item.what, by)
 }
 
 /// Whether all points of the item's shapes stay on the board.
-pub fn shapes_stay(item: &Item, by: Shift) -> bool
+fn shapes_stay(item: &Item, by: Shift) -> bool
     ensures { result ≡ list_all (λ part. core_stays by.dx by.dy part.shape.core) (parts_of item.now) }
 {
     parts_stay(item.copper.as_slice(), by) && others_stay(item, by)
@@ -125,7 +126,7 @@ fn slot_stays(slot: &Option<Item>, unit: u32, step: Step) -> bool
     }
 }
 
-/// The same, asked of the unit that stands beside the slot first.
+/// Whether the item of a slot stays, or does not move with the unit; the unit that stands beside the slot is asked first.
 fn own_stays(slot: &Option<Item>, own: u32, unit: u32, step: Step) -> bool
     requires own { IsUnitIn slot.now own }
     requires on_board { is_slot_on_board slot.now ≡ true }
@@ -135,7 +136,7 @@ fn own_stays(slot: &Option<Item>, own: u32, unit: u32, step: Step) -> bool
 }
 
 /// Whether each item that moves with the unit stays on the board; the slots of the unit are among the places.
-pub(crate) fn unit_stays(
+pub(crate) fn slots_stay(
     slots: &[Option<Item>],
     units: &[u32],
     places: Places,
@@ -153,6 +154,46 @@ pub(crate) fn unit_stays(
         }
     }
     true
+}
+
+// ---- points
+
+/// A polygon has corners, as a step of a proof. It does nothing.
+fn has_points(core: &Core)
+    ensures { HasPoints core.now }
+{
+    if let Core::Area(polygon) = core {
+        let _corners = polygon.corners();
+    }
+}
+
+/// The first of these parts, if there is one, has points. It does nothing.
+fn first_of_parts(parts: &[Part])
+    ensures { FirstHasPoints parts.now }
+{
+    if let Some(part) = parts.first() {
+        has_points(&part.shape.core);
+    }
+}
+
+/// The hole, if there is one, has points. It does nothing.
+fn first_of_hole(hole: &Option<Hole>)
+    ensures { FirstHasPoints (hole_parts hole.now) }
+{
+    if let Some(hole) = hole {
+        has_points(&hole.shape.core);
+    }
+}
+
+/// The first part of the item, if it has one, has points. It does nothing.
+fn first_has_points(item: &Item)
+    ensures { FirstHasPoints (parts_of item.now) }
+{
+    first_of_parts(item.copper.as_slice());
+    first_of_hole(&item.hole);
+    let (first, second) = item.what.parts();
+    first_of_parts(first);
+    first_of_parts(second);
 }
 
 // ---- moving
@@ -213,6 +254,7 @@ impl What {
     }
 }
 
+/// Moves the item.
 fn shift_item(item: &mut Item, step: Step)
     requires on_board { is_on_board item.old ≡ true }
     requires stays { item_stays step.dx step.dy item.old ≡ true }
@@ -230,9 +272,10 @@ fn shift_item(item: &mut Item, step: Step)
 fn shift_moving(item: &mut Item, unit: u32, step: Step)
     requires on_board { is_on_board item.old ≡ true }
     requires stays { (if moves unit item.old then item_stays step.dx step.dy item.old else true) ≡ true }
-    ensures { MatchBool (moves unit item.old) (IsShiftedItem step.dx step.dy item.old item.new) (item.new ≡ item.old) }
+    ensures { IsMovedItem unit step.dx step.dy item.old item.new }
 {
     if moves(item, unit) {
+        first_has_points(item);
         shift_item(item, step);
     }
 }
@@ -247,7 +290,7 @@ fn shift_slot(slot: &mut Option<Item>, unit: u32, step: Step)
     }
 }
 
-/// The same, asked of the unit that stands beside the slot first.
+/// Moves the item of a slot if it moves with the unit; the unit that stands beside the slot is asked first.
 fn shift_own(slot: &mut Option<Item>, own: u32, unit: u32, step: Step)
     requires own { IsUnitIn slot.old own }
     requires on_board { is_slot_on_board slot.old ≡ true }
@@ -260,7 +303,7 @@ fn shift_own(slot: &mut Option<Item>, own: u32, unit: u32, step: Step)
 }
 
 /// Moves each item that moves with the unit.
-pub(crate) fn shift_unit(
+pub(crate) fn shift_slots(
     slots: &mut [Option<Item>],
     units: &[u32],
     places: Places,

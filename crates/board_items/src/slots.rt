@@ -30,7 +30,8 @@ pub(crate) fn next_full<'a>(
     first: u32,
 ) -> Option<(u32, &'a Item, &'a [Option<Item>])>
     requires { first + length slots.now ≤ 4294967295 }
-    ensures { MatchOption result (present first slots.now ≡ []) (λ next. IsNext first slots.now next.0 next.1.now next.2.now) }
+    ensures { MatchOption result (present first slots.now ≡ [])
+        (λ next. IsNext first slots.now next.0 next.1.now next.2.now) }
 {
     let mut left = slots;
     let mut id = first;
@@ -64,7 +65,8 @@ pub(crate) fn next_of_unit<'a>(
 ) -> Option<(u32, &'a Item, &'a [Option<Item>], &'a [u32])>
     requires room { first + length slots.now ≤ 4294967295 }
     requires units_in { are_units_in slots.now units.now ≡ true }
-    ensures { MatchOption result (unit_items unit first slots.now ≡ []) (λ next. IsNextOf unit first slots.now next.0 next.1.now next.2.now next.3.now) }
+    ensures { MatchOption result (unit_items unit first slots.now ≡ [])
+        (λ next. IsNextOf unit first slots.now next.0 next.1.now next.2.now next.3.now) }
 {
     let mut left = slots;
     let mut others = units;
@@ -90,7 +92,8 @@ pub(crate) fn drop_id(ids: &mut Vec<u32>, id: u32)
 
 /// Drops it where it may be in the list.
 pub(crate) fn drop_if(ids: &mut Vec<u32>, id: u32, listed: bool)
-    ensures { ids.new.items ≡ (if listed then filter (λ other. not (nat_eq other id)) ids.old.items else ids.old.items) }
+    ensures { ids.new.items ≡ (if listed then filter (λ other. not (nat_eq other id)) ids.old.items else
+        ids.old.items) }
 {
     if listed {
         drop_id(ids, id);

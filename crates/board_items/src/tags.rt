@@ -62,7 +62,8 @@ pub(crate) fn next_named<'a>(
     requires room { length slots.now ≤ 4294967295 }
     requires tags_in { are_tags_in slots.now tags.now ≡ true }
     requires tag { tag ≡ tag_of name.now }
-    ensures { MatchOption result (named_from name.now first slots.now ≡ []) (λ next. IsNextNamed name.now first slots.now next.0 next.1.now) }
+    ensures { MatchOption result (named_from name.now first slots.now ≡ [])
+        (λ next. IsNextNamed name.now first slots.now next.0 next.1.now) }
 {
     for place in first as usize..tags.len() {
         if tags[place] == tag {

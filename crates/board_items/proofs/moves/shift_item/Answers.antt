@@ -5,8 +5,14 @@ use Rattle.geo_seg.specs.Shifts.{core_stays}
 use Rattle.board_items.specs.declared.parts.Part.{Part}
 use Rattle.board_items.specs.Parts.{hole_parts, kind_parts}
 use Rattle.board_items.specs.Moves.{AreShifted, HoleIsShifted, KindIsShifted}
-use Rattle.board_items.proofs.Moving.{all_parts, new_x, new_y, list_all_front, list_all_back, lengths_moved}
+use Rattle.board_items.proofs.Moving.{all_parts, new_x, new_y, list_all_front, list_all_back, lengths_moved, small_dx, small_dy}
 use Rattle.board_items.proofs.moves.shift_item.Goals as goal
+
+pub doubled-by-requires-clause-dx : goal.doubled-by-requires-clause-dx
+doubled-by-requires-clause-dx c = small_dx c.args.step.dx c.args.step.dy c.args.item.now c.requires.on_board c.requires.stays
+
+pub doubled-by-requires-clause-dy : goal.doubled-by-requires-clause-dy
+doubled-by-requires-clause-dy c = small_dy c.args.step.dx c.args.step.dy c.args.item.now c.requires.on_board c.requires.stays
 
 pub shift-requires : goal.shift-requires
 shift-requires c =

@@ -6,7 +6,7 @@ use Rattle.board_items.specs.Slots.{IsUnitIn, IsMovedSlot, is_slot_on_board, slo
 use Rattle.board_items.proofs.SlotLists.{as_long}
 use Rattle.board_items.proofs.UnitRows.{as_many, unit_in}
 use Rattle.board_items.proofs.UnitPlaces.{moved_before, moved_behind, others_before, others_behind}
-use Rattle.board_items.proofs.moves.shift_unit.Goals as goal
+use Rattle.board_items.proofs.moves.shift_slots.Goals as goal
 
 pub loop-place-init : goal.loop-place-init
 loop-place-init c = (

@@ -4,7 +4,7 @@ use Rattle.board_items.specs.declared.item.Item.{Item}
 use Rattle.board_items.specs.Slots.{IsUnitIn, is_slot_on_board, slot_stays}
 use Rattle.board_items.proofs.UnitRows.{as_many, unit_in, stays_on}
 use Rattle.board_items.proofs.UnitPlaces.{stays_before, stays_behind, others_before, others_behind}
-use Rattle.board_items.proofs.moves.unit_stays.Goals as goal
+use Rattle.board_items.proofs.moves.slots_stay.Goals as goal
 
 pub loop-place-init : goal.loop-place-init
 loop-place-init c = (

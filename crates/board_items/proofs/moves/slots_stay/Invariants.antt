@@ -1,7 +1,7 @@
 use Rattle.std.proofs.Common.{◌≡◌, length, drop}
 use Rattle.std.specs.List.{list_all}
 use Rattle.board_items.specs.Slots.{slot_stays}
-use Rattle.board_items.proofs.moves.unit_stays.Given as goal
+use Rattle.board_items.proofs.moves.slots_stay.Given as goal
 
 abbrev pub invariant-loop-place : goal.invariant-loop-place
 invariant-loop-place l =
