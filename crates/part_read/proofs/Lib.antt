@@ -6,6 +6,7 @@ pub mod Listing
 pub mod Roots
 pub mod Reach
 pub mod Gathering
+pub mod SpotTaking
 pub mod Standing
 pub mod Boxing
 pub mod Plain

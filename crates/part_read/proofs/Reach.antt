@@ -17,7 +17,7 @@ use Rattle.list_read.specs.Heads.{place}
 use Rattle.part_read.specs.Elements.{atom_of}
 use Rattle.part_read.specs.Numbers.{read_as, length_in, size_in, size_at, spot_at}
 use Rattle.part_read.specs.declared.numbers.Spot.{Spot}
-use Rattle.part_read.specs.Stances.{IsWithin}
+use Rattle.part_read.specs.Stances.{IsReadSpot}
 
 by_tests : (long far beyond : Bool) (n m : ℤ) → cond {A = Result ℤ DecError} (long || (far || beyond)) (Err TooWide) (Ok n) ≡ Ok m → far ≡ ltb 1000000000000 (unsigned_abs n) → unsigned_abs m ≤ 1000000000000
 by_tests true far beyond n m h e = absurd cc
@@ -54,7 +54,7 @@ pub both_ok : {A B : Type 0} (r : Result A BoardError) (f : A → Result B Board
 both_ok (Ok x) f y h = (x, (refl, h))
 both_ok (Err e) f y h = absurd cc
 
-pub spot_within : (list : Tree) (s : Spot) → spot_at list ≡ Ok s → IsWithin 1000000000000 s
+pub spot_within : (list : Tree) (s : Spot) → spot_at list ≡ Ok s → IsReadSpot s
 unfolding spot_at
 spot_within list s h =
     let a = both_ok (atom_of 1 list) _ s h in
@@ -62,8 +62,8 @@ spot_within list s h =
     let c = both_ok (atom_of 2 list) _ s b.1.1 in
     let d = both_ok (length_in c.0) _ s c.1.1 in
     let same : record { x = b.0; y = d.0 } ≡ s = by_ok d.1.1 in
-    let wide : IsWithin 1000000000000 (record { x = b.0; y = d.0 }) = record { x = length_within a.0 b.0 b.1.0; y = length_within c.0 d.0 d.1.0 } in
-    subst (λ (t : Spot). IsWithin 1000000000000 t) same wide
+    let wide : IsReadSpot (record { x = b.0; y = d.0 }) = record { x = length_within a.0 b.0 b.1.0; y = length_within c.0 d.0 d.1.0 } in
+    subst (λ (t : Spot). IsReadSpot t) same wide
   where
     by_ok : {t u : Spot} → (let r : Result Spot BoardError = Ok t in r) ≡ Ok u → t ≡ u
     by_ok e = cc

@@ -5,7 +5,7 @@ use Rattle.int_algebra.proofs.Scalars.{passed, passed_is}
 use Rattle.board_items.specs.Turns.{turned}
 use Rattle.part_read.specs.declared.numbers.Spot.{Spot}
 use Rattle.part_read.specs.declared.stances.Stance.{Stance}
-use Rattle.part_read.specs.Stances.{IsWithin, stood}
+use Rattle.part_read.specs.Stances.{IsSpotWithin, IsReadSpot, IsStanceSpot, stood}
 
 by_tests : (a b c : Bool) (x y : ℤ) (most : ℕ) → unsigned_abs x ≤ most → unsigned_abs y ≤ most
     → let t = cond {A = ℤ × ℤ} a (x, y) (cond b (y, neg_ℤ x) (cond c (neg_ℤ x, neg_ℤ y) (neg_ℤ y, x))) in (unsigned_abs t.0 ≤ most) × (unsigned_abs t.1 ≤ most)
@@ -28,7 +28,7 @@ sum_is a b h k =
 spot_is : (x y u v : ℤ) → x ≡ u → y ≡ v → record { x = x; y = y } ≡ (let s : Spot = record { x = u; y = v } in s)
 spot_is x y u v h k = ap (λ (z : ℤ). let s : Spot = record { x = z; y = y } in s) h ∙ ap (λ (z : ℤ). let s : Spot = record { x = u; y = z } in s) k
 
-module _ (stance : Stance) (spot : Spot) (t : ℤ × ℤ) (at : IsWithin 3000000000000 stance.at) (near : IsWithin 1000000000000 spot) (given : t ≡ turned (passed spot.x) (passed spot.y) stance.quarter) where
+module _ (stance : Stance) (spot : Spot) (t : ℤ × ℤ) (at : IsStanceSpot stance.at) (near : IsReadSpot spot) (given : t ≡ turned (passed spot.x) (passed spot.y) stance.quarter) where
   e : t ≡ turned spot.x spot.y stance.quarter
   e =
       given ∙ ap (λ (z : ℤ). turned z (passed spot.y) stance.quarter) (passed_is spot.x (let h = near.x in omega (arith, h)))
@@ -45,7 +45,7 @@ module _ (stance : Stance) (spot : Spot) (t : ℤ × ℤ) (at : IsWithin 3000000
       spot_is _ _ _ _ (sum_is stance.at.x t.0 at.x in_x) (sum_is stance.at.y t.1 at.y in_y)
       ∙ ap (λ (p : ℤ × ℤ). let s : Spot = record { x = stance.at.x +ℤ p.0; y = stance.at.y +ℤ p.1 } in s) e
 
-pub stood_within : (stance : Stance) (spot : Spot) (m n : ℕ) → IsWithin m stance.at → IsWithin n spot → IsWithin (m + n) (stood stance spot)
+pub stood_within : (stance : Stance) (spot : Spot) (m n : ℕ) → IsSpotWithin m stance.at → IsSpotWithin n spot → IsSpotWithin (m + n) (stood stance spot)
 stood_within stance spot m n h k =
     let t = turned_within spot.x spot.y stance.quarter n k.x k.y in
     record { x = sum_within stance.at.x _ m n h.x t.0; y = sum_within stance.at.y _ m n h.y t.1 }

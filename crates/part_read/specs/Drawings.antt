@@ -1,10 +1,10 @@
 -- What graphics draw, read from their lists: (HEAD (start X Y) (end X Y) (stroke (width W)) (fill F) ..) and its kin. The elements
 -- are looked at in the order in which they stand here.
-use Rattle.std.specs.Prelude.{nat_le, length, ℤ, pos, Bool, true, false, ◌&&◌, ◌||◌, not, List, [], ◌∷◌, codes, Option, option_and_then, Result, Ok, Err, if◌then◌else◌}
+use Rattle.std.specs.Prelude.{◌≡◌, ◌⊎◌, nat_le, length, ℤ, pos, Bool, true, false, ◌&&◌, ◌||◌, not, List, [], ◌∷◌, codes, Option, option_and_then, Result, Ok, Err, if◌then◌else◌}
 use Rattle.std.specs.Option.{option_or}
 use Rattle.sexpr_read.specs.Tree.{Tree, parts}
 use Rattle.board_errors.specs.declared.errors.BoardError.{BoardError}
-use Rattle.board_errors.specs.declared.errors.BoardError.TheVariants.{Missing, Arc}
+use Rattle.board_errors.specs.declared.errors.BoardError.TheVariants.{Missing, Arc, OutOfMemory}
 use Rattle.part_read.specs.declared.numbers.Spot.{Spot}
 use Rattle.part_read.specs.declared.figures.Figure.TheVariants.{Line, Rect, Circle, Outline}
 use Rattle.part_read.specs.declared.figures.Drawing.{Drawing}
@@ -15,6 +15,7 @@ use Rattle.list_read.specs.Heads.{place, is_text, has_head}
 use Rattle.list_read.specs.Elements.{element}
 use Rattle.part_read.specs.Elements.{in_needed, given_or, atom_of}
 use Rattle.part_read.specs.Numbers.{spot_at, spot_of, size_at}
+use Rattle.part_read.specs.Lists.{before}
 use Rattle.part_read.specs.Circles.{radius_between}
 
 -- ---- corners
@@ -30,6 +31,12 @@ spots_among curved (t ∷ ts) =
     else if has_head (codes "arc") t && not curved then Err (Arc (place t))
     else spots_among curved ts
 
+-- one part more is looked at: the spots so far, and those of this part and of what follows it, are the new ones and those of what
+-- follows; or the part is refused
+abbrev pub TakesSpot : Result (Unit {0}) BoardError → Bool → Tree → List Spot → List Spot → Type 0
+TakesSpot (Ok _) curved t old new = (rest : List Tree) → before old (spots_among curved (t ∷ rest)) ≡ before new (spots_among curved rest)
+TakesSpot (Err e) curved t old new = (e ≡ OutOfMemory) ⊎ ((rest : List Tree) → spots_among curved (t ∷ rest) ≡ Err e)
+
 -- three spots or more
 abbrev pub enough : Tree → List Spot → Result (List Spot) BoardError
 enough list spots = check (Missing (place list)) (nat_le 3 (length spots)) >>= λ _. Ok spots
@@ -38,7 +45,7 @@ enough list spots = check (Missing (place list)) (nat_le 3 (length spots)) >>= �
 unfoldable pub corners_in : Tree → Result (List Spot) BoardError
 corners_in list = spots_among false (parts list) >>= enough list
 
--- those of the element, which must be there
+-- the corners in the element `pts`, which must be there
 abbrev pub corners_of : Tree → Result (List Spot) BoardError
 corners_of tree = in_needed corners_in tree (element (codes "pts") tree)
 
@@ -65,6 +72,7 @@ fill_of otherwise tree = given_or otherwise (λ list. atom_of 1 list >>= λ atom
 
 -- ---- drawings; where `fill` is missing, an outline is filled and the others are not
 
+-- a line from its start to its end
 unfoldable pub line_drawing : Tree → Result Drawing BoardError
 line_drawing tree = do
   start ← spot_of (codes "start") tree
@@ -72,6 +80,7 @@ line_drawing tree = do
   width ← width_of tree
   Ok (record { figure = Line start end; width = width; filled = true })
 
+-- a rectangle, of which two corners that lie across are given
 unfoldable pub rect_drawing : Tree → Result Drawing BoardError
 rect_drawing tree = do
   start ← spot_of (codes "start") tree
@@ -80,6 +89,7 @@ rect_drawing tree = do
   filled ← fill_of false tree
   Ok (record { figure = Rect start end; width = width; filled = filled })
 
+-- a circle around its centre through its end
 unfoldable pub circle_drawing : Tree → Result Drawing BoardError
 circle_drawing tree = do
   center ← spot_of (codes "center") tree
@@ -88,6 +98,7 @@ circle_drawing tree = do
   filled ← fill_of false tree
   Ok (record { figure = Circle center (radius_between center end); width = width; filled = filled })
 
+-- an outline by its corners
 unfoldable pub outline_drawing : Tree → Result Drawing BoardError
 outline_drawing tree = do
   corners ← corners_of tree
@@ -95,6 +106,7 @@ outline_drawing tree = do
   filled ← fill_of true tree
   Ok (record { figure = Outline corners; width = width; filled = filled })
 
+-- what a graphic of this kind draws
 abbrev pub drawing_of : GraphicKind → Tree → Result Drawing BoardError
 drawing_of LineKind tree = line_drawing tree
 drawing_of RectKind tree = rect_drawing tree

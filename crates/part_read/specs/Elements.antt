@@ -16,11 +16,13 @@ abbrev pub given_or : {A : Type 0} → A → (Tree → Result A BoardError) → 
 given_or otherwise read None = Ok otherwise
 given_or otherwise read (Some list) = read list
 
+-- what is read in an element that may be missing, where it is there
 abbrev pub in_given : {A : Type 0} → (Tree → Result A BoardError) → Option Tree → Result (Option A) BoardError
 in_given read found = given_or None (λ list. read list >>= λ x. Ok (Some x)) found
 
 -- ---- atoms
 
+-- the atom that is there; a list, or nothing, is refused
 abbrev pub atom_among : BoardError → Option Tree → Result Tree BoardError
 atom_among e None = Err e
 atom_among e (Some t) = if is_list t then Err e else Ok t
@@ -35,14 +37,16 @@ atom_or otherwise read found = given_or otherwise (λ t. if is_list t then Ok ot
 
 -- ---- names
 
+-- the text of an atom that was found, or the empty one
 abbrev pub text_in : Result Tree BoardError → List ℕ
 text_in (Ok atom) = text_of atom
 text_in (Err e) = []
 
+-- the name in a list that gives one, or the empty one
 abbrev pub name_among : Option Tree → List ℕ
 name_among None = []
 name_among (Some list) = text_in (atom_of 1 list)
 
--- the name in it, or the empty one
+-- the name that a list gives its item, or the empty one
 abbrev pub name_in : Tree → List ℕ
 name_in tree = name_among (naming tree)

@@ -8,7 +8,7 @@ use Rattle.geo_seg.specs.declared.points.Seg.{Seg}
 use Rattle.geo_seg.specs.declared.shapes.Core.{Core}
 use Rattle.geo_seg.specs.declared.shapes.Core.TheVariants.{Line as LineCore, Area}
 use Rattle.geo_seg.specs.declared.shapes.Shape.{Shape}
-use Rattle.plain_types.specs.Lengths.{IsLength, is_length}
+use Rattle.plain_types.specs.Lengths.{IsLength, greatest, is_length}
 use Rattle.copper_layers.specs.declared.set.LayerSet.{LayerSet}
 use Rattle.board_items.specs.declared.parts.Part.{Part}
 use Rattle.part_read.specs.declared.numbers.Spot.{Spot}
@@ -20,7 +20,8 @@ use Rattle.part_read.specs.declared.radii.Radius.{Radius}
 use Rattle.plain_types.proofs.LengthTests.{length_in_range}
 use Rattle.part_read.specs.There.{both}
 use Rattle.part_read.specs.OnBoard.{tested}
-use Rattle.part_read.specs.Stances.{IsWithin, point_stood, points_stood}
+use Rattle.part_read.specs.Circles.{most_radius}
+use Rattle.part_read.specs.Stances.{greatest_size, IsReadSpot, point_stood, points_stood}
 
 -- ---- cores of points
 
@@ -29,6 +30,7 @@ abbrev pub sides_from : Point → Point → List Point → List Seg
 sides_from first p [] = record { a = p; b = first } ∷ []
 sides_from first p (q ∷ qs) = record { a = p; b = q } ∷ sides_from first q qs
 
+-- the lines around an outline
 abbrev pub sides : List Point → List Seg
 sides [] = []
 sides (p ∷ ps) = sides_from p p ps
@@ -43,20 +45,25 @@ box_corners p q =
 abbrev pub box_core : Point → Point → Core
 box_core p q = if int_eq p.x q.x || int_eq p.y q.y then LineCore (record { a = p; b = q }) else Area (box_corners p q)
 
+-- each line as the core of a shape
 abbrev pub line_cores : List Seg → List Core
 line_cores lines = map (λ line. LineCore line) lines
 
 -- ---- the cores of a figure, if it lies on the board: what is not filled is one line for each side
 
+-- the line between two points
 abbrev pub line_between : Point → Point → List Core
 line_between p q = LineCore (record { a = p; b = q }) ∷ []
 
+-- a rectangle by two corners that lie across: its area, or its four sides
 abbrev pub box_between : Bool → Point → Point → List Core
 box_between filled p q = if filled then box_core p q ∷ [] else line_cores (sides (box_corners p q))
 
+-- an outline: its area, or its sides
 abbrev pub cores_around : Bool → List Point → List Core
 cores_around filled ps = if filled then Area ps ∷ [] else line_cores (sides ps)
 
+-- the cores of a figure that stands so
 abbrev pub cores_of : Stance → Bool → Figure → Option (List Core)
 cores_of stance filled (Line a b) = both line_between (point_stood stance a) (point_stood stance b)
 cores_of stance filled (Rect a b) = both (box_between filled) (point_stood stance a) (point_stood stance b)
@@ -69,21 +76,27 @@ cores_of stance filled (Outline spots) = option_map (cores_around filled) (point
 abbrev pub radius_at : (w : ℤ) → is_length w ≡ true → Radius
 radius_at w fits = let range : IsLength w = length_in_range w fits in record { value = w; from = range.from; to = range.to }
 
+-- the radius, if it is a length
 abbrev pub radius_of : ℤ → Option Radius
 radius_of w = tested (is_length w) (radius_at w)
 
+-- 0 is a radius
 pub zero_from : pos 0 ≤ℤ pos 0
 zero_from = le_by_test (pos 0) (pos 0) refl
 
-pub zero_to : pos 0 ≤ℤ pos 500000000
-zero_to = le_by_test (pos 0) (pos 500000000) refl
+-- and no greater than the greatest one
+pub zero_to : pos 0 ≤ℤ greatest
+zero_to = le_by_test (pos 0) greatest refl
 
+-- the radius 0
 abbrev pub no_radius : Radius
 no_radius = record { value = pos 0; from = zero_from; to = zero_to }
 
+-- all that lies within the radius of the core
 abbrev pub around : Radius → Core → Shape
 around r core = record { core = core; radius = r.value; radius_from = r.from; radius_to = r.to }
 
+-- each core with the radius around it, on these layers
 abbrev pub parts_around : LayerSet → Radius → List Core → List Part
 parts_around layers r cores = map (λ core. record { layers = layers; shape = around r core }) cores
 
@@ -103,10 +116,12 @@ drawn_edge stance d =
 
 -- ---- where it is said to be
 
+-- the first of the spots; where there is none, the spot at 0
 abbrev pub first_of : List Spot → Spot
 first_of [] = record { x = pos 0; y = pos 0 }
 first_of (s ∷ ss) = s
 
+-- the spot by which a report names a figure
 abbrev pub first_spot : Figure → Spot
 first_spot (Line a b) = a
 first_spot (Rect a b) = a
@@ -123,19 +138,22 @@ is_ring d = ring_by d.figure
     ring_by (Circle c r) = if d.filled || int_eq d.width (pos 0) then false else true
     ring_by figure = false
 
+-- the figure is a circle
 abbrev pub is_circle : Figure → Bool
 is_circle (Circle c r) = true
 is_circle figure = false
 
 -- ---- what was read lies within reach of all sums
 
+-- the spots and the radius of the figure are as they are read; an outline has its spots so by its type
 abbrev pub HasReach : Figure → Type 0
-HasReach (Line a b) = IsWithin 1000000000000 a × IsWithin 1000000000000 b
-HasReach (Rect a b) = IsWithin 1000000000000 a × IsWithin 1000000000000 b
-HasReach (Circle c r) = IsWithin 1000000000000 c × ((pos 0 ≤ℤ r) × (r ≤ℤ pos 3000000000000))
+HasReach (Line a b) = IsReadSpot a × IsReadSpot b
+HasReach (Rect a b) = IsReadSpot a × IsReadSpot b
+HasReach (Circle c r) = IsReadSpot c × ((pos 0 ≤ℤ r) × (r ≤ℤ pos most_radius))
 HasReach (Outline spots) = ⊤
 
+-- the figure and the width are as they are read
 pub record IsDrawable (d : Drawing) : Type 0 where
   pub figure : HasReach d.figure
   pub from : pos 0 ≤ℤ d.width
-  pub to : d.width ≤ℤ pos 1000000000000
+  pub to : d.width ≤ℤ greatest_size

@@ -27,6 +27,7 @@ use Rattle.part_read.specs.Drawings.{drawing_of}
 
 -- ---- where a graphic lies
 
+-- where a graphic lies whose layer has this name: on the copper layer of this number, where it is one
 abbrev pub ground_by : Tree → Option ℕ → Ground
 ground_by atom (Some layer) = Copper layer
 ground_by atom None =
@@ -35,6 +36,7 @@ ground_by atom None =
     else if is_text atom (codes "B.CrtYd") then Back
     else Elsewhere
 
+-- where a graphic lies whose layer this element names; without one it lies elsewhere
 abbrev pub ground_among : LayerSet → Option Tree → Result Ground BoardError
 ground_among copper None = Ok Elsewhere
 ground_among copper (Some list) = do
@@ -71,9 +73,11 @@ note_of name unit about layer = plain_item name unit 0 (record { x = pos 0; y = 
 
 -- ---- by where they lie
 
+-- the list of an item that was read
 abbrev pub one_item : Result Item BoardError → Result (List Item) BoardError
 one_item answer = answer >>= λ item. Ok (item ∷ [])
 
+-- the items of a graphic: one on copper or on Edge.Cuts, none elsewhere
 abbrev pub graphic_by : PlainBoard → ℕ → Stance → GraphicKind → Tree → Ground → Result (List Item) BoardError
 graphic_by board unit stance kind tree (Copper layer) = one_item (copper_graphic board unit stance kind layer tree)
 graphic_by board unit stance kind tree Outlines = one_item (edge_graphic unit stance kind tree)

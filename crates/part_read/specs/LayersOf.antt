@@ -28,6 +28,7 @@ each_set sets (t ∷ ts) = do
 
 -- ---- the list of layers of a board
 
+-- the set of a layer, if there is one
 abbrev pub layer_set : Option ℕ → List LayerSet
 layer_set None = []
 layer_set (Some layer) = single_layer layer ∷ []
@@ -46,6 +47,7 @@ layers_listed list = each_set listed (parts list) >>= λ sets. Ok (layers_of_any
 abbrev pub ends_in_cu : Tree → Bool
 ends_in_cu atom = ends_in (codes ".Cu") (text_of atom)
 
+-- a layer with this number must be one of the board, and a name without a number must be none of a copper layer
 abbrev pub layer_by : LayerSet → Tree → Option ℕ → Result (Option ℕ) BoardError
 layer_by copper atom None = if ends_in_cu atom then Err (UnknownLayer (place atom)) else Ok None
 layer_by copper atom (Some layer) = if has_layer copper layer then Ok (Some layer) else Err (UnknownLayer (place atom))
@@ -54,11 +56,12 @@ layer_by copper atom (Some layer) = if has_layer copper layer then Ok (Some laye
 unfoldable pub layer_in : LayerSet → Tree → Result (Option ℕ) BoardError
 layer_in copper atom = layer_by copper atom (layer_number atom)
 
+-- the layer that was found; where there is none, the name is refused
 abbrev pub copper_by : Tree → Option ℕ → Result ℕ BoardError
 copper_by atom None = Err (UnknownLayer (place atom))
 copper_by atom (Some layer) = Ok layer
 
--- the same, where a copper layer must stand
+-- the copper layer of the board that an atom names, where one must stand
 unfoldable pub copper_in : LayerSet → Tree → Result ℕ BoardError
 copper_in copper atom = layer_in copper atom >>= copper_by atom
 
@@ -66,7 +69,7 @@ copper_in copper atom = layer_in copper atom >>= copper_by atom
 unfoldable pub layer_at : LayerSet → Tree → Result ℕ BoardError
 layer_at copper list = atom_of 1 list >>= copper_in copper
 
--- that of the element
+-- the one layer in the element `layer`, which must be there
 abbrev pub layer_of : LayerSet → Tree → Result ℕ BoardError
 layer_of copper tree = in_needed (layer_at copper) tree (element (codes "layer") tree)
 
@@ -81,14 +84,15 @@ layers_through copper list = do
 
 -- ---- layers of an item, wildcards among them
 
--- all copper layers
+-- the wildcard of all copper layers
 abbrev pub is_all_copper : Tree → Bool
 is_all_copper atom = is_text atom (codes "*.Cu")
 
--- the outer ones
+-- the wildcard of the two outer ones
 abbrev pub is_outer : Tree → Bool
 is_outer atom = is_text atom (codes "F&B.Cu")
 
+-- a layer, if the board has it
 abbrev pub layer_if : LayerSet → ℕ → List LayerSet
 layer_if copper layer = if has_layer copper layer then single_layer layer ∷ [] else []
 

@@ -11,6 +11,7 @@ use Rattle.list_read.specs.Heads.{place}
 use Rattle.list_read.specs.Elements.{element}
 use Rattle.part_read.specs.Elements.{atom_of, in_needed}
 
+-- what a decimal was read as, or this refusal
 abbrev pub read_as : {A : Type 0} → BoardError → Result A DecError → Result A BoardError
 read_as e (Ok n) = Ok n
 read_as e (Err _) = Err e
@@ -44,7 +45,7 @@ spot_at list = do
   y ← length_in second
   Ok (record { x = x; y = y })
 
--- that of the element with this head, which must be there
+-- the spot in the element with this head, which must be there
 abbrev pub spot_of : List ℕ → Tree → Result Spot BoardError
 spot_of head tree = in_needed spot_at tree (element head tree)
 
@@ -52,6 +53,6 @@ spot_of head tree = in_needed spot_at tree (element head tree)
 unfoldable pub size_at : Tree → Result ℤ BoardError
 size_at list = atom_of 1 list >>= size_in
 
--- that of the element with this head, which must be there
+-- the size in the element with this head, which must be there
 abbrev pub size_of : List ℕ → Tree → Result ℤ BoardError
 size_of head tree = in_needed size_at tree (element head tree)

@@ -1,7 +1,8 @@
 -- Points and shapes, from numbers in nanometres. Those that lie off the board are plain numbers too, and are tested last; a point
 -- and a shape are made where the test holds. They count half nanometres, so a coordinate is doubled, and half of a width is the
 -- width itself.
-use Rattle.std.specs.Prelude.{◌≡◌, ℤ, pos, ◌*ℤ◌, ◌≤◌, unsigned_abs, Bool, true, false, ◌&&◌, Option, None, Some, refl}
+use Rattle.std.specs.Prelude.{◌≡◌, ℤ, pos, ◌*ℤ◌, Bool, true, false, ◌&&◌, Option, None, Some, refl}
+use Rattle.geo_seg.specs.Ranges.{IsCoordinate}
 use Rattle.geo_seg.specs.declared.points.Point.{Point}
 use Rattle.geo_seg.specs.declared.shapes.Core.{Core}
 use Rattle.geo_seg.specs.declared.shapes.Core.TheVariants.{Line}
@@ -18,7 +19,8 @@ abbrev pub tested : {A : Type 0} (test : Bool) → (test ≡ true → A) → Opt
 tested true make = Some (make refl)
 tested false make = None
 
-pub doubled_in_range : (z : ℤ) → is_near z ≡ true → unsigned_abs (pos 2 *ℤ z) ≤ 1000000000
+-- twice a number that lies on a board is a coordinate
+pub doubled_in_range : (z : ℤ) → is_near z ≡ true → IsCoordinate (pos 2 *ℤ z)
 doubled_in_range z h = doubled_by_tests z (front _ _ h) (back _ _ h)
 
 -- the spot lies on a board: at most 500 mm from 0 in x and in y

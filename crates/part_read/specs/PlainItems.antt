@@ -15,6 +15,7 @@ is_measured (Track width) = true
 is_measured (Via size drill micro blind) = true
 is_measured what = false
 
+-- what has no lengths has them all in range
 pub unmeasured : (what : What) → is_measured what ≡ false → HasLengths what
 unmeasured what h = record {
   width = λ w e. let k : is_measured what ≡ true = ap is_measured e in absurd cc;
@@ -22,10 +23,11 @@ unmeasured what h = record {
   drill = λ s d m b e. let k : is_measured what ≡ true = ap is_measured e in absurd cc;
 }
 
+-- and so has a clearance that is missing
 pub none_in_range : IsLengthIfSome None
 none_in_range = λ n e. absurd cc
 
--- by its name, its unit, its net, its position, its copper, and what it is
+-- the item with this name, unit, net, position and copper, which is this
 abbrev pub plain_item : List ℕ → ℕ → ℕ → Spot → List Part → (what : What) → is_measured what ≡ false → Item
 plain_item name unit net at copper what h = record {
   name = name;

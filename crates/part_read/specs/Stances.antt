@@ -1,6 +1,6 @@
 -- How the parts of a footprint and of a custom pad stand on a board. Spots are plain numbers in nanometres, on the board or off it;
 -- they are turned and moved first, and tested for the board last.
-use Rattle.std.specs.Prelude.{ℕ, ℤ, ◌+ℤ◌, ◌≤◌, unsigned_abs, List, map, Option}
+use Rattle.std.specs.Prelude.{ℕ, ℤ, pos, ◌+ℤ◌, ◌≤◌, unsigned_abs, List, map, Option}
 use Rattle.geo_seg.specs.declared.points.Point.{Point}
 use Rattle.board_items.specs.Turns.{turned}
 use Rattle.part_read.specs.declared.numbers.Spot.{Spot}
@@ -8,11 +8,29 @@ use Rattle.part_read.specs.declared.stances.Stance.{Stance}
 use Rattle.part_read.specs.There.{all_there}
 use Rattle.part_read.specs.OnBoard.{tested, fits_board, point_at}
 
+-- the most nanometres that a number of a text is from 0
+abbrev pub most_read : ℕ
+most_read = 1000000000000
+
+-- the greatest size that is read, in nanometres
+abbrev pub greatest_size : ℤ
+greatest_size = pos most_read
+
 -- no number of the spot is further from 0
-pub record IsWithin (most : ℕ) (s : Spot) : Type 0 where
+pub record IsSpotWithin (most : ℕ) (s : Spot) : Type 0 where
   pub x : unsigned_abs s.x ≤ most
   pub y : unsigned_abs s.y ≤ most
 
+-- a spot as it is read of a text
+abbrev pub IsReadSpot : Spot → Type 0
+IsReadSpot s = IsSpotWithin most_read s
+
+-- where something stands: no further from 0 than the sum of three spots that are read, those of a footprint, of its pad, and of the
+-- offset of that pad's copper
+abbrev pub IsStanceSpot : Spot → Type 0
+IsStanceSpot s = IsSpotWithin 3000000000000 s
+
+-- the spot turned about 0 by quarter turns
 abbrev pub turned_spot : ℕ → Spot → Spot
 turned_spot quarter s = let p = turned s.x s.y quarter in record { x = p.0; y = p.1 }
 

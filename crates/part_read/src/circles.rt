@@ -1,18 +1,18 @@
 //! The radius of a circle in whole nanometres.
 
-ghost use Rattle.std.specs.Prelude.{◌≡◌, ◌≤◌, ◌≤ℤ◌, ◌*◌, ◌+◌, pos};
-ghost use Rattle.part_read.specs.Stances.{IsWithin};
-ghost use Rattle.part_read.specs.Circles.{root, radius_between, square_between};
+ghost use Rattle.std.specs.Prelude.{◌≡◌, ◌≤◌, ◌≤ℤ◌, pos};
+ghost use Rattle.part_read.specs.Stances.{IsReadSpot};
+ghost use Rattle.part_read.specs.Circles.{most_square, most_radius, root, radius_between, square_between};
 
 use crate::numbers::Spot;
 use board_items::Nm;
 
-/// The square of the distance.
+/// The square of the distance of two spots.
 fn square_between(a: Spot, b: Spot) -> u128
-    requires a { IsWithin 1000000000000 a }
-    requires b { IsWithin 1000000000000 b }
+    requires a { IsReadSpot a }
+    requires b { IsReadSpot b }
     ensures value { result ≡ square_between a b }
-    ensures most { result ≤ 8000000000000 * 1000000000000 }
+    ensures most { result ≤ most_square }
 {
     let dx = u128::from(b.x.abs_diff(a.x));
     let dy = u128::from(b.y.abs_diff(a.y));
@@ -21,20 +21,21 @@ fn square_between(a: Spot, b: Spot) -> u128
 
 /// The greatest whole number whose square is not above this one.
 fn root(square: u128) -> u128
-    requires { square ≤ 8000000000000 * 1000000000000 }
+    requires { square ≤ most_square }
     ensures value { result ≡ root square }
-    ensures most { result ≤ 3000000000000 }
+    ensures most { result ≤ most_radius }
 {
     square.isqrt()
 }
 
-/// The radius of the circle around a centre through an end: the distance between them, cut to whole nanometres.
+/// The radius of the circle around a centre through an end: the distance between them, cut to whole
+/// nanometres.
 pub fn radius_between(center: Spot, end: Spot) -> Nm
-    requires center { IsWithin 1000000000000 center }
-    requires end { IsWithin 1000000000000 end }
+    requires center { IsReadSpot center }
+    requires end { IsReadSpot end }
     ensures value { result ≡ radius_between center end }
     ensures from { pos 0 ≤ℤ result }
-    ensures most { result ≤ℤ pos 3000000000000 }
+    ensures most { result ≤ℤ pos most_radius }
 {
     root(square_between(center, end)) as Nm
 }

@@ -8,9 +8,9 @@ ghost use Rattle.part_read.specs.Numbers.{spot_at, size_at};
 ghost use Rattle.part_read.specs.Nodes.{Gives};
 ghost use Rattle.part_read.specs.Lists.{GivesItems};
 ghost use Rattle.sexpr_read.specs.Tree.{parts};
-ghost use Rattle.part_read.specs.Stances.{IsWithin};
+ghost use Rattle.part_read.specs.Stances.{greatest_size, IsReadSpot};
 ghost use Rattle.part_read.specs.Figures.{IsDrawable};
-ghost use Rattle.part_read.specs.Drawings.{spots_among, corners_in, corners_of, width_of, filled_by, fill_of, line_drawing, rect_drawing, circle_drawing, outline_drawing, drawing_of};
+ghost use Rattle.part_read.specs.Drawings.{spots_among, TakesSpot, corners_in, corners_of, width_of, filled_by, fill_of, line_drawing, rect_drawing, circle_drawing, outline_drawing, drawing_of};
 
 use crate::atoms::{first_atom, missing};
 use crate::circles::radius_between;
@@ -34,16 +34,17 @@ pub enum GraphicKind {
 /// The spot of `(HEAD X Y)`. Each number is at most 10^12 nanometres from 0.
 pub fn spot_in(list: Node<'_, '_>) -> Result<Spot, BoardError>
     ensures spot { result ≡ spot_at (tree_of list.entry) }
-    ensures within { IfOk result (IsWithin 1000000000000) }
+    ensures within { IfOk result IsReadSpot }
 {
     let spot = spot_at(list)?;
     Ok(spot)
 }
 
-/// That of an element which must be there.
-pub fn spot_needed(node: Node<'_, '_>, head: &[u8]) -> Result<Spot, BoardError>
-    ensures spot { result ≡ in_needed spot_at (tree_of node.entry) (element head.now (tree_of node.entry)) }
-    ensures within { IfOk result (IsWithin 1000000000000) }
+/// The spot of an element which must be there.
+fn spot_needed(node: Node<'_, '_>, head: &[u8]) -> Result<Spot, BoardError>
+    ensures spot { result
+        ≡ in_needed spot_at (tree_of node.entry) (element head.now (tree_of node.entry)) }
+    ensures within { IfOk result IsReadSpot }
 {
     match element(node, head) {
         None => Err(missing(node)),
@@ -51,6 +52,7 @@ pub fn spot_needed(node: Node<'_, '_>, head: &[u8]) -> Result<Spot, BoardError>
     }
 }
 
+/// Puts a spot behind the others.
 fn gather(spots: &mut Vec<Spot>, spot: Spot) -> Result<(), AllocError>
     ensures { OnOk result (spots.new.items ≡ spots.old.items ++ spot ∷ []) }
 {
@@ -58,26 +60,40 @@ fn gather(spots: &mut Vec<Spot>, spot: Spot) -> Result<(), AllocError>
     Ok(())
 }
 
-/// The spots of each `(xy X Y)`, each number at most 10^12 nanometres from 0. An arc is refused, or passed over where
-/// curves may stand.
+/// Takes the spot of a part, if it is `(xy X Y)`. An arc is refused, or passed over where curves may
+/// stand.
+fn take_spot(part: Node<'_, '_>, curved: bool, spots: &mut Vec<Spot>) -> Result<(), BoardError>
+    requires { All IsReadSpot spots.old.items }
+    ensures taken { TakesSpot result curved (tree_of part.entry) spots.old.items spots.new.items }
+    ensures within { OnOk result (All IsReadSpot spots.new.items) }
+{
+    if has_head(part, b"xy") {
+        let spot = spot_in(part)?;
+        gather(spots, spot)?;
+        return Ok(());
+    }
+    if has_head(part, b"arc") && !curved {
+        return Err(BoardError::Arc { at: place(part) });
+    }
+    Ok(())
+}
+
+/// The spots of each `(xy X Y)`, each number at most 10^12 nanometres from 0. An arc is refused, or
+/// passed over where curves may stand.
 pub fn spots_in(alloc: Global, list: Node<'_, '_>, curved: bool) -> Result<Vec<Spot>, BoardError>
     ensures spots { GivesItems result (spots_among curved (parts (tree_of list.entry))) }
-    ensures within { IfOk result (λ spots. All (IsWithin 1000000000000) spots.items) }
+    ensures within { IfOk result (λ spots. All IsReadSpot spots.items) }
 {
     let mut spots = Vec::new(alloc);
     for part in list.children() {
-        if has_head(part, b"xy") {
-            gather(&mut spots, spot_in(part)?)?;
-        } else if has_head(part, b"arc") && !curved {
-            return Err(BoardError::Arc { at: place(part) });
-        }
+        take_spot(part, curved, &mut spots)?;
     }
     Ok(spots)
 }
 
 /// The corners of `(pts (xy X Y) ..)`.
 #[tactic(auto, unfolding(crate::specs::Drawings::corners_in))]
-pub fn corners_in(alloc: Global, list: Node<'_, '_>) -> Result<Corners, BoardError>
+fn corners_in(alloc: Global, list: Node<'_, '_>) -> Result<Corners, BoardError>
     ensures { Gives result (corners_in (tree_of list.entry)) }
 {
     let spots = spots_in(alloc, list, false)?;
@@ -87,7 +103,7 @@ pub fn corners_in(alloc: Global, list: Node<'_, '_>) -> Result<Corners, BoardErr
     Ok(Corners::of(spots))
 }
 
-/// Those of the element, which must be there.
+/// The corners in the element `pts`, which must be there.
 pub fn corners_of(alloc: Global, node: Node<'_, '_>) -> Result<Corners, BoardError>
     ensures { Gives result (corners_of (tree_of node.entry)) }
 {
@@ -101,7 +117,8 @@ pub fn corners_of(alloc: Global, node: Node<'_, '_>) -> Result<Corners, BoardErr
 
 /// The list of the width in that of a stroke.
 fn stroke_width<'d, 't>(stroke: Option<Node<'d, 't>>) -> Option<Node<'d, 't>>
-    ensures { option_map tree_of result ≡ option_and_then (element (codes "width")) (option_map tree_of stroke.entry) }
+    ensures { option_map tree_of result
+        ≡ option_and_then (element (codes "width")) (option_map tree_of stroke.entry) }
 {
     match stroke {
         None => None,
@@ -113,7 +130,7 @@ fn stroke_width<'d, 't>(stroke: Option<Node<'d, 't>>) -> Option<Node<'d, 't>>
 fn width_among(found: Option<Node<'_, '_>>) -> Result<Nm, BoardError>
     ensures width { result ≡ given_or (pos 0) size_at (option_map tree_of found.entry) }
     ensures from { IfOk result (λ width. pos 0 ≤ℤ width) }
-    ensures to { IfOk result (λ width. width ≤ℤ pos 1000000000000) }
+    ensures to { IfOk result (λ width. width ≤ℤ greatest_size) }
 {
     match found {
         None => Ok(0),
@@ -126,10 +143,10 @@ fn width_among(found: Option<Node<'_, '_>>) -> Result<Nm, BoardError>
 
 /// The width in `(stroke (width W) ..)`, else that in `(width W)`, else 0.
 #[tactic(auto, unfolding(crate::specs::Drawings::width_of))]
-pub fn width_of(node: Node<'_, '_>) -> Result<Nm, BoardError>
+fn width_of(node: Node<'_, '_>) -> Result<Nm, BoardError>
     ensures width { result ≡ width_of (tree_of node.entry) }
     ensures from { IfOk result (λ width. pos 0 ≤ℤ width) }
-    ensures to { IfOk result (λ width. width ≤ℤ pos 1000000000000) }
+    ensures to { IfOk result (λ width. width ≤ℤ greatest_size) }
 {
     match stroke_width(element(node, b"stroke")) {
         Some(list) => width_among(Some(list)),
@@ -152,7 +169,7 @@ fn filled_by(otherwise: bool, atom: Node<'_, '_>) -> bool
 
 /// Whether `(fill WORD)` says that it is filled.
 #[tactic(auto, unfolding(crate::specs::Drawings::fill_of))]
-pub fn fill_of(otherwise: bool, node: Node<'_, '_>) -> Result<bool, BoardError>
+fn fill_of(otherwise: bool, node: Node<'_, '_>) -> Result<bool, BoardError>
     ensures { result ≡ fill_of otherwise (tree_of node.entry) }
 {
     match element(node, b"fill") {
@@ -163,6 +180,7 @@ pub fn fill_of(otherwise: bool, node: Node<'_, '_>) -> Result<bool, BoardError>
 
 // ---- drawings
 
+/// A line from its start to its end.
 #[tactic(auto, unfolding(crate::specs::Drawings::line_drawing))]
 fn line_drawing(node: Node<'_, '_>) -> Result<Drawing, BoardError>
     ensures drawing { Gives result (line_drawing (tree_of node.entry)) }
@@ -178,6 +196,7 @@ fn line_drawing(node: Node<'_, '_>) -> Result<Drawing, BoardError>
     })
 }
 
+/// A rectangle, of which two corners that lie across are given.
 #[tactic(auto, unfolding(crate::specs::Drawings::rect_drawing))]
 fn rect_drawing(node: Node<'_, '_>) -> Result<Drawing, BoardError>
     ensures drawing { Gives result (rect_drawing (tree_of node.entry)) }
@@ -194,6 +213,7 @@ fn rect_drawing(node: Node<'_, '_>) -> Result<Drawing, BoardError>
     })
 }
 
+/// A circle around its centre through its end.
 #[tactic(auto, unfolding(crate::specs::Drawings::circle_drawing))]
 fn circle_drawing(node: Node<'_, '_>) -> Result<Drawing, BoardError>
     ensures drawing { Gives result (circle_drawing (tree_of node.entry)) }
@@ -210,6 +230,7 @@ fn circle_drawing(node: Node<'_, '_>) -> Result<Drawing, BoardError>
     })
 }
 
+/// An outline by its corners, filled where nothing is said.
 #[tactic(auto, unfolding(crate::specs::Drawings::outline_drawing))]
 fn outline_drawing(alloc: Global, node: Node<'_, '_>) -> Result<Drawing, BoardError>
     ensures drawing { Gives result (outline_drawing (tree_of node.entry)) }

@@ -3,7 +3,7 @@
 ghost use Rattle.std.specs.Prelude.{◌≡◌, ◌<◌, ◌≤◌, ◌∷◌, ◌++◌, [], true, OnOk, Some, None, if◌then◌else◌, length, option_map, IfOk};
 ghost use Rattle.plain_types.specs.Lengths.{is_length};
 ghost use Rattle.part_read.specs.There.{both, after};
-ghost use Rattle.part_read.specs.Stances.{IsWithin};
+ghost use Rattle.part_read.specs.Stances.{IsReadSpot, IsStanceSpot};
 ghost use Rattle.part_read.specs.declared.figures.Figure.{Figure};
 ghost use Rattle.part_read.specs.declared.figures.Drawing.{Drawing};
 ghost use Rattle.part_read.specs.Figures.{sides, box_corners, box_core, line_cores, line_between, box_between, cores_around, cores_of, parts_around, radius_with, drawn, drawn_edge, first_spot, is_ring, is_circle, HasReach, IsDrawable};
@@ -61,7 +61,7 @@ fn side_cores(alloc: Global, corners: &[Point]) -> Result<Vec<Core>, AllocError>
 }
 
 /// The corners of a box, of which two that lie across are given.
-pub fn box_corners(p: Point, q: Point) -> [Point; 4]
+fn box_corners(p: Point, q: Point) -> [Point; 4]
     ensures { result ≡ box_corners p q }
 {
     [p, Point { x: q.x, y: p.y }, q, Point { x: p.x, y: q.y }]
@@ -79,12 +79,14 @@ pub fn box_core(alloc: Global, p: Point, q: Point) -> Result<Core, AllocError>
     Ok(Core::Area(Poly::of(corners)))
 }
 
+/// The line between two points, if both are there.
 fn line_between(
     alloc: Global,
     p: Option<Point>,
     q: Option<Point>,
 ) -> Result<Option<Vec<Core>>, AllocError>
-    ensures { IfOk result (λ cores. option_map (λ found. found.items) cores ≡ both line_between p q) }
+    ensures { IfOk result (λ cores.
+        option_map (λ found. found.items) cores ≡ both line_between p q) }
 {
     let Some(a) = p else {
         return Ok(None);
@@ -95,13 +97,15 @@ fn line_between(
     Ok(Some(one(alloc, Core::Line(Seg { a, b }))?))
 }
 
+/// A rectangle by two corners that lie across, if both are there: its area, or its four sides.
 fn box_between(
     alloc: Global,
     filled: bool,
     p: Option<Point>,
     q: Option<Point>,
 ) -> Result<Option<Vec<Core>>, AllocError>
-    ensures { IfOk result (λ cores. option_map (λ found. found.items) cores ≡ both (box_between filled) p q) }
+    ensures { IfOk result (λ cores.
+        option_map (λ found. found.items) cores ≡ both (box_between filled) p q) }
 {
     let Some(a) = p else {
         return Ok(None);
@@ -116,6 +120,7 @@ fn box_between(
     Ok(Some(side_cores(alloc, &corners)?))
 }
 
+/// An outline of three corners at least: its area, or its sides.
 fn cores_around(alloc: Global, filled: bool, points: Vec<Point>) -> Result<Vec<Core>, AllocError>
     requires { 3 ≤ length points.items }
     ensures { IfOk result (λ cores. cores.items ≡ cores_around filled points.items) }
@@ -126,7 +131,8 @@ fn cores_around(alloc: Global, filled: bool, points: Vec<Point>) -> Result<Vec<C
     side_cores(alloc, &points)
 }
 
-/// The cores of a figure that stands so, unless it leaves the board. What is not filled is one line for each side.
+/// The cores of a figure that stands so, unless it leaves the board. What is not filled is one line
+/// for each side.
 fn cores_of(
     alloc: Global,
     stance: Stance,
@@ -134,9 +140,10 @@ fn cores_of(
     figure: &Figure,
 ) -> Result<Option<Vec<Core>>, AllocError>
     requires quarter { stance.quarter < 4 }
-    requires at { IsWithin 3000000000000 stance.at }
+    requires at { IsStanceSpot stance.at }
     requires reach { HasReach figure.now }
-    ensures { IfOk result (λ cores. option_map (λ found. found.items) cores ≡ cores_of stance filled figure.now) }
+    ensures { IfOk result (λ cores.
+        option_map (λ found. found.items) cores ≡ cores_of stance filled figure.now) }
 {
     match figure {
         Figure::Line(start, end) => line_between(
@@ -165,8 +172,10 @@ fn cores_of(
 
 // ---- parts
 
+/// Puts a part behind the others.
 fn push_part(list: &mut SmallVec<Part, 1>, layers: LayerSet, shape: Shape) -> Result<(), AllocError>
-    ensures { OnOk result (list.new.items ≡ list.old.items ++ record { layers = layers; shape = shape } ∷ []) }
+    ensures { OnOk result
+        (list.new.items ≡ list.old.items ++ record { layers = layers; shape = shape } ∷ []) }
 {
     list.push(Part { layers, shape })?;
     Ok(())
@@ -179,7 +188,8 @@ fn push_around(
     cores: Vec<Core>,
     list: &mut SmallVec<Part, 1>,
 ) -> Result<(), AllocError>
-    ensures { OnOk result (list.new.items ≡ list.old.items ++ parts_around layers radius cores.items) }
+    ensures { OnOk result
+        (list.new.items ≡ list.old.items ++ parts_around layers radius cores.items) }
 {
     for core in cores {
         push_part(list, layers, around(radius, core))?;
@@ -198,8 +208,8 @@ fn radius_with(drawing: &Drawing) -> Nm
     }
 }
 
-/// Appends the parts that a drawing gives on these layers and answers true, unless it leaves the board or its width, or the
-/// diameter of its disc, is above 500 mm.
+/// Appends the parts that a drawing gives on these layers and answers true, unless it leaves the
+/// board or its width, or the diameter of its disc, is above 500 mm.
 pub fn draw_into(
     alloc: Global,
     layers: LayerSet,
@@ -208,9 +218,10 @@ pub fn draw_into(
     list: &mut SmallVec<Part, 1>,
 ) -> Result<bool, AllocError>
     requires quarter { stance.quarter < 4 }
-    requires at { IsWithin 3000000000000 stance.at }
+    requires at { IsStanceSpot stance.at }
     requires drawable { IsDrawable drawing.now }
-    ensures { IfOk result (λ drew. after list.old.items (drawn layers stance drawing.now) ≡ (if drew then Some list.new.items else None)) }
+    ensures { IfOk result (λ drew. after list.old.items (drawn layers stance drawing.now)
+        ≡ (if drew then Some list.new.items else None)) }
 {
     let Some(radius) = radius_of(radius_with(drawing)) else {
         return Ok(false);
@@ -222,17 +233,17 @@ pub fn draw_into(
     Ok(true)
 }
 
-/// The parts that a drawing gives on these layers, unless it leaves the board or its width, or the diameter of its disc,
-/// is above 500 mm.
+/// The parts that a drawing gives on these layers, unless it leaves the board or its width, or the
+/// diameter of its disc, is above 500 mm.
 #[tactic(auto, using(crate::proofs::Gathering::after_none))]
-pub fn draw(
+pub(crate) fn draw(
     alloc: Global,
     layers: LayerSet,
     stance: Stance,
     drawing: &Drawing,
 ) -> Result<Option<Parts>, AllocError>
     requires quarter { stance.quarter < 4 }
-    requires at { IsWithin 3000000000000 stance.at }
+    requires at { IsStanceSpot stance.at }
     requires drawable { IsDrawable drawing.now }
     ensures { IfOk result (λ parts. parts ≡ drawn layers stance drawing.now) }
 {
@@ -244,10 +255,10 @@ pub fn draw(
 }
 
 /// The spot by which a report names a figure.
-pub fn first_spot(figure: &Figure) -> Spot
+pub(crate) fn first_spot(figure: &Figure) -> Spot
     requires { HasReach figure.now }
     ensures spot { result ≡ first_spot figure.now }
-    ensures within { IsWithin 1000000000000 result }
+    ensures within { IsReadSpot result }
 {
     match figure {
         Figure::Line(start, _) | Figure::Rect(start, _) => *start,
@@ -267,20 +278,21 @@ pub fn is_ring(drawing: &Drawing) -> bool
 }
 
 /// Whether it is a circle.
-pub fn is_circle(figure: &Figure) -> bool
+pub(crate) fn is_circle(figure: &Figure) -> bool
     ensures { result ≡ is_circle figure.now }
 {
     matches!(figure, Figure::Circle(..))
 }
 
-/// The lines that a drawing gives on Edge.Cuts, unless it leaves the board or its width is above 500 mm.
-pub fn draw_edge(
+/// The lines that a drawing gives on Edge.Cuts, unless it leaves the board or its width is above
+/// 500 mm.
+pub(crate) fn draw_edge(
     alloc: Global,
     stance: Stance,
     drawing: Drawing,
 ) -> Result<Option<Parts>, AllocError>
     requires quarter { stance.quarter < 4 }
-    requires at { IsWithin 3000000000000 stance.at }
+    requires at { IsStanceSpot stance.at }
     requires drawable { IsDrawable drawing }
     ensures { IfOk result (λ parts. parts ≡ drawn_edge stance drawing) }
 {

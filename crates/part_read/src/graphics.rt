@@ -7,7 +7,7 @@ ghost use Rattle.part_read.specs.Nodes.{Gives};
 ghost use Rattle.list_read.specs.Elements.{element};
 ghost use Rattle.part_read.specs.Elements.{name_among, name_in};
 ghost use Rattle.part_read.specs.Lists.{GivesItems};
-ghost use Rattle.part_read.specs.Stances.{IsWithin};
+ghost use Rattle.part_read.specs.Stances.{IsStanceSpot};
 ghost use Rattle.part_read.specs.Grounds.{IsOn};
 ghost use Rattle.part_read.specs.Ready.{IsReady};
 ghost use Rattle.part_read.specs.PlainItems.{is_measured, plain_item};
@@ -42,9 +42,12 @@ pub enum Ground {
     Front,
     /// On B.CrtYd.
     Back,
+    /// On a layer where graphics are passed over.
     Elsewhere,
 }
 
+/// Where a graphic lies whose layer has this name: on the copper layer of this number, where it is
+/// one.
 fn ground_by(atom: Node<'_, '_>, layer: Option<u32>) -> Ground
     ensures { result ≡ ground_by (tree_of atom.entry) layer }
 {
@@ -97,7 +100,7 @@ pub fn plain_item(name: Name, unit: u32, net: u32, at: Spot, copper: Parts, what
     }
 }
 
-/// No parts.
+/// The copper of what has none.
 pub fn no_parts(alloc: Global) -> Parts
     ensures { result ≡ [] }
 {
@@ -116,9 +119,10 @@ fn copper_graphic(
     node: Node<'_, '_>,
 ) -> Result<Item, BoardError>
     requires quarter { stance.quarter < 4 }
-    requires at { IsWithin 3000000000000 stance.at }
+    requires at { IsStanceSpot stance.at }
     requires below { layer < 32 }
-    ensures read { Gives result (copper_graphic board.now unit stance kind layer (tree_of node.entry)) }
+    ensures read { Gives result
+        (copper_graphic board.now unit stance kind layer (tree_of node.entry)) }
 {
     let drawing = drawing_of(alloc, kind, node)?;
     let net = net_of(board, element(node, b"net"))?;
@@ -149,7 +153,7 @@ fn edge_graphic(
     node: Node<'_, '_>,
 ) -> Result<Item, BoardError>
     requires quarter { stance.quarter < 4 }
-    requires at { IsWithin 3000000000000 stance.at }
+    requires at { IsStanceSpot stance.at }
     ensures read { Gives result (edge_graphic unit stance kind (tree_of node.entry)) }
 {
     let drawing = drawing_of(alloc, kind, node)?;
@@ -174,13 +178,9 @@ fn edge_graphic(
 }
 
 /// The note of a text or a dimension on copper.
-pub fn note_of(
-    alloc: Global,
-    unit: u32,
-    about: About,
-    node: Node<'_, '_>,
-) -> Result<Item, AllocError>
-    ensures { IfOk result (λ item. item ≡ note_of (name_in (tree_of node.entry)) unit about (name_among (element (codes "layer") (tree_of node.entry)))) }
+fn note_of(alloc: Global, unit: u32, about: About, node: Node<'_, '_>) -> Result<Item, AllocError>
+    ensures { IfOk result (λ item. item ≡ note_of (name_in (tree_of node.entry)) unit about
+        (name_among (element (codes "layer") (tree_of node.entry)))) }
 {
     let name = name_of_list(alloc, node)?;
     let layer = name_in(alloc, element(node, b"layer"))?;
@@ -226,8 +226,8 @@ pub fn curve_by(alloc: Global, node: Node<'_, '_>, lies: Ground) -> Result<Vec<I
     }
 }
 
-/// The items that a graphic gives by where it lies: one on copper or on Edge.Cuts, and none elsewhere. The board takes them,
-/// as far as it has room.
+/// The items that a graphic gives by where it lies: one on copper or on Edge.Cuts, and none
+/// elsewhere. The board takes them, as far as it has room.
 #[tactic(auto, using(crate::proofs::Graphical::graphic_ready))]
 pub fn read_graphic(
     alloc: Global,
@@ -239,9 +239,10 @@ pub fn read_graphic(
     lies: Ground,
 ) -> Result<Vec<Item>, BoardError>
     requires quarter { stance.quarter < 4 }
-    requires at { IsWithin 3000000000000 stance.at }
+    requires at { IsStanceSpot stance.at }
     requires on { IsOn board.now.copper lies }
-    ensures items { GivesItems result (graphic_by board.now unit stance kind (tree_of node.entry) lies) }
+    ensures items { GivesItems result
+        (graphic_by board.now unit stance kind (tree_of node.entry) lies) }
     ensures ready { IfOk result (λ items. All (IsReady board.now unit) items.items) }
 {
     board.soundness();

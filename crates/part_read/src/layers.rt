@@ -29,7 +29,8 @@ fn seek_layer(atom: Node<'_, '_>) -> Option<u32>
     None
 }
 
-/// Whether what an atom stands for may begin with this byte; an escape may stand for any.
+/// Whether what an atom stands for may begin with this byte; an escape may stand for any. Only a no
+/// is sure.
 fn may_begin(atom: Node<'_, '_>, byte: u8) -> bool
     ensures { (rest : List ℕ) → value (tree_of atom.entry) ≡ Some (byte ∷ rest) → IsTrue result }
 {
@@ -43,7 +44,7 @@ fn may_begin(atom: Node<'_, '_>, byte: u8) -> bool
 }
 
 /// The layer that an atom names, if it is one of copper.
-pub fn layer_number(atom: Node<'_, '_>) -> Option<u32>
+fn layer_number(atom: Node<'_, '_>) -> Option<u32>
     ensures number { result ≡ layer_number (tree_of atom.entry) }
     ensures below { IfSome result (λ layer. layer < 32) }
 {
@@ -91,7 +92,8 @@ pub fn layers_listed(list: Node<'_, '_>) -> Result<LayerSet, BoardError>
 
 // ---- a layer of an item
 
-/// The copper layer of the board that an atom names; None where it names no copper layer, and is passed over.
+/// The copper layer of the board that an atom names; None where it names no copper layer, and is
+/// passed over.
 #[tactic(auto, unfolding(crate::specs::LayersOf::layer_in))]
 pub fn layer_in(copper: LayerSet, atom: Node<'_, '_>) -> Result<Option<u32>, BoardError>
     ensures layer { result ≡ layer_in copper (tree_of atom.entry) }
@@ -105,7 +107,7 @@ pub fn layer_in(copper: LayerSet, atom: Node<'_, '_>) -> Result<Option<u32>, Boa
     }
 }
 
-/// The same, where a copper layer must stand.
+/// The copper layer of the board that an atom names, where one must stand.
 #[tactic(auto, unfolding(crate::specs::LayersOf::copper_in))]
 pub fn copper_in(copper: LayerSet, atom: Node<'_, '_>) -> Result<u32, BoardError>
     ensures layer { result ≡ copper_in copper (tree_of atom.entry) }
@@ -120,7 +122,7 @@ pub fn copper_in(copper: LayerSet, atom: Node<'_, '_>) -> Result<u32, BoardError
 
 /// The one layer of `(layer NAME)`.
 #[tactic(auto, unfolding(crate::specs::LayersOf::layer_at))]
-pub fn layer_at(copper: LayerSet, list: Node<'_, '_>) -> Result<u32, BoardError>
+fn layer_at(copper: LayerSet, list: Node<'_, '_>) -> Result<u32, BoardError>
     ensures layer { result ≡ layer_at copper (tree_of list.entry) }
     ensures below { IfOk result (λ layer. layer < 32) }
     ensures on { IfOk result (λ layer. IsTrue (has_layer copper layer)) }
@@ -128,13 +130,14 @@ pub fn layer_at(copper: LayerSet, list: Node<'_, '_>) -> Result<u32, BoardError>
     copper_in(copper, first_atom(list)?)
 }
 
-/// That of an element that the list must have.
+/// The one layer of an element that the list must have.
 pub fn layer_of(
     copper: LayerSet,
     node: Node<'_, '_>,
     found: Option<Node<'_, '_>>,
 ) -> Result<u32, BoardError>
-    ensures layer { result ≡ in_needed (layer_at copper) (tree_of node.entry) (option_map tree_of found.entry) }
+    ensures layer { result
+        ≡ in_needed (layer_at copper) (tree_of node.entry) (option_map tree_of found.entry) }
     ensures below { IfOk result (λ layer. layer < 32) }
     ensures on { IfOk result (λ layer. IsTrue (has_layer copper layer)) }
 {
@@ -155,13 +158,15 @@ fn layers_between(copper: LayerSet, list: Node<'_, '_>) -> Result<LayerSet, Boar
     Ok(copper.between(one, other))
 }
 
-/// Those of an element that the list must have.
+/// The layers of the board from the one to the other that an element names, which the list must
+/// have.
 pub fn layers_through(
     copper: LayerSet,
     node: Node<'_, '_>,
     found: Option<Node<'_, '_>>,
 ) -> Result<LayerSet, BoardError>
-    ensures layers { result ≡ in_needed (layers_through copper) (tree_of node.entry) (option_map tree_of found.entry) }
+    ensures layers { result
+        ≡ in_needed (layers_through copper) (tree_of node.entry) (option_map tree_of found.entry) }
     ensures on { IfOk result (λ layers. IsTrue (is_within layers copper)) }
 {
     match found {
@@ -193,7 +198,8 @@ fn outer_of(copper: LayerSet) -> LayerSet
     layer_if(copper, 0).union(layer_if(copper, 31))
 }
 
-/// The layers of the board that an atom names, with the wildcards `*.Cu` and `F&B.Cu`; a list is passed over.
+/// The layers of the board that an atom names, with the wildcards `*.Cu` and `F&B.Cu`; a list is
+/// passed over.
 #[tactic(auto, unfolding(crate::specs::LayersOf::named))]
 pub fn named(copper: LayerSet, part: Node<'_, '_>) -> Result<LayerSet, BoardError>
     ensures set { GivesSet result (named copper (tree_of part.entry)) }
@@ -227,9 +233,9 @@ pub fn layers_named(copper: LayerSet, list: Node<'_, '_>) -> Result<LayerSet, Bo
     Ok(set)
 }
 
-/// The copper layer of the board that the layer of a graphic names; wildcards are passed over there.
+/// The copper layer of the board that the layer of a graphic names; wildcards are passed over.
 #[tactic(auto, unfolding(crate::specs::LayersOf::drawn_on))]
-pub fn drawn_on(copper: LayerSet, atom: Node<'_, '_>) -> Result<Option<u32>, BoardError>
+pub(crate) fn drawn_on(copper: LayerSet, atom: Node<'_, '_>) -> Result<Option<u32>, BoardError>
     ensures layer { result ≡ drawn_on copper (tree_of atom.entry) }
     ensures below { IfOk result (λ found. IfSome found (λ layer. layer < 32)) }
     ensures on { IfOk result (λ found. IfSome found (λ layer. IsTrue (has_layer copper layer))) }

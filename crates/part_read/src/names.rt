@@ -1,4 +1,4 @@
-//! Names.
+//! The name that a list gives.
 
 ghost use Rattle.std.specs.Prelude.{◌≡◌, IfOk, option_map};
 ghost use Rattle.sexpr_read.specs.Views.{tree_of};

@@ -1,4 +1,4 @@
-//! The net of an item.
+//! The net of an item, which the board must have declared.
 
 ghost use Rattle.std.specs.Prelude.{◌≡◌, true, is_some, IfOk, option_map};
 ghost use Rattle.board_items.specs.Boards.{name_of};
@@ -14,7 +14,7 @@ use sexpr_read::Node;
 
 /// The number of `(net NUMBER)`, which was declared before.
 #[tactic(auto, unfolding(crate::specs::NetsOf::declared_in))]
-pub fn declared_in(board: &Board, list: Node<'_, '_>) -> Result<u32, BoardError>
+fn declared_in(board: &Board, list: Node<'_, '_>) -> Result<u32, BoardError>
     ensures net { result ≡ declared_in board.now (tree_of list.entry) }
     ensures declared { IfOk result (λ net. is_some (name_of board.now net) ≡ true) }
 {
@@ -29,7 +29,8 @@ pub fn declared_in(board: &Board, list: Node<'_, '_>) -> Result<u32, BoardError>
 /// The net of an item by its element, or 0, which is none.
 pub fn net_of(board: &Board, found: Option<Node<'_, '_>>) -> Result<u32, BoardError>
     ensures net { result ≡ given_or 0 (declared_in board.now) (option_map tree_of found.entry) }
-    ensures declared { is_some (name_of board.now 0) ≡ true → IfOk result (λ net. is_some (name_of board.now net) ≡ true) }
+    ensures declared { is_some (name_of board.now 0) ≡ true
+        → IfOk result (λ net. is_some (name_of board.now net) ≡ true) }
 {
     match found {
         None => Ok(0),

@@ -62,7 +62,7 @@ pub fn number_in(atom: Node<'_, '_>) -> Result<u32, BoardError>
 
 /// The spot of `(HEAD X Y)`.
 #[tactic(auto, unfolding(crate::specs::Numbers::spot_at))]
-pub fn spot_at(list: Node<'_, '_>) -> Result<Spot, BoardError>
+pub(crate) fn spot_at(list: Node<'_, '_>) -> Result<Spot, BoardError>
     ensures { result ≡ spot_at (tree_of list.entry) }
 {
     let x = length_in(first_atom(list)?)?;
@@ -82,7 +82,7 @@ pub fn spot_of(node: Node<'_, '_>, found: Option<Node<'_, '_>>) -> Result<Spot, 
 
 /// The size of `(HEAD SIZE)`.
 #[tactic(auto, unfolding(crate::specs::Numbers::size_at))]
-pub fn size_at(list: Node<'_, '_>) -> Result<Nm, BoardError>
+pub(crate) fn size_at(list: Node<'_, '_>) -> Result<Nm, BoardError>
     ensures { result ≡ size_at (tree_of list.entry) }
 {
     size_in(first_atom(list)?)

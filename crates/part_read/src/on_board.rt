@@ -33,6 +33,7 @@ pub fn point_at(spot: Spot) -> Option<Point>
     None
 }
 
+/// The point at a spot that lies on the board.
 fn doubled(spot: Spot) -> Point
     requires { fits_board spot ≡ true }
     ensures x { result.x ≡ pos 2 *ℤ spot.x }
@@ -44,6 +45,7 @@ fn doubled(spot: Spot) -> Point
     }
 }
 
+/// Whether both ends lie on the board, and the width is a length.
 fn is_strip(strip: Strip) -> bool
     ensures { result ≡ is_strip strip }
 {

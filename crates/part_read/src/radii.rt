@@ -1,6 +1,7 @@
-//! Radii of shapes.
+//! The radius of a shape, with its range.
 
 ghost use Rattle.std.specs.Prelude.{◌≤ℤ◌, pos};
+ghost use Rattle.plain_types.specs.Lengths.{greatest};
 
 use board_items::Nm;
 
@@ -9,5 +10,5 @@ use board_items::Nm;
 pub struct Radius {
     pub value: Nm,
     pub ghost from: { pos 0 ≤ℤ value },
-    pub ghost to: { value ≤ℤ pos 500000000 },
+    pub ghost to: { value ≤ℤ greatest },
 }

@@ -1,4 +1,4 @@
-//! Room on a board.
+//! Whether a board has room for the items of a list that is read.
 
 ghost use Rattle.std.specs.Prelude.{◌≡◌};
 ghost use Rattle.part_read.specs.Room.{has_room_after};

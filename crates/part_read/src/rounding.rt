@@ -1,4 +1,4 @@
-//! Shapes around cores.
+//! Shapes by a core and the radius around it.
 
 ghost use Rattle.std.specs.Prelude.{◌≡◌};
 ghost use Rattle.plain_types.specs.Lengths.{is_length};

@@ -1,7 +1,7 @@
 use Rattle.std.proofs.Common.{◌+◌, sym, subst, arith}
 use Rattle.std.proofs.lemmas.Int.{ints}
 use Rattle.part_read.specs.declared.numbers.Spot.{Spot}
-use Rattle.part_read.specs.Stances.{IsWithin}
+use Rattle.part_read.specs.Stances.{IsSpotWithin}
 use Rattle.part_read.proofs.Standing.{stand_is, stood_within, in_x, in_y}
 use Rattle.part_read.proofs.stances.stand.Goals as goal
 
@@ -10,7 +10,7 @@ returns-clause-stood c = stand_is c.args.stance c.args.spot c.turn-x.result c.re
 
 pub returns-clause-within : goal.returns-clause-within
 returns-clause-within c most h =
-    subst (λ (s : Spot). IsWithin (most + 1000000000000) s) (sym (stand_is c.args.stance c.args.spot c.turn-x.result c.requires.at c.requires.spot c.turn-x.ensures))
+    subst (λ (s : Spot). IsSpotWithin (most + 1000000000000) s) (sym (stand_is c.args.stance c.args.spot c.turn-x.result c.requires.at c.requires.spot c.turn-x.ensures))
     (stood_within c.args.stance c.args.spot most 1000000000000 h c.requires.spot)
 
 pub turn-x-requires-clause-quarter : goal.turn-x-requires-clause-quarter
