@@ -9,10 +9,13 @@ ghost use Rattle.board_laws.specs.Edits.{IsEdit, WasOrIs};
 
 /// A net of whose items an edit touches none keeps its items.
 pub fn net_stays()
-    ensures { (old new : PlainBoard) (ids : List ℕ) → IsEdit old new ids → (net : ℕ) → ((id : ℕ) (item : Item) → Contains ids id → WasOrIs old new id item → is_of_net net item ≡ false) → items_of net new.items ≡ items_of net old.items }
+    ensures { (old new : PlainBoard) (ids : List ℕ) → IsEdit old new ids → (net : ℕ)
+        → ((id : ℕ) (item : Item) → Contains ids id → WasOrIs old new id item
+        → is_of_net net item ≡ false) → items_of net new.items ≡ items_of net old.items }
 {}
 
 /// A board has one list of parts.
 pub fn one_list_of_parts()
-    ensures { (board : PlainBoard) (parts others : List PlainNetPart) → AreParts board parts → AreParts board others → parts ≡ others }
+    ensures { (board : PlainBoard) (parts others : List PlainNetPart) → AreParts board parts
+        → AreParts board others → parts ≡ others }
 {}

@@ -1,12 +1,10 @@
 //! What is found of a net.
 
 ghost use Rattle.std.specs.Prelude.{◌≡◌, IfOk};
-ghost use Rattle.board_index.specs.Holding.{HoldsItems};
 ghost use Rattle.net_groups.specs.NetParts.{is_open, IsNetPart, PlainNetPart};
 
 use board_items::Board;
-use box_index::TileIndex;
-use net_groups::{Group, anchors, groups};
+use net_groups::{Group, anchors, groups_of};
 use ratsnest::{Anchor, Links, Nest, nest};
 use std::alloc::{AllocError, Global};
 use std::marker::Model;
@@ -76,17 +74,11 @@ impl NetPart {
     }
 }
 
-/// What is found of a net. The index holds all items of the board that have bounds. Only want of memory refuses it.
-pub(crate) fn part_of(
-    alloc: Global,
-    board: &Board,
-    net: u32,
-    index: &TileIndex,
-) -> Result<NetPart, AllocError>
-    requires { HoldsItems board.now index.now }
+/// What is found of a net. Only want of memory refuses it.
+pub(crate) fn part_of(alloc: Global, board: &Board, net: u32) -> Result<NetPart, AllocError>
     ensures { IfOk result (IsNetPart board.now net) }
 {
-    let groups = groups(alloc, board, net, index)?;
+    let groups = groups_of(alloc, board, net)?;
     let anchors = anchors(alloc, board, net, &groups)?;
     let nest = nest(alloc, &anchors)?;
     Ok(NetPart {

@@ -5,7 +5,6 @@ ghost use Rattle.std.specs.List.{AllZip};
 ghost use Rattle.std.specs.List.Sorted.{IsStrictlyIncreasing};
 ghost use Rattle.board_items.specs.Boards.{PlainBoard};
 ghost use Rattle.board_laws.specs.Edits.{is_one_of};
-ghost use Rattle.board_index.specs.Holding.{HoldsItems};
 ghost use Rattle.net_groups.specs.NetParts.{PlainNetPart, IsNetPart, AreParts};
 ghost use Rattle.board_laws.specs.Edits.{IsEdit};
 ghost use Rattle.kept_nets.specs.Touched.{AreTouched};
@@ -14,7 +13,6 @@ ghost use Rattle.kept_nets.specs.Works.{AreWorksUpTo, IsPlan};
 use crate::part::NetPart;
 use crate::works::{Work, find_parts};
 use board_items::Board;
-use box_index::TileIndex;
 use std::alloc::{AllocError, Global};
 use std::thread::Threads;
 
@@ -29,7 +27,8 @@ fn is_touched(part: &NetPart, nets: &[u32]) -> bool
 /// A work for each part whose net is touched.
 fn works_of(alloc: Global, parts: &[NetPart], nets: &[u32]) -> Result<Vec<Work>, AllocError>
     requires { IsStrictlyIncreasing nets.now }
-    ensures { IfOk result (λ works. AreWorksUpTo (map (λ part. part.net) parts.now) nets.now (length parts.now) works.items) }
+    ensures { IfOk result (λ works.
+        AreWorksUpTo (map (λ part. part.net) parts.now) nets.now (length parts.now) works.items) }
 {
     let mut works = Vec::new(alloc);
     for place in 0..parts.len() {
@@ -48,7 +47,9 @@ fn works_of(alloc: Global, parts: &[NetPart], nets: &[u32]) -> Result<Vec<Work>,
 /// Puts the part that a work found into its place.
 fn put(parts: &mut [NetPart], work: Work) -> Result<(), AllocError>
     requires { work.place < length parts.old }
-    ensures { OnOk result ((part : PlainNetPart) × (work.part ≡ Some part) × (parts.new ≡ slice_set parts.old work.place part)) }
+    ensures { OnOk result
+        ((part : PlainNetPart) × (work.part ≡ Some part)
+        × (parts.new ≡ slice_set parts.old work.place part)) }
 {
     let place = work.place;
     match work.part {
@@ -63,7 +64,9 @@ fn put(parts: &mut [NetPart], work: Work) -> Result<(), AllocError>
 /// Puts the parts that were found into their places. It fails where a work met a want of memory.
 fn put_parts(parts: &mut [NetPart], mut works: Vec<Work>) -> Result<(), AllocError>
     requires { All (λ work. work.place < length parts.old) works.items }
-    ensures { OnOk result ((board : PlainBoard) (nets : List ℕ) → IsPlan board nets parts.old works.items → AllZip (IsNetPart board) nets parts.new) }
+    ensures { OnOk result
+        ((board : PlainBoard) (nets : List ℕ) → IsPlan board nets parts.old works.items
+        → AllZip (IsNetPart board) nets parts.new) }
 {
     while let Some(work) = works.pop() {
         put(parts, work)?;
@@ -75,22 +78,21 @@ fn put_parts(parts: &mut [NetPart], mut works: Vec<Work>) -> Result<(), AllocErr
 ///
 /// `nets` are the numbers, rising, of the nets of all items of the edit, as they were and as they are; they may have others, and
 /// net 0. Only parts of these nets are found anew: with one worker on the thread of the caller, with more by as many threads as there
-/// are processors. The index holds all items of the board that have bounds. Only want of memory fails it, and the parts are then of
-/// no use.
+/// are processors. Only want of memory fails it, and the parts are then of no use.
 pub fn renew_parts(
     rt: &(impl Threads + Sync),
     alloc: Global,
     workers: u32,
     board: &Board,
-    index: &TileIndex,
     parts: &mut [NetPart],
     nets: &[u32],
 ) -> Result<(), AllocError>
-    requires index { HoldsItems board.now index.now }
-    requires nets { IsStrictlyIncreasing nets.now }
-    ensures { (old : PlainBoard) (ids : List ℕ) → IsEdit old board.now ids → AreTouched old board.now ids nets.now → AreParts old parts.old → OnOk result (AreParts board.now parts.new) }
+    requires { IsStrictlyIncreasing nets.now }
+    ensures { (old : PlainBoard) (ids : List ℕ) → IsEdit old board.now ids
+        → AreTouched old board.now ids nets.now → AreParts old parts.old
+        → OnOk result (AreParts board.now parts.new) }
 {
     let mut works = works_of(alloc, parts, nets)?;
-    find_parts(rt, alloc, workers, board, index, &mut works);
+    find_parts(rt, alloc, workers, board, &mut works);
     put_parts(parts, works)
 }

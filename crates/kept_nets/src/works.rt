@@ -1,13 +1,11 @@
 //! Nets whose parts are found one after the other or side by side.
 
 ghost use Rattle.std.specs.Prelude.{◌≡◌, IfSome};
-ghost use Rattle.board_index.specs.Holding.{HoldsItems};
 ghost use Rattle.net_groups.specs.NetParts.{IsNetPart};
 ghost use Rattle.kept_nets.specs.Works.{AreFound};
 
 use crate::part::{NetPart, part_of};
 use board_items::Board;
-use box_index::TileIndex;
 use rayon::prelude::*;
 use std::alloc::Global;
 use std::thread::Threads;
@@ -21,22 +19,20 @@ pub(crate) struct Work {
 }
 
 /// Finds the part of a net. Where memory is wanting there is none.
-fn find_part(alloc: Global, board: &Board, index: &TileIndex, work: &mut Work)
-    requires { HoldsItems board.now index.now }
+fn find_part(alloc: Global, board: &Board, work: &mut Work)
     ensures place { work.new.place ≡ work.old.place }
     ensures net { work.new.net ≡ work.old.net }
     ensures part { IfSome work.new.part (IsNetPart board.now work.old.net) }
 {
-    work.part = part_of(alloc, board, work.net, index).ok();
+    work.part = part_of(alloc, board, work.net).ok();
 }
 
 /// Finds the parts of these nets, one after the other.
-fn find_each(alloc: Global, board: &Board, index: &TileIndex, works: &mut [Work])
-    requires { HoldsItems board.now index.now }
+fn find_each(alloc: Global, board: &Board, works: &mut [Work])
     ensures { AreFound board.now works.old works.new }
 {
     for place in 0..works.len() {
-        find_part(alloc, board, index, &mut works[place]);
+        find_part(alloc, board, &mut works[place]);
     }
 }
 
@@ -47,24 +43,22 @@ pub(crate) fn find_parts(
     alloc: Global,
     workers: u32,
     board: &Board,
-    index: &TileIndex,
     works: &mut [Work],
 )
-    requires { HoldsItems board.now index.now }
     ensures { AreFound board.now works.old works.new }
 {
     if workers == 1 || works.len() <= 1 {
-        find_each(alloc, board, index, works);
+        find_each(alloc, board, works);
         return;
     }
     par_for_each_mut(
         rt,
         works,
         |_: usize, work: &mut Work|
-            requires { HoldsItems board.now index.now }
-            ensures { (work.new.place ≡ work.old.place) × (work.new.net ≡ work.old.net) × IfSome work.new.part (IsNetPart board.entry.now work.old.net) }
+            ensures { (work.new.place ≡ work.old.place) × (work.new.net ≡ work.old.net)
+                × IfSome work.new.part (IsNetPart board.entry.now work.old.net) }
         {
-            find_part(alloc, board, index, work);
+            find_part(alloc, board, work);
         },
     );
 }

@@ -1,12 +1,14 @@
 -- Lists of anchors that rise by id and number.
 use Rattle.std.proofs.Common.{◌≡◌, ◌⊎◌, ℕ, zero, suc, ◌-◌, ◌<◌, ◌≤◌, ◌≤ℤ◌, ℤ, pos, neg_ℤ, List, [], ◌∷◌, ◌++◌, length, get_or, Contains, inl, inr, refl, sym, subst, ap, ◌∙◌, arith, length-append}
 use Rattle.std.specs.Int.Signed.{le_z}
+use Rattle.std.specs.List.{AllPairs}
 use Rattle.std.proofs.Math.Dec.{T_prop}
 use Rattle.std.proofs.lemmas.Bool.{cases_lt}
 use Rattle.std.proofs.lemmas.List.{get_or_append_left, get_or-append_right, get_or_default}
 use Rattle.ratsnest.specs.Reach.{IsInReach}
 use Rattle.ratsnest.specs.declared.anchor.Anchor.{Anchor}
 use Rattle.ratsnest.specs.NestOf.{nowhere, anchor_at, group_at, group_count, IsBefore, AnchorsRise}
+use Rattle.net_groups.proofs.OneOrder.{same_lists}
 
 -- ---- an anchor is told by what it says; the ranges have one proof each
 ≤ℤ_prop : (a b : ℤ) → IsProp (a ≤ℤ b)
@@ -90,43 +92,16 @@ rise_append xs ys up more before i j lt past =
     within k from past = let whole = length-append xs ys in omega arith
 
 -- ---- two lists that rise and hold the same anchors
-rise_tail : (x : Anchor) (xs : List Anchor) → AnchorsRise (x ∷ xs) → AnchorsRise xs
-rise_tail x xs up i j lt past = up (suc i) (suc j) (omega arith) (omega arith)
-
-before_later : (x : Anchor) (xs : List Anchor) → AnchorsRise (x ∷ xs) → (a : Anchor) → Contains xs a → IsBefore x a
-before_later x xs up a c =
-    let lt = c.1 in
-    let e : anchor_at xs c.0 ≡ a = get_or_default xs c.0 nowhere a c.1 ∙ c.2 in
-    subst (IsBefore x) e (up 0 (suc c.0) (omega arith) (omega arith))
-
-both_before : (a b : Anchor) → IsBefore a b → IsBefore b a → ⊥
+pub both_before : (a b : Anchor) → IsBefore a b → IsBefore b a → ⊥
 both_before a b h k = absurd (omega arith)
 
-never_before : (a b : Anchor) → a ≡ b → IsBefore a b → ⊥
-never_before a b e h = let k : IsBefore a a = subst (IsBefore a) (sym e) h in absurd (omega arith)
+in_pairs : (xs : List Anchor) → AnchorsRise xs → AllPairs IsBefore xs
+in_pairs xs up i j d lt past =
+    subst (λ (a : Anchor). IsBefore a (get_or xs j d)) (get_or_default xs i nowhere d (omega arith))
+    (subst (IsBefore (anchor_at xs i)) (get_or_default xs j nowhere d past) (up i j lt past))
 
 pub same_anchors : (xs ys : List Anchor) → AnchorsRise xs → AnchorsRise ys → ((a : Anchor) → Contains xs a → Contains ys a) → ((a : Anchor) → Contains ys a → Contains xs a) → xs ≡ ys
-same_anchors [] [] up more on back = refl
-same_anchors [] (y ∷ ys) up more on back = absurd (nothing y (back y (here y ys)))
-same_anchors (x ∷ xs) [] up more on back = absurd (nothing x (on x (here x xs)))
-same_anchors (x ∷ xs) (y ∷ ys) up more on back =
-    let rest = same_anchors xs ys (rise_tail x xs up) (rise_tail y ys more) (others x xs y ys up first on) (others y ys x xs more (sym first) back) in
-    ap (λ (z : Anchor). z ∷ xs) first ∙ ap (λ (zs : List Anchor). y ∷ zs) rest
-  where
-    first : x ≡ y
-    first = elim (cases y ys x (on x (here x xs))) [
-      | inl e ↦ sym e
-      | inr l ↦ elim (cases x xs y (back y (here y ys))) [
-        | inl e ↦ e
-        | inr k ↦ absurd (both_before y x (before_later y ys more x l) (before_later x xs up y k))
-      ]
-    ]
-
-    others : (x : Anchor) (xs : List Anchor) (y : Anchor) (ys : List Anchor) → AnchorsRise (x ∷ xs) → x ≡ y → ((a : Anchor) → Contains (x ∷ xs) a → Contains (y ∷ ys) a) → (a : Anchor) → Contains xs a → Contains ys a
-    others x xs y ys up same on a c = elim (cases y ys a (on a (later x xs a c))) [
-      | inl is ↦ absurd (never_before x a (same ∙ is) (before_later x xs up a c))
-      | inr rest ↦ rest
-    ]
+same_anchors xs ys up more on back = same_lists IsBefore both_before xs ys (in_pairs xs up) (in_pairs ys more) on back
 
 -- ---- groups of anchors
 pub some_group : (xs : List Anchor) (g : ℕ) → g < group_count xs → (a : Anchor) × Contains xs a × (g ≤ a.group)

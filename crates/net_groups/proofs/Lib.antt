@@ -11,9 +11,11 @@ pub mod Placed
 pub mod Conductors
 pub mod Gathering
 pub mod Whole
+pub mod OneOrder
 pub mod Once
 pub mod Nets
 pub mod AnchorLists
+pub mod OneNest
 pub mod NetIds
 pub mod Beside
 pub mod Numbers

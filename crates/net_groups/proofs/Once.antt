@@ -4,33 +4,11 @@ use Rattle.std.specs.List.{Any, AllPairs}
 use Rattle.std.proofs.lemmas.List.Elements.{All-head, All-tail, All-contains, Contains-get_or}
 use Rattle.item_copper.proofs.Meeting.{any_here, any_later, any_cases, any_none}
 use Rattle.net_groups.specs.Classes.{Rises, least, AreTogether, AreDisjoint, AreClasses}
-use Rattle.net_groups.proofs.Conductors.{contains_here, contains_later, contains_cases, contains_nothing}
-use Rattle.net_groups.proofs.Whole.{rises_tail, rises_head, least_le}
-
--- ---- two lists that rise and hold the same numbers
-above_head : (x : ℕ) (xs : List ℕ) → Rises (x ∷ xs) → (a : ℕ) → Contains xs a → x < a
-above_head x xs up a c = subst (λ (k : ℕ). x < k) c.2 (rises_head x xs up c.0 a c.1)
+use Rattle.net_groups.proofs.OneOrder.{same_lists}
+use Rattle.net_groups.proofs.Whole.{least_le}
 
 same_rising : (xs ys : List ℕ) → Rises xs → Rises ys → ((a : ℕ) → Contains xs a → Contains ys a) → ((a : ℕ) → Contains ys a → Contains xs a) → xs ≡ ys
-same_rising [] [] up up' on back = refl
-same_rising [] (y ∷ ys) up up' on back = absurd (contains_nothing y (back y (contains_here y ys)))
-same_rising (x ∷ xs) [] up up' on back = absurd (contains_nothing x (on x (contains_here x xs)))
-same_rising (x ∷ xs) (y ∷ ys) up up' on back =
-    let first : x ≡ y = heads in
-    let more = same_rising xs ys (rises_tail x xs up) (rises_tail y ys up') (later x xs y ys up first on) (later y ys x xs up' (sym first) back) in
-    ap (λ k. k ∷ xs) first ∙ ap (λ (zs : List ℕ). y ∷ zs) more
-  where
-    heads : x ≡ y
-    heads =
-        let low : y ≤ x = least_le (y ∷ ys) up' x (on x (contains_here x xs)) in
-        let high : x ≤ y = least_le (x ∷ xs) up y (back y (contains_here y ys)) in
-        omega arith
-
-    later : (x : ℕ) (xs : List ℕ) (y : ℕ) (ys : List ℕ) → Rises (x ∷ xs) → x ≡ y → ((a : ℕ) → Contains (x ∷ xs) a → Contains (y ∷ ys) a) → (a : ℕ) → Contains xs a → Contains ys a
-    later x xs y ys up same on a c = elim (contains_cases y ys a (on a (contains_later x xs a c))) [
-      | inl is ↦ let less = above_head x xs up a c in absurd (omega arith)
-      | inr more ↦ more
-    ]
+same_rising = same_lists (λ a b. a < b) (λ a b f g. omega arith)
 
 pairs_tail : {X : Type 0} (R : X → X → Type 0) (x : X) (xs : List X) → AllPairs R (x ∷ xs) → AllPairs R xs
 pairs_tail R x xs pairs i j d lt past = pairs (suc i) (suc j) d (omega arith) (omega arith)

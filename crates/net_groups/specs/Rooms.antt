@@ -1,7 +1,7 @@
 -- Private words of the search: the rooms of places, and tiles that hold them.
-use Rattle.std.specs.Prelude.{◌≡◌, ◌≢◌, true, ℕ, ◌+◌, ◌*◌, ◌<◌, ◌≤◌, pos, List, [], Some, length, slice_index, slice_index_or, All, Contains}
+use Rattle.std.specs.Prelude.{◌≡◌, ◌≢◌, true, ℕ, ◌+◌, ◌*◌, ◌<◌, ◌≤◌, List, [], Some, length, slice_index, slice_index_or, All, Contains}
 use Rattle.geo_seg.specs.declared.boxes.Bounds.{Bounds}
-use Rattle.geo_seg.specs.Boxes.{IsPartOf, BoxesMeet, FitsWithin}
+use Rattle.geo_seg.specs.Boxes.{IsPartOf, BoxesMeet, FitsShape}
 use Rattle.board_items.specs.declared.item.Item.{Item}
 use Rattle.board_items.specs.Boards.{PlainBoard, item_at}
 use Rattle.board_items.specs.Parts.{parts_of}
@@ -17,13 +17,13 @@ IsRoom board id room = (item : Item) → item_at board.items id ≡ Some item �
 -- the item of the id has copper, and this is its room
 pub record IsCopperRoom (board : PlainBoard) (id : ℕ) (room : Bounds) : Type 0 where
   pub copper : is_copper (item_at board.items id) ≡ true
-  pub fits : FitsWithin (pos 1500000000) room
+  pub fits : FitsShape room
   pub is : IsRoom board id room
 
 -- a room for each place, and where one place steps to another their rooms meet
 pub record AreRooms (Step : ℕ → ℕ → Type 0) (ids : List ℕ) (rooms : List Bounds) : Type 0 where
   pub many : length rooms ≡ length ids
-  pub fit : All (λ room. FitsWithin (pos 1500000000) room) rooms
+  pub fit : All (λ room. FitsShape room) rooms
   pub meet : (i j : ℕ) (d : Bounds) → i < length ids → j < length ids → Step (slice_index ids i) (slice_index ids j) → BoxesMeet (slice_index_or rooms i d) (slice_index_or rooms j d)
 
 -- the boxes lie around the rooms, each around eight of them
@@ -34,7 +34,7 @@ AreRuns rooms runs =
 -- as many other rooms, which meet where the first did
 pub record AreSpread (rooms wide : List Bounds) : Type 0 where
   pub many : length wide ≡ length rooms
-  pub fit : All (λ room. FitsWithin (pos 1500000000) room) wide
+  pub fit : All (λ room. FitsShape room) wide
   pub meet : (i j : ℕ) (d : Bounds) → i < length rooms → j < length rooms → BoxesMeet (slice_index_or rooms i d) (slice_index_or rooms j d) → BoxesMeet (slice_index_or wide i d) (slice_index_or wide j d)
 
 -- the entries of the index are the rooms, and their ids are the places

@@ -46,7 +46,9 @@ fn push_numbered(
     number: Option<u32>,
     id: u32,
 ) -> Result<(), AllocError>
-    ensures { OnOk result ((numbers : ℕ → Option ℕ) → numbers id ≡ number → AreAdded board.now.items numbers id anchors.old.items anchors.new.items) }
+    ensures { OnOk result
+        ((numbers : ℕ → Option ℕ) → numbers id ≡ number
+        → AreAdded board.now.items numbers id anchors.old.items anchors.new.items) }
 {
     match (number, board.get(id)) {
         (Some(group), Some(item)) => push_own(anchors, item, id, group),
@@ -63,7 +65,8 @@ fn anchors_among(
 ) -> Result<Vec<Anchor>, AllocError>
     requires rises { Rises ids.now }
     requires many { length numbers.now ≡ length ids.now }
-    ensures { IfOk result (λ anchors. AreAnchorsAmong board.now.items (number_of ids.now numbers.now) ids.now anchors.items) }
+    ensures { IfOk result (λ anchors.
+        AreAnchorsAmong board.now.items (number_of ids.now numbers.now) ids.now anchors.items) }
 {
     // a track has two
     let mut anchors = Vec::with_capacity(alloc, ids.len().saturating_mul(2))?;
@@ -97,7 +100,8 @@ pub fn anchors(
     ensures rise { IfOk result (λ anchors. AnchorsRise anchors.items) }
     ensures occur { IfOk result (λ anchors. GroupsOccur anchors.items) }
     ensures few { IfOk result (λ anchors. length anchors.items < 2 ^ 32) }
-    ensures placed { IfOk result (λ anchors. All (λ anchor. IsOnBoard board.now anchor.id) anchors.items) }
+    ensures placed { IfOk result (λ anchors.
+        All (λ anchor. IsOnBoard board.now anchor.id) anchors.items) }
 {
     let ids = ids_of(board, net);
     let numbers = number_groups(alloc, ids, groups)?;

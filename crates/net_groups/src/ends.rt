@@ -52,7 +52,8 @@ fn half(z: i64) -> Option<i64>
 
 /// The point in nanometres. A point between two nanometres is none.
 fn spot_at(p: Point) -> Option<Spot>
-    ensures { MatchOption result ((x y : ℤ) → ¬ (IsSpot (Some p) x y)) (λ spot. IsSpot (Some p) spot.x spot.y) }
+    ensures { MatchOption result
+        ((x y : ℤ) → ¬ (IsSpot (Some p) x y)) (λ spot. IsSpot (Some p) spot.x spot.y) }
 {
     let x = half(p.x)?;
     let y = half(p.y)?;
@@ -61,8 +62,10 @@ fn spot_at(p: Point) -> Option<Spot>
 
 /// The other end of a track; its position is the first.
 pub(crate) fn far_end(item: &Item) -> Option<Spot>
-    ensures { MatchOption result ((x y : ℤ) → ¬ (IsSpot (track_end item.now.what item.now.copper) x y))
-        (λ spot. IsSpot (track_end item.now.what item.now.copper) spot.x spot.y) }
+    ensures { MatchOption result
+        ((x y : ℤ)
+        → ¬ (IsSpot (track_end item.now.what item.now.copper) x y)) (λ spot.
+        IsSpot (track_end item.now.what item.now.copper) spot.x spot.y) }
 {
     match track_end(item) {
         Some(end) => spot_at(end),

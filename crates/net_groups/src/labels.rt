@@ -1,9 +1,9 @@
 //! Labels: the search that gives each item of a net the number of its group.
 
-ghost use Rattle.std.specs.Prelude.{◌≡◌, ◌+◌, ◌<◌, ◌^◌, ℕ, pos, false, IsTrue, [], Option, None, Some, IfOk, IfSome, OnOk, length, slice_index};
+ghost use Rattle.std.specs.Prelude.{◌≡◌, ◌+◌, ◌<◌, ◌^◌, ℕ, false, IsTrue, [], Option, None, Some, IfOk, IfSome, OnOk, length, slice_index};
 ghost use Rattle.net_groups.specs.Touching.{TouchOn};
 ghost use Rattle.net_groups.specs.Classes.{Rises};
-ghost use Rattle.geo_seg.specs.Boxes.{FitsWithin};
+ghost use Rattle.geo_seg.specs.Boxes.{FitsIndex};
 ghost use Rattle.box_index.specs.Tiles.{margin};
 ghost use Rattle.net_groups.specs.Rooms.{AreRooms, AreRuns, HoldsRooms, IsRoomAt};
 ghost use Rattle.net_groups.specs.Asking.{is_asked, asked_in, IsVisitedWhole};
@@ -32,9 +32,13 @@ fn newly_touched(net: &Conductors<'_>, labels: &[Option<u32>], place: usize, oth
     requires places { length labels.now ≡ length net.now.ids.now }
     requires place { place < length net.now.ids.now }
     requires other { other < length net.now.ids.now }
-    ensures touch { IsTrue result → TouchOn net.now.board.now (slice_index net.now.ids.now place) (slice_index net.now.ids.now other) }
+    ensures touch { IsTrue result
+        → TouchOn net.now.board.now (slice_index net.now.ids.now place)
+        (slice_index net.now.ids.now other) }
     ensures free { IsTrue result → label_at labels.now other ≡ None }
-    ensures over { result ≡ false → TouchOn net.now.board.now (slice_index net.now.ids.now place) (slice_index net.now.ids.now other) → IsLabelled labels.now other }
+    ensures over { result ≡ false
+        → TouchOn net.now.board.now (slice_index net.now.ids.now place)
+        (slice_index net.now.ids.now other) → IsLabelled labels.now other }
 {
     labels[other].is_none() && touch_on(net.board, net.ids[place], net.ids[other])
 }
@@ -54,7 +58,8 @@ fn visit_rooms(
     requires places { length labels.old ≡ length net.now.ids.now }
     requires place { place < length net.now.ids.now }
     requires first { (i : ℕ) → i < first → IsLabelled labels.old i }
-    ensures { OnOk result (IsVisitedWhole (TouchOn net.now.board.now) net.now.ids.now place label labels.old labels.new stack.old.items stack.new.items) }
+    ensures { OnOk result (IsVisitedWhole (TouchOn net.now.board.now) net.now.ids.now
+        place label labels.old labels.new stack.old.items stack.new.items) }
 {
     let own = net.rooms[place];
     let mut other = next_met(net.rooms, net.runs, own, first);
@@ -68,7 +73,7 @@ fn visit_rooms(
     Ok(())
 }
 
-/// As `newly_touched`, where the pair is asked for in this tile.
+/// Whether the pair is asked for in this tile, and the other has no label yet and touches the first.
 fn newly_asked(
     net: &Conductors<'_>,
     index: &TileIndex,
@@ -80,12 +85,16 @@ fn newly_asked(
     requires places { length labels.now ≡ length net.now.ids.now }
     requires own_place { own.id < length net.now.ids.now }
     requires other_place { other.id < length net.now.ids.now }
-    requires own { FitsWithin (pos 2000000000) own.bounds }
-    requires other { FitsWithin (pos 2000000000) other.bounds }
+    requires own { FitsIndex own.bounds }
+    requires other { FitsIndex other.bounds }
     ensures asked { IsTrue result → IsTrue (is_asked (margin index.now) tile own other) }
-    ensures touch { IsTrue result → TouchOn net.now.board.now (slice_index net.now.ids.now own.id) (slice_index net.now.ids.now other.id) }
+    ensures touch { IsTrue result
+        → TouchOn net.now.board.now (slice_index net.now.ids.now own.id)
+        (slice_index net.now.ids.now other.id) }
     ensures free { IsTrue result → label_at labels.now other.id ≡ None }
-    ensures over { result ≡ false → IsTrue (is_asked (margin index.now) tile own other) → TouchOn net.now.board.now (slice_index net.now.ids.now own.id) (slice_index net.now.ids.now other.id) → IsLabelled labels.now other.id }
+    ensures over { result ≡ false → IsTrue (is_asked (margin index.now) tile own other)
+        → TouchOn net.now.board.now (slice_index net.now.ids.now own.id)
+        (slice_index net.now.ids.now other.id) → IsLabelled labels.now other.id }
 {
     // most have a label when they are met again
     if labels[other.id as usize].is_some() {
@@ -110,8 +119,10 @@ fn visit_tile(
     requires many { length net.now.rooms.now ≡ length net.now.ids.now }
     requires places { length labels.old ≡ length net.now.ids.now }
     requires place { own.id < length net.now.ids.now }
-    requires own { FitsWithin (pos 2000000000) own.bounds }
-    ensures { OnOk result (IsVisited (TouchOn net.now.board.now) net.now.ids.now (asked_in net.now.ids.now index.now tile own) own.id label labels.old labels.new stack.old.items stack.new.items) }
+    requires own { FitsIndex own.bounds }
+    ensures { OnOk result (IsVisited (TouchOn net.now.board.now) net.now.ids.now
+        (asked_in net.now.ids.now index.now tile own)
+        own.id label labels.old labels.new stack.old.items stack.new.items) }
 {
     for other in index.near(tile) {
         let found = other.id as usize;
@@ -137,7 +148,8 @@ fn visit_tiles(
     requires rooms { AreRooms (TouchOn net.now.board.now) net.now.ids.now net.now.rooms.now }
     requires places { length labels.old ≡ length net.now.ids.now }
     requires own { IsRoomAt net.now.rooms.now own }
-    ensures { OnOk result (IsVisitedWhole (TouchOn net.now.board.now) net.now.ids.now own.id label labels.old labels.new stack.old.items stack.new.items) }
+    ensures { OnOk result (IsVisitedWhole (TouchOn net.now.board.now) net.now.ids.now
+        own.id label labels.old labels.new stack.old.items stack.new.items) }
 {
     let area = index.area(own.bounds);
     let end = area.end();
@@ -167,7 +179,8 @@ fn visit(
     requires places { length labels.old ≡ length net.now.ids.now }
     requires place { place < length net.now.ids.now }
     requires first { (i : ℕ) → i < first → IsLabelled labels.old i }
-    ensures { OnOk result (IsVisitedWhole (TouchOn net.now.board.now) net.now.ids.now place label labels.old labels.new stack.old.items stack.new.items) }
+    ensures { OnOk result (IsVisitedWhole (TouchOn net.now.board.now) net.now.ids.now
+        place label labels.old labels.new stack.old.items stack.new.items) }
 {
     match index {
         None => visit_rooms(net, first, place, label, labels, stack),
@@ -199,7 +212,8 @@ fn spread(
     requires start { start < length net.now.ids.now }
     requires free { label_at labels.old start ≡ None }
     requires empty { stack.old.items ≡ [] }
-    ensures labels { OnOk result (AreLabels (TouchOn net.now.board.now) net.now.ids.now (start + 1) (label + 1) labels.new) }
+    ensures labels { OnOk result
+        (AreLabels (TouchOn net.now.board.now) net.now.ids.now (start + 1) (label + 1) labels.new) }
     ensures empty { OnOk result (stack.new.items ≡ []) }
 {
     labels[start] = Some(label);
@@ -221,7 +235,9 @@ fn label_all(
     requires rooms { AreRooms (TouchOn net.now.board.now) net.now.ids.now net.now.rooms.now }
     requires runs { AreRuns net.now.rooms.now net.now.runs.now }
     requires few { length net.now.ids.now < 2 ^ 32 }
-    ensures { IfOk result (λ found. AreLabels (TouchOn net.now.board.now) net.now.ids.now (length net.now.ids.now) found.count found.labels.items) }
+    ensures { IfOk result (λ found.
+        AreLabels (TouchOn net.now.board.now) net.now.ids.now
+        (length net.now.ids.now) found.count found.labels.items) }
 {
     let mut labels = vec![in alloc; None; net.ids.len()]?;
     let mut count: u32 = 0;
@@ -241,7 +257,9 @@ pub(crate) fn label_groups(alloc: Global, net: &Conductors<'_>) -> Result<Labels
     requires rooms { AreRooms (TouchOn net.now.board.now) net.now.ids.now net.now.rooms.now }
     requires runs { AreRuns net.now.rooms.now net.now.runs.now }
     requires few { length net.now.ids.now < 2 ^ 32 }
-    ensures { IfOk result (λ found. AreLabels (TouchOn net.now.board.now) net.now.ids.now (length net.now.ids.now) found.count found.labels.items) }
+    ensures { IfOk result (λ found.
+        AreLabels (TouchOn net.now.board.now) net.now.ids.now
+        (length net.now.ids.now) found.count found.labels.items) }
 {
     if net.ids.len() <= FEW {
         return label_all(alloc, net, None);

@@ -10,20 +10,24 @@ ghost use Rattle.net_groups.specs.NetParts.{PlainNetPart, IsNetPart, AreParts, I
 
 /// The items of a net have one list of groups.
 pub fn one_list()
-    ensures { (items : List (ℕ × Item)) (groups others : List (List ℕ)) → AreGroupsOf items groups → AreGroupsOf items others → groups ≡ others }
+    ensures { (items : List (ℕ × Item)) (groups others : List (List ℕ)) → AreGroupsOf items groups
+        → AreGroupsOf items others → groups ≡ others }
 {}
 
 /// Groups have one list of anchors.
 pub fn one_list_of_anchors()
-    ensures { (items : List (ℕ × Item)) (groups : List (List ℕ)) (anchors others : List Anchor) → AreAnchorsOf items groups anchors → AreAnchorsOf items groups others → anchors ≡ others }
+    ensures { (items : List (ℕ × Item)) (groups : List (List ℕ)) (anchors others : List Anchor)
+        → AreAnchorsOf items groups anchors → AreAnchorsOf items groups others → anchors ≡ others }
 {}
 
 /// What is found of a net stays where its items stay.
 pub fn part_stays()
-    ensures { (old new : PlainBoard) (net : ℕ) → items_of net new.items ≡ items_of net old.items → (part : PlainNetPart) → IsNetPart old net part → IsNetPart new net part }
+    ensures { (old new : PlainBoard) (net : ℕ) → items_of net new.items ≡ items_of net old.items
+        → (part : PlainNetPart) → IsNetPart old net part → IsNetPart new net part }
 {}
 
 /// The parts of a board have all that the lines of its nets ask for.
 pub fn parts_are_writable()
-    ensures { (board : PlainBoard) → IsSound board → (parts : List PlainNetPart) → AreParts board parts → All (IsWritable board) parts }
+    ensures { (board : PlainBoard) → IsSound board → (parts : List PlainNetPart)
+        → AreParts board parts → All (IsWritable board) parts }
 {}

@@ -20,7 +20,7 @@ mod touch;
 pub use anchors_of::anchors;
 pub use group::Group;
 pub use laws::{one_list, one_list_of_anchors, part_stays, parts_are_writable};
-pub use of_net::groups;
+pub use of_net::{groups, groups_of};
 use plain_types::crosses_threads;
 
 fn groups_cross() {

@@ -47,7 +47,8 @@ fn enter(
     requires rises { Rises ids.now }
     requires listed { All (Contains ids.now) members.now }
     requires many { length numbers.old ≡ length ids.now }
-    ensures { IsEntered members.now number (number_of ids.now numbers.old) (number_of ids.now numbers.new) }
+    ensures { IsEntered members.now number (number_of ids.now numbers.old)
+        (number_of ids.now numbers.new) }
 {
     let mut next = guess;
     for id in members {
@@ -69,7 +70,8 @@ pub(crate) fn number_groups(
     requires few { length groups.now < 2 ^ 32 }
     requires disjoint { AllPairs AreDisjoint groups.now }
     ensures many { IfOk result (λ numbers. length numbers.items ≡ length ids.now) }
-    ensures numbers { IfOk result (λ numbers. AreNumbered groups.now (number_of ids.now numbers.items)) }
+    ensures numbers { IfOk result (λ numbers.
+        AreNumbered groups.now (number_of ids.now numbers.items)) }
 {
     let mut numbers = vec![in alloc; None; ids.len()]?;
     let mut next = 0;

@@ -30,7 +30,8 @@ fn conductors(alloc: Global, board: &Board, net: u32) -> Result<WithRooms, Alloc
     ensures sound { IsSound board.now }
     ensures ids { IfOk result (λ found. AreConductors board.now net found.ids.items) }
     ensures few { IfOk result (λ found. length found.ids.items < 2 ^ 32) }
-    ensures rooms { IfOk result (λ found. AreRooms (TouchOn board.now) found.ids.items found.rooms.items) }
+    ensures rooms { IfOk result (λ found.
+        AreRooms (TouchOn board.now) found.ids.items found.rooms.items) }
 {
     board.soundness();
     let all = board.of_net(net);
@@ -52,15 +53,8 @@ fn conductors(alloc: Global, board: &Board, net: u32) -> Result<WithRooms, Alloc
 ///
 /// Items of one net touch where their copper meets on a layer, and net 0 is no net: it has no groups. Members rise, and
 /// groups stand by their least member. Up to 256 items are each held against all others, and more are put into tiles of an
-/// index of their own. The index of the board holds all items of the board that have bounds; neither its entries nor its reach
-/// matter to the groups. Only want of memory refuses it.
-pub fn groups(
-    alloc: Global,
-    board: &Board,
-    net: u32,
-    index: &TileIndex,
-) -> Result<Vec<Group>, AllocError>
-    requires { HoldsItems board.now index.now }
+/// index of their own. Only want of memory refuses it.
+pub fn groups_of(alloc: Global, board: &Board, net: u32) -> Result<Vec<Group>, AllocError>
     ensures groups { IfOk result (λ groups. AreGroups board.now net groups.items) }
     ensures filled { IfOk result (λ groups. All (λ group. 0 < length group) groups.items) }
     ensures placed { IfOk result (λ groups. All (All (IsOnBoard board.now)) groups.items) }
@@ -75,4 +69,20 @@ pub fn groups(
     };
     let found = label_groups(alloc, &own)?;
     gather(alloc, &all.ids, &found.labels, found.count)
+}
+
+/// The groups of a net, for a caller that has an index of all items of the board that have bounds: those of [`groups_of`], which
+/// needs no index. Only want of memory refuses it.
+pub fn groups(
+    alloc: Global,
+    board: &Board,
+    net: u32,
+    index: &TileIndex,
+) -> Result<Vec<Group>, AllocError>
+    requires { HoldsItems board.now index.now }
+    ensures groups { IfOk result (λ groups. AreGroups board.now net groups.items) }
+    ensures filled { IfOk result (λ groups. All (λ group. 0 < length group) groups.items) }
+    ensures placed { IfOk result (λ groups. All (All (IsOnBoard board.now)) groups.items) }
+{
+    groups_of(alloc, board, net)
 }

@@ -1,7 +1,7 @@
 //! Which pairs are asked for in a tile, so that each is asked once.
 
-ghost use Rattle.std.specs.Prelude.{◌≡◌, pos};
-ghost use Rattle.geo_seg.specs.Boxes.{FitsWithin};
+ghost use Rattle.std.specs.Prelude.{◌≡◌};
+ghost use Rattle.geo_seg.specs.Boxes.{FitsIndex};
 ghost use Rattle.box_index.specs.Tiles.{margin};
 ghost use Rattle.net_groups.specs.Asking.{tile_for, is_asked};
 
@@ -9,8 +9,8 @@ use box_index::{Entry, TileIndex, do_boxes_meet};
 
 /// The tile that answers for two entries.
 fn tile_for(index: &TileIndex, own: Entry, other: Entry) -> u32
-    requires own { FitsWithin (pos 2000000000) own.bounds }
-    requires other { FitsWithin (pos 2000000000) other.bounds }
+    requires own { FitsIndex own.bounds }
+    requires other { FitsIndex other.bounds }
     ensures { result ≡ tile_for (margin index.now) own other }
 {
     if own.id < other.id {
@@ -22,8 +22,8 @@ fn tile_for(index: &TileIndex, own: Entry, other: Entry) -> u32
 
 /// Whether the bounds of the two meet and the tile answers for them. It takes no memory.
 pub(crate) fn is_asked(index: &TileIndex, tile: u32, own: Entry, other: Entry) -> bool
-    requires own { FitsWithin (pos 2000000000) own.bounds }
-    requires other { FitsWithin (pos 2000000000) other.bounds }
+    requires own { FitsIndex own.bounds }
+    requires other { FitsIndex other.bounds }
     ensures { result ≡ is_asked (margin index.now) tile own other }
 {
     do_boxes_meet(own.bounds, other.bounds) && tile_for(index, own, other) == tile

@@ -1,9 +1,9 @@
 //! The conductors of a net, each with its room.
 
-ghost use Rattle.std.specs.Prelude.{◌≡◌, ◌≢◌, pos, false, Some, [], MatchOption};
+ghost use Rattle.std.specs.Prelude.{◌≡◌, ◌≢◌, false, Some, [], MatchOption};
 ghost use Rattle.board_items.specs.Parts.{parts_of};
 ghost use Rattle.board_items.specs.Extents.{AreBoundsOf};
-ghost use Rattle.geo_seg.specs.Boxes.{FitsWithin};
+ghost use Rattle.geo_seg.specs.Boxes.{FitsShape};
 ghost use Rattle.board_items.specs.Boards.{item_at};
 ghost use Rattle.net_groups.specs.Labels.{is_copper};
 ghost use Rattle.net_groups.specs.Rooms.{IsCopperRoom};
@@ -23,7 +23,7 @@ pub(crate) struct Conductors<'a> {
 
 /// The room of what takes up none.
 fn no_room() -> Bounds
-    ensures { FitsWithin (pos 1500000000) result }
+    ensures { FitsShape result }
 {
     Bounds {
         left: 0,
@@ -35,7 +35,7 @@ fn no_room() -> Bounds
 
 /// The bounds of an item, or no room.
 fn bounds_of(item: &Item) -> Bounds
-    ensures fits { FitsWithin (pos 1500000000) result }
+    ensures fits { FitsShape result }
     ensures room { parts_of item.now ≢ [] → AreBoundsOf (parts_of item.now) (Some result) }
 {
     match item.bounds() {
@@ -46,7 +46,8 @@ fn bounds_of(item: &Item) -> Bounds
 
 /// The room of the item of the id: its bounds. None where there is no such item, or it has no copper.
 pub(crate) fn copper_room(board: &Board, id: u32) -> Option<Bounds>
-    ensures { MatchOption result (is_copper (item_at board.now.items id) ≡ false) (IsCopperRoom board.now id) }
+    ensures { MatchOption result (is_copper (item_at board.now.items id) ≡ false)
+        (IsCopperRoom board.now id) }
 {
     match board.get(id) {
         Some(item) if !item.copper.as_slice().is_empty() => Some(bounds_of(item)),

@@ -14,7 +14,8 @@ const RUN: usize = 8;
 
 /// A box around the rooms from one place to another.
 fn run_of(rooms: &[Bounds], low: usize, high: usize) -> Bounds
-    ensures { (i : ℕ) (d : Bounds) → low ≤ i → i < high → i < length rooms.now → IsPartOf (slice_index_or rooms.now i d) result }
+    ensures { (i : ℕ) (d : Bounds) → low ≤ i → i < high → i < length rooms.now
+        → IsPartOf (slice_index_or rooms.now i d) result }
 {
     let mut run = Bounds {
         left: 1_500_000_000,
@@ -49,14 +50,16 @@ fn is_far(own: Bounds, room: Bounds) -> bool
 
 /// Whether there is a box around the run, and it is far from this one.
 fn is_clear(runs: &[Bounds], run: usize, own: Bounds) -> bool
-    ensures { IsTrue result → (run < length runs.now) × ((d : Bounds) → ¬ (BoxesMeet own (slice_index_or runs.now run d))) }
+    ensures { IsTrue result → (run < length runs.now)
+        × ((d : Bounds) → ¬ (BoxesMeet own (slice_index_or runs.now run d))) }
 {
     run < runs.len() && !do_boxes_meet(own, runs[run])
 }
 
 /// Whether a run begins at the place, and its box is far from this one.
 fn begins_clear(runs: &[Bounds], place: usize, own: Bounds) -> bool
-    ensures { IsTrue result → (run : ℕ) × (run * 8 ≡ place) × (run < length runs.now) × ((d : Bounds) → ¬ (BoxesMeet own (slice_index_or runs.now run d))) }
+    ensures { IsTrue result → (run : ℕ) × (run * 8 ≡ place) × (run < length runs.now)
+        × ((d : Bounds) → ¬ (BoxesMeet own (slice_index_or runs.now run d))) }
 {
     let run = place / RUN;
     run * RUN == place && is_clear(runs, run, own)
@@ -66,7 +69,8 @@ fn begins_clear(runs: &[Bounds], place: usize, own: Bounds) -> bool
 pub(crate) fn next_met(rooms: &[Bounds], runs: &[Bounds], own: Bounds, from: usize) -> usize
     requires { AreRuns rooms.now runs.now }
     ensures from { from ≤ result }
-    ensures apart { (i : ℕ) (d : Bounds) → from ≤ i → i < result → i < length rooms.now → ¬ (BoxesMeet own (slice_index_or rooms.now i d)) }
+    ensures apart { (i : ℕ) (d : Bounds) → from ≤ i → i < result → i < length rooms.now
+        → ¬ (BoxesMeet own (slice_index_or rooms.now i d)) }
 {
     let mut place = from;
     'places: while place < rooms.len() {

@@ -1,7 +1,7 @@
 //! Rooms of one net, spread over all tiles of an index of their own.
 
 ghost use Rattle.std.specs.Prelude.{◌≡◌, ◌<◌, ◌^◌, ◌≤ℤ◌, pos, neg_ℤ, All, IfOk, length};
-ghost use Rattle.geo_seg.specs.Boxes.{FitsWithin};
+ghost use Rattle.geo_seg.specs.Boxes.{FitsShape};
 ghost use Rattle.net_groups.specs.Rooms.{AreSpread, HoldsRooms};
 ghost use Rattle.net_groups.specs.Stretches.{stretched};
 
@@ -59,7 +59,8 @@ fn room_for(size: i64, side: i64) -> i64 {
     (2_000_000_000 / size.max(1)).min(1_000 / side.max(1))
 }
 
-/// The same, from 1 to 1,000 times.
+/// How often a box of this size is stretched, from 1 to 1,000 times, so that rooms of this side, in thousandths of a tile, lie in a
+/// few tiles each.
 fn times_in(size: i64, side: i64) -> i64
     ensures from { pos 1 ≤ℤ result }
     ensures to { result ≤ℤ pos 1000 }
@@ -81,7 +82,7 @@ fn stretch_for(rooms: &[Bounds]) -> Stretch {
 
 /// A room that was moved and stretched, but not farther than to the edge.
 fn stretched(stretch: Stretch, room: Bounds) -> Bounds
-    requires { FitsWithin (pos 1500000000) room }
+    requires { FitsShape room }
     ensures { result ≡ stretched stretch room }
 {
     Bounds {
@@ -101,7 +102,7 @@ fn stretched(stretch: Stretch, room: Bounds) -> Bounds
 }
 
 fn stretch_all(alloc: Global, stretch: Stretch, rooms: &[Bounds]) -> Result<Vec<Bounds>, AllocError>
-    requires { All (λ room. FitsWithin (pos 1500000000) room) rooms.now }
+    requires { All (λ room. FitsShape room) rooms.now }
     ensures { IfOk result (λ wide. AreSpread rooms.now wide.items) }
 {
     let mut wide = Vec::with_capacity(alloc, rooms.len())?;
@@ -113,7 +114,7 @@ fn stretch_all(alloc: Global, stretch: Stretch, rooms: &[Bounds]) -> Result<Vec<
 
 /// The rooms, moved and stretched so that they lie in as many tiles as may be. Those that met still do.
 pub(crate) fn spread_out(alloc: Global, rooms: &[Bounds]) -> Result<Vec<Bounds>, AllocError>
-    requires { All (λ room. FitsWithin (pos 1500000000) room) rooms.now }
+    requires { All (λ room. FitsShape room) rooms.now }
     ensures { IfOk result (λ wide. AreSpread rooms.now wide.items) }
 {
     stretch_all(alloc, stretch_for(rooms), rooms)
@@ -122,7 +123,7 @@ pub(crate) fn spread_out(alloc: Global, rooms: &[Bounds]) -> Result<Vec<Bounds>,
 /// An index of the rooms by their places.
 pub(crate) fn index_of(alloc: Global, rooms: &[Bounds]) -> Result<TileIndex, AllocError>
     requires few { length rooms.now < 2 ^ 32 }
-    requires fit { All (λ room. FitsWithin (pos 1500000000) room) rooms.now }
+    requires fit { All (λ room. FitsShape room) rooms.now }
     ensures { IfOk result (HoldsRooms rooms.now) }
 {
     let mut index = TileIndex::new(alloc, 0)?;

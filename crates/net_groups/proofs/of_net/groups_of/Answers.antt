@@ -2,7 +2,7 @@ use Rattle.std.proofs.lemmas.Result.{IfOk-weaker}
 use Rattle.net_groups.proofs.Whole.{groups_are}
 use Rattle.net_groups.proofs.Nets.{on_net}
 use Rattle.net_groups.proofs.AnchorsOf.{members_placed}
-use Rattle.net_groups.proofs.of_net.groups.Goals as goal
+use Rattle.net_groups.proofs.of_net.groups_of.Goals as goal
 
 pub returns-clause-groups : goal.returns-clause-groups
 returns-clause-groups c =
