@@ -65,16 +65,28 @@ def proved(program):
     return True, 'proved and built by ./drc from these sources'
 
 
-def version(program):
-    """lines that say what the program is"""
+def described():
+    """which state of the repository the tools are of: what tools/install wrote, or what git says; None where nobody knows"""
+    try:
+        with open(os.path.join(ROOT, 'version'), encoding='utf-8') as file:
+            return file.read().strip() or None
+    except OSError:
+        pass
+    # Another repository may stand around what is installed.
+    if not os.path.isfile(os.path.join(ROOT, 'crates.txt')):
+        return None
     try:
         done = subprocess.run(['git', '-C', ROOT, 'describe', '--always', '--dirty', '--tags'], capture_output=True, text=True, check=False)
-        described = done.stdout.strip() or 'unknown'
     except OSError:
-        described = 'unknown'
+        return None
+    return done.stdout.strip() or None
+
+
+def version(program):
+    """lines that say what the program is"""
     whole, why = proved(program)
     said = '%s: %s' % ('proved' if whole else 'not known to be proved', why)
-    return ['drc tools %s' % described, 'program %s' % program, 'sha256 %s' % checksum(program), said]
+    return ['drc tools %s' % (described() or 'of an unknown state'), 'program %s' % program, 'sha256 %s' % checksum(program), said]
 
 
 class Run:

@@ -4,7 +4,9 @@ A row is a result, and so is an open net with all its ends. What was not checked
 code host takes 25,000 results of a run at most: no more are written, and a notification says how many were left out.
 """
 import urllib.parse
+
 import kinds
+import program
 from lines import place_of
 from telling import findings
 
@@ -68,7 +70,9 @@ def run_of(result, states, levels):
         notes.insert(0, {'level': 'error', 'message': {'text': result.fault}})
     told = [{'id': rule, 'shortDescription': {'text': kinds.title(rule)}, 'fullDescription': {'text': kinds.about(rule) or kinds.title(rule)},
              'help': {'text': kinds.explained(rule) or kinds.title(rule)}} for rule in rules]
-    return {'tool': {'driver': {'name': 'drc', 'rules': told}}, 'columnKind': 'unicodeCodePoints',
+    version = program.described()
+    driver = {'name': 'drc', **({'version': version} if version else {}), 'rules': told}
+    return {'tool': {'driver': driver}, 'columnKind': 'unicodeCodePoints',
             'automationDetails': {'id': 'drc/%s/' % urllib.parse.quote(board.strip('/'))},
             'invocations': [{'executionSuccessful': result.outcome == 'reported', 'toolExecutionNotifications': notes}], 'results': results}
 

@@ -1,6 +1,7 @@
 """Tries tools/check by a table of calls, with a program that says what a file has: no built program is needed."""
 import json
 import os
+import re
 import shutil
 import signal
 import subprocess
@@ -11,6 +12,8 @@ import urllib.error
 import urllib.request
 import xml.dom.minidom
 
+import kinds
+import program
 from tries import ROOT, TOOLS, run
 
 CHECK = os.path.join(TOOLS, 'check')
@@ -176,6 +179,7 @@ def written(tries, folder):
     tries.same('the project in JSON', [row['project'] for row in rows], [{'severity': None, 'off': 'excluded'}, {'severity': 'ignore', 'off': 'ignored'}, {'severity': None, 'off': None}])
     tries.same('a link in JSON', [(link['length_nm'], link['square']) for net in told['states'][0]['open_nets'] for link in net['links']][0], (2212040, '4893125000000'))
     run_ = json.loads(folder.text('o.sarif'))['runs'][0]
+    tries.same('the driver in SARIF', [run_['tool']['driver'].get(key) for key in ('name', 'version')], ['drc', program.described()])
     tries.same('rules in SARIF', [result['ruleId'] for result in run_['results']], ['clearance', 'short', 'clearance', 'open-net', 'unknown-constraint'])
     tries.same('the place of a rule in SARIF', run_['results'][-1]['locations'][0]['physicalLocation']['artifactLocation']['uri'], 'one/b.kicad_dru')
     tries.true('prints in SARIF', len({result['partialFingerprints']['drc/v1'] for result in run_['results']}) == 5)
@@ -216,7 +220,7 @@ def written(tries, folder):
     tries.holds('what is left out', run_['invocations'][0]['toolExecutionNotifications'][0]['message']['text'], '5003 results more are left out')
 
 
-def line_of(process, part, seconds=20):
+def line_of(process, part, seconds=120):
     """waits for a line with a part in it"""
     until = time.monotonic() + seconds
     while time.monotonic() < until:
@@ -235,10 +239,10 @@ def watched(tries, folder):
         address = line_of(process, 'the page: ').strip().replace('the page: ', '')
         tries.true('an address', address.startswith('http://127.0.0.1:'))
         line_of(process, 'waiting')
-        first, page = (urllib.request.urlopen(address + name, timeout=10).read().decode() for name in ('stamp', ''))
+        first, page = (urllib.request.urlopen(address + name, timeout=60).read().decode() for name in ('stamp', ''))
         tries.holds('a page that reloads', page, "fetch('/stamp')")
         try:
-            urllib.request.urlopen(urllib.request.Request(address, headers={'Host': 'elsewhere.example'}), timeout=10)
+            urllib.request.urlopen(urllib.request.Request(address, headers={'Host': 'elsewhere.example'}), timeout=60)
             tries.true('a page for elsewhere', False)
         except urllib.error.HTTPError as error:
             tries.same('a page for elsewhere', error.code, 404)
@@ -249,20 +253,19 @@ def watched(tries, folder):
         os.replace(os.path.join(folder.path, 'other'), os.path.join(folder.path, 'seen.kicad_pcb'))
         tries.holds('what went', line_of(process, '- short on F.Cu: '), 'Track [/LED] | Track [GND]')
         line_of(process, '- unconnected')
-        until = time.monotonic() + 20
-        while urllib.request.urlopen(address + 'stamp', timeout=10).read().decode() == first and time.monotonic() < until:
+        until = time.monotonic() + 60
+        while urllib.request.urlopen(address + 'stamp', timeout=60).read().decode() == first and time.monotonic() < until:
             time.sleep(0.05)
-        tries.true('another page', urllib.request.urlopen(address + 'stamp', timeout=10).read().decode() != first)
+        tries.true('another page', urllib.request.urlopen(address + 'stamp', timeout=60).read().decode() != first)
         tries.true('the page as a file', '"sum":"0 violations' in folder.text('seen.html'))
     finally:
         process.send_signal(signal.SIGINT)
-        process.wait(20)
+        process.wait(60)
     tries.same('the status behind it', process.returncode, 0)
 
 
 def proved(tries, folder):
     """a program is called proved where the checksums beside it are those of the program and the sources"""
-    import program
     fake = folder.file('drc_cli', PROGRAM)
     os.chmod(fake, 0o755)
     sums = {'program': program.checksum(fake), 'sources': program.sources()}
@@ -275,19 +278,70 @@ def proved(tries, folder):
 
 
 def installed(tries, folder):
-    """what is installed runs from elsewhere"""
+    """what is installed runs from elsewhere, and says of which state it is"""
     prefix = os.path.join(folder.path, 'prefix')
     done = subprocess.run([os.path.join(TOOLS, 'install'), prefix], capture_output=True, text=True, check=False)
     tries.same('install', done.returncode, 0)
-    done = subprocess.run([os.path.join(prefix, 'bin/drc-check'), 'amp.kicad_pcb', '--html', 'installed.html'], cwd=folder.path, env={**os.environ, 'DRC': folder.program, 'GITHUB_ACTIONS': ''},
-                          capture_output=True, text=True, check=False)
+    command, env = os.path.join(prefix, 'bin/drc-check'), {**os.environ, 'DRC': folder.program, 'GITHUB_ACTIONS': ''}
+    done = subprocess.run([command, 'amp.kicad_pcb', '--html', 'installed.html', '--sarif', 'installed.sarif'], cwd=folder.path, env=env, capture_output=True, text=True, check=False)
     tries.same('what is installed', (done.returncode, done.stderr), (1, ''))
     tries.holds('its page', folder.text('installed.html'), '<svg id="board"')
+    tries.same('its version in SARIF', json.loads(folder.text('installed.sarif'))['runs'][0]['tool']['driver'].get('version'), program.described())
+    done = subprocess.run([command, '--version'], cwd=folder.path, env=env, capture_output=True, text=True, check=False)
+    tries.same('its version', done.stdout.split('\n')[0], 'drc tools %s' % (program.described() or 'of an unknown state'))
+    share = os.path.join(prefix, 'share')
+    for name in ('man/man1/drc.1', 'man/man1/drc_cli.1', 'man/man1/drc-check.1', 'bash-completion/completions/drc-check', 'bash-completion/completions/drc', 'zsh/site-functions/_drc'):
+        tries.true('installed ' + name, os.path.isfile(os.path.join(share, name)))
+    completed(tries, folder, os.path.join(share, 'bash-completion/completions/drc-check'))
+
+
+def completed(tries, folder, file):
+    """the words that bash goes on with; the last word of each line is the one that is being written"""
+    ask = '. "$1"; shift; COMP_WORDS=("$@"); COMP_CWORD=$(($# - 1)); case $1 in drc-check) _drc_check;; *) _drc;; esac; printf "%s\\n" "${COMPREPLY[@]}"'
+    for words, wanted in (('drc wa', ['warning.kicad_pcb']), ('drc un', ['undo']), ('drc --p', ['--project']), ('drc --project one/', ['one/b.kicad_pro']), ('drc --rules = one/', ['one/b.kicad_dru']),
+                          ('drc undo amp.kicad_pcb am', ['amp.kicad_pcb', 'amp.kicad_pcb.said', 'amp.kicad_pcb.status', 'amp.kicad_pcb.words']), ('drc_cli steal amp.kicad_pcb 6', ['64']),
+                          ('drc-check wa', ['warning.kicad_pcb']), ('drc-check --fail', ['--fail-on']), ('drc-check --explain hole_t', ['hole_to_hole']), ('drc-check --color =', ['always', 'never', 'auto'])):
+        done = subprocess.run(['bash', '-c', ask, 'bash', file, *words.split(' ')], cwd=folder.path, capture_output=True, text=True, check=False)
+        tries.same('completion of ' + words, (sorted(done.stdout.split()), done.stderr), (sorted(wanted), ''))
+
+
+def pages_and_completion(tries, folder):
+    """each option has its place in the page for man and in both completions, and these have no others"""
+    texts = {name: open(os.path.join(ROOT, name), encoding='utf-8').read() for name in ('docs/drc.1', 'docs/drc-check.1', 'tools/completion/drc.bash', 'tools/completion/_drc')}
+    told = set(re.findall(r'--[a-z]+(?:-[a-z]+)*', folder.check('--help')[1])) | {'--help'}
+    wanted = {'docs/drc-check.1': told - {'--help'} | {'--help'}, 'docs/drc.1': {'--project', '--rules', '--script', '--workers', '--make'}}
+    both = wanted['docs/drc-check.1'] | wanted['docs/drc.1']
+    for name, text in texts.items():
+        found = set(re.findall(r'(?<![\w-])--[a-z]+(?:-[a-z]+)*', text.replace('\\-', '-')))
+        tries.same('options in ' + name, sorted(found), sorted(wanted.get(name, both)))
+    for name in kinds.KINDS | kinds.OTHERS:
+        for file in ('tools/completion/drc.bash', 'tools/completion/_drc'):
+            tries.true('%s in %s' % (name, file), re.search(r'(?<![\w-])%s(?![\w-])' % name, texts[file]))
+    for words in (['mandoc', '-T', 'lint', '-W', 'warning'], ['groff', '-ww', '-man', '-z'], ['zsh', '-n'], ['bash', '-n']):
+        if shutil.which(words[0]):
+            for name in ('docs/drc.1', 'docs/drc-check.1') if 'man' in str(words) else ('tools/completion/_drc',) if words[0] == 'zsh' else ('tools/completion/drc.bash',):
+                done = subprocess.run([*words, name], cwd=ROOT, capture_output=True, text=True, check=False)
+                tries.same('%s of %s' % (words[0], name), (done.returncode, done.stdout + done.stderr), (0, ''))
+
+
+def contained(tries, folder):
+    """what is sent to an engine for containers; none is asked to run anything here"""
+    copy = os.path.join(folder.path, 'copy')
+    for name in ('tools', 'docs'):
+        shutil.copytree(os.path.join(ROOT, name), os.path.join(copy, name), ignore=shutil.ignore_patterns('__pycache__'))
+    engine = folder.file('engine', '#!/bin/sh\necho "$1 $2 $4 $5"\ncd "$6" && find . -name Containerfile -o -path "*/bin/*" | sort\n')
+    os.chmod(engine, 0o755)
+    build = os.path.join(copy, 'tools/container/build')
+    done = subprocess.run([build, engine], capture_output=True, text=True, check=False)
+    tries.same('an image without a program', (done.returncode, done.stdout, done.stderr), (1, '', 'build: drc_cli is not built yet (./drc BOARD does that)\n'))
+    os.chmod(folder.file('copy/crates/drc_cli/out/drc_cli', PROGRAM), 0o755)
+    done = subprocess.run([build, engine], capture_output=True, text=True, check=False)
+    tries.same('an image', (done.returncode, done.stdout, done.stderr), (0, 'build --file --tag drc\n./Containerfile\n./prefix/bin/drc-check\n./prefix/bin/drc_cli\n', ''))
 
 
 def all_of(tries):
     with tempfile.TemporaryDirectory() as path:
         folder = Folder(os.path.realpath(path))
         prepare(folder)
-        for each in (calls, written, watched, proved, installed):
+        for each in (calls, written, watched, proved, installed, pages_and_completion, contained):
             each(tries, folder)
