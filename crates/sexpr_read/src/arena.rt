@@ -1,3 +1,5 @@
+//! The cells of a text, each a list or an atom, in the order in which they are read.
+
 ghost use Rattle.std.specs.Prelude.{◌≡◌, ◌+◌, ◌-◌, ◌<◌, ◌≤◌, ◌^◌, ◌∷◌, ◌++◌, [], IfOk, OnOk, vec_len, slice_set, slice_index_or, IsTrue, ◌↔◌};
 ghost use Rattle.sexpr_read.specs.Kinds.{kind_of, no_cell};
 
@@ -6,7 +8,7 @@ use std::alloc::{AllocError, Global};
 
 /// What a tree is.
 #[derive(Clone, Copy)]
-pub enum TreeKind {
+pub(crate) enum TreeKind {
     Word,
     String,
     List,
@@ -14,7 +16,7 @@ pub enum TreeKind {
 
 /// The first byte of a tree says what it is.
 #[inline(always)]
-pub fn kind_of(first: ByteClass) -> TreeKind
+pub(crate) fn kind_of(first: ByteClass) -> TreeKind
     ensures { result ≡ kind_of first }
 {
     match first {
@@ -26,25 +28,25 @@ pub fn kind_of(first: ByteClass) -> TreeKind
 
 /// A list or an atom of a text. Cells stand in reading order, a list before what stands in it.
 #[derive(Clone, Copy)]
-pub struct Cell {
-    pub at: u32,
-    pub end: u32,
+pub(crate) struct Cell {
+    pub(crate) at: u32,
+    pub(crate) end: u32,
     /// How many cells stand in the list. While the list is open: one more than the place of the cell of the open list
     /// around it, or 0.
-    pub inside: u32,
+    pub(crate) inside: u32,
 }
 
 /// The cells of a text that is being read.
 #[derive(Drop)]
-pub struct Arena {
-    pub cells: Vec<Cell>,
+pub(crate) struct Arena {
+    pub(crate) cells: Vec<Cell>,
     /// One more than the place of the cell of the innermost open list, or 0. From there the open lists are linked.
-    pub innermost: u32,
+    pub(crate) innermost: u32,
 }
 
 impl Arena {
     /// No cell, and room for so many.
-    pub fn with_room(alloc: Global, cells: usize) -> Result<Arena, AllocError>
+    pub(crate) fn with_room(alloc: Global, cells: usize) -> Result<Arena, AllocError>
         ensures cells { IfOk result (λ arena. arena.cells.items ≡ []) }
         ensures innermost { IfOk result (λ arena. arena.innermost ≡ 0) }
     {
@@ -55,7 +57,7 @@ impl Arena {
     }
 
     /// Whether no list is open.
-    pub fn is_closed(&self) -> bool
+    pub(crate) fn is_closed(&self) -> bool
         ensures { IsTrue result ↔ (self.now.innermost ≡ 0) }
     {
         self.innermost == 0
@@ -74,8 +76,9 @@ impl Arena {
         Ok(())
     }
 
+    /// Appends the cell of an atom.
     #[inline(always)]
-    pub fn add_atom(&mut self, at: usize, end: usize) -> Result<(), AllocError>
+    pub(crate) fn add_atom(&mut self, at: usize, end: usize) -> Result<(), AllocError>
         requires at { at < 2 ^ 32 }
         requires end { end < 2 ^ 32 }
         ensures cells { OnOk result (self.new.cells.items
@@ -89,12 +92,14 @@ impl Arena {
         })
     }
 
+    /// Appends the cell of a list, which is the innermost open one from then on.
     #[inline(always)]
-    pub fn open_list(&mut self, at: usize) -> Result<(), AllocError>
+    pub(crate) fn open_list(&mut self, at: usize) -> Result<(), AllocError>
         requires at { at < 2 ^ 32 }
         requires room { vec_len self.old.cells + 1 < 2 ^ 32 }
         ensures cells { OnOk result (self.new.cells.items
-            ≡ self.old.cells.items ++ record { at = at; end = 0; inside = self.old.innermost } ∷ []) }
+            ≡ self.old.cells.items
+            ++ record { at = at; end = 0; inside = self.old.innermost } ∷ []) }
         ensures innermost { OnOk result (self.new.innermost ≡ vec_len self.old.cells + 1) }
     {
         self.push(Cell {
@@ -107,14 +112,15 @@ impl Arena {
     }
 
     /// Closes the innermost open list.
-    pub fn close_list(&mut self, end: usize)
+    pub(crate) fn close_list(&mut self, end: usize)
         requires end { end < 2 ^ 32 }
         requires few { vec_len self.old.cells < 2 ^ 32 }
         requires innermost { 0 < self.old.innermost }
         requires held { self.old.innermost ≤ vec_len self.old.cells }
-        ensures innermost { self.new.innermost ≡ (slice_index_or self.old.cells.items (self.old.innermost - 1) no_cell).inside }
-        ensures cells { self.new.cells.items ≡ slice_set self.old.cells.items (self.old.innermost - 1)
-            (record {
+        ensures innermost { self.new.innermost
+            ≡ (slice_index_or self.old.cells.items (self.old.innermost - 1) no_cell).inside }
+        ensures cells { self.new.cells.items
+            ≡ slice_set self.old.cells.items (self.old.innermost - 1) (record {
               at = (slice_index_or self.old.cells.items (self.old.innermost - 1) no_cell).at;
               end = end;
               inside = vec_len self.old.cells - self.old.innermost;

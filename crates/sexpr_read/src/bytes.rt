@@ -1,9 +1,11 @@
+//! What the bytes of a text are to the reader.
+
 ghost use Rattle.std.specs.Prelude.{◌≡◌, ◌<◌, length, slice_index_or};
 ghost use Rattle.sexpr_read.specs.Bytes.{class_of, sign_of};
 
 /// What a byte is to the reader.
 #[derive(Clone, Copy)]
-pub enum ByteClass {
+pub(crate) enum ByteClass {
     Space,
     Open,
     Close,
@@ -12,9 +14,10 @@ pub enum ByteClass {
     Plain,
 }
 
+/// What a byte is.
 #[inline(always)]
 #[tactic(auto, unfolding(crate::specs::Bytes::class_of))]
-pub fn class_of(byte: u8) -> ByteClass
+pub(crate) fn class_of(byte: u8) -> ByteClass
     ensures { result ≡ class_of byte }
 {
     if byte == b' ' || byte == b'\t' || byte == b'\n' || byte == b'\r' {
@@ -32,16 +35,18 @@ pub fn class_of(byte: u8) -> ByteClass
     }
 }
 
+/// What the byte at this place is.
 #[inline(always)]
-pub fn sign_at(text: &[u8], at: usize) -> ByteClass
+pub(crate) fn sign_at(text: &[u8], at: usize) -> ByteClass
     requires { at < length text.now }
     ensures { result ≡ sign_of text.now at }
 {
     class_of(text[at])
 }
 
+/// The byte at this place.
 #[inline(always)]
-pub fn byte_at(text: &[u8], at: usize) -> u8
+pub(crate) fn byte_at(text: &[u8], at: usize) -> u8
     requires { at < length text.now }
     ensures { result ≡ slice_index_or text.now at 0x20 }
 {

@@ -1,3 +1,5 @@
+//! Where the space and the comment lines between forms end.
+
 ghost use Rattle.std.specs.Prelude.{◌≡◌, ◌≢◌, ◌<◌, ◌≤◌, length, slice_index_or};
 ghost use Rattle.sexpr_read.specs.declared.bytes.ByteClass.TheVariants.{Space};
 ghost use Rattle.sexpr_read.specs.Bytes.{sign_of};
@@ -67,7 +69,7 @@ fn comments_end(text: &[u8], at: usize, blank: bool) -> usize
 
 /// Where the space from `at` on ends, and among forms the comment lines.
 #[inline(always)]
-pub fn skip(text: &[u8], at: usize, one: bool, blank: bool) -> usize
+pub(crate) fn skip(text: &[u8], at: usize, one: bool, blank: bool) -> usize
     requires within { at ≤ length text.now }
     requires line { IsInLine one text.now at blank }
     ensures gap { IsGap (signs one text.now) at result }

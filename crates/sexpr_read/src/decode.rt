@@ -1,3 +1,5 @@
+//! What the content of a string stands for, its escapes read.
+
 ghost use Rattle.std.specs.Prelude.{◌≡◌, ◌<◌, ◌++◌, ◌∷◌, ◌↔◌, [], length, IsTrue, OnOk, OnErr, MatchOption, ⊤};
 ghost use Rattle.sexpr_read.specs.Tree.{unescaped, meant};
 ghost use Rattle.sexpr_read.specs.Endings.{ends_in};
@@ -32,7 +34,7 @@ fn first_meant(content: &[u8]) -> Option<(u8, &[u8])>
 }
 
 /// Whether the content of a string stands for `text`.
-pub fn is_unescaped(content: &[u8], text: &[u8]) -> bool
+pub(crate) fn is_unescaped(content: &[u8], text: &[u8]) -> bool
     ensures { IsTrue result ↔ (unescaped content.now ≡ text.now) }
 {
     let mut content = content;
@@ -51,7 +53,7 @@ pub fn is_unescaped(content: &[u8], text: &[u8]) -> bool
 }
 
 /// Appends what the content of a string stands for, or leaves `out` as it was.
-pub fn append_unescaped(out: &mut Vec<u8>, content: &[u8]) -> Result<(), AllocError>
+pub(crate) fn append_unescaped(out: &mut Vec<u8>, content: &[u8]) -> Result<(), AllocError>
     ensures ok { OnOk result (out.new.items ≡ out.old.items ++ unescaped content.now) }
     ensures err { OnErr result (out.new.items ≡ out.old.items) }
 {
@@ -68,7 +70,7 @@ pub fn append_unescaped(out: &mut Vec<u8>, content: &[u8]) -> Result<(), AllocEr
 }
 
 /// Whether a text ends in `tail`.
-pub fn ends_plain(content: &[u8], tail: &[u8]) -> bool
+pub(crate) fn ends_plain(content: &[u8], tail: &[u8]) -> bool
     ensures { result ≡ ends_in tail.now content.now }
 {
     let mut content = content;
@@ -82,7 +84,7 @@ pub fn ends_plain(content: &[u8], tail: &[u8]) -> bool
 }
 
 /// Whether what the content of a string stands for ends in `tail`.
-pub fn ends_unescaped(content: &[u8], tail: &[u8]) -> bool
+pub(crate) fn ends_unescaped(content: &[u8], tail: &[u8]) -> bool
     ensures { result ≡ ends_in tail.now (unescaped content.now) }
 {
     let mut content = content;

@@ -15,6 +15,8 @@ pub fn one_tree()
 /// atom's content is what the text has there, the quotes of a string left away. So do forms in the whole text.
 pub fn spans_in_order()
     ensures one { (text : List ℕ) (t : Tree) → Spells text t
-        → ((span t).end ≤ length text) × PartsStandBetween text ((span t).at + 1) ((span t).end - 1) t }
-    ensures forms { (text : List ℕ) (t : Tree) → SpellsAll text t → PartsStandBetween text 0 (length text) t }
+        → ((span t).end ≤ length text)
+        × PartsStandBetween text ((span t).at + 1) ((span t).end - 1) t }
+    ensures forms { (text : List ℕ) (t : Tree) → SpellsAll text t
+        → PartsStandBetween text 0 (length text) t }
 {}

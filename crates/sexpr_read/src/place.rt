@@ -1,4 +1,6 @@
-use plain_types::{Reason, Reasons, reasons};
+//! Places in a text, and why one is refused.
+
+use plain_types::{HasReason, NewReason};
 use std::alloc::AllocError;
 use std::error::Error;
 use std::fmt;
@@ -30,67 +32,37 @@ pub enum TextError {
     OutOfMemory,
 }
 
-impl TextError {
-    ghost use Rattle.std.specs.Prelude.{◌≡◌};
-    ghost use Rattle.plain_types.specs.Reasons.{plain_reason};
-    ghost use Rattle.sexpr_read.specs.Reasons.{reason_in, carried_reason_in, name_of, code_of, place_of};
+impl HasReason for TextError {
+    ghost use Rattle.sexpr_read.specs.Reasons.{text_reason};
 
-    /// What it is called, its number and its place, by itself and in an error that carries it. Want of memory has no number,
-    /// which is written 0, and no place. An empty text is refused at 0.
-    fn reasons(&self) -> Reasons
-        ensures own { plain_reason result.own ≡ reason_in self.now }
-        ensures carried { plain_reason result.carried ≡ carried_reason_in self.now }
-    {
-        reasons!(self, "Text.", "1.", {
-            TextError::NotUtf8 { at } => ("NotUtf8", "1", Some(*at)),
-            TextError::CloseWithoutOpen { at } => ("CloseWithoutOpen", "2", Some(*at)),
-            TextError::EndInside { at } => ("EndInside", "3", Some(*at)),
-            TextError::TooDeep { at } => ("TooDeep", "4", Some(*at)),
-            TextError::ExtraText { at } => ("ExtraText", "5", Some(*at)),
-            TextError::EmptyText => ("EmptyText", "6", Some(0)),
-            TextError::OutOfMemory => ("OutOfMemory", "0", None),
-        })
-    }
+    ghost reason_of = { text_reason };
 
-    /// Its reason as the first of an error that carries it: `Text.` stands before its name and `1.` before its number.
-    pub fn carried_reason(&self) -> Reason
-        ensures { plain_reason result ≡ carried_reason_in self.now }
-    {
-        self.reasons().carried
-    }
+    ghost depth = { 1 };
 
-    /// Its name.
-    pub fn name(&self) -> &'static str
-        ensures { result.now ≡ name_of self.now }
-    {
-        self.reasons().own.name
-    }
-
-    /// Its number. Want of memory has none, which is written 0.
-    pub fn code(&self) -> &'static str
-        ensures { result.now ≡ code_of self.now }
-    {
-        self.reasons().own.code
-    }
-
-    /// Its byte of the text. An empty text is refused at 0, and want of memory has no place.
-    pub fn place(&self) -> Option<u32>
-        ensures { result ≡ place_of self.now }
-    {
-        self.reasons().own.place
+    /// What it is called, its number and its byte of the text. Want of memory has no number, which is written 0, and
+    /// no place. An empty text is refused at 0.
+    fn reason(&self) -> NewReason {
+        match self {
+            TextError::NotUtf8 { at } => NewReason::new("NotUtf8", 1, Some(*at)),
+            TextError::CloseWithoutOpen { at } => NewReason::new("CloseWithoutOpen", 2, Some(*at)),
+            TextError::EndInside { at } => NewReason::new("EndInside", 3, Some(*at)),
+            TextError::TooDeep { at } => NewReason::new("TooDeep", 4, Some(*at)),
+            TextError::ExtraText { at } => NewReason::new("ExtraText", 5, Some(*at)),
+            TextError::EmptyText => NewReason::new("EmptyText", 6, Some(0)),
+            TextError::OutOfMemory => NewReason::new("OutOfMemory", 0, None),
+        }
     }
 }
 
 impl fmt::Display for TextError {
     ghost use Rattle.std.specs.Prelude.{Some};
-    ghost use Rattle.sexpr_read.specs.Reasons.{reason_of};
+    ghost use Rattle.plain_types.specs.NewReasons.{written};
+    ghost use Rattle.sexpr_read.specs.Reasons.{text_reason};
 
-    ghost output = { λ e. Some (reason_of e) };
+    ghost output = { λ e. Some (written (text_reason e)) };
 
     fn fmt<W: fmt::Write>(&self, f: &mut fmt::Formatter<W>) -> fmt::Result {
-        let name = self.name();
-        let code = self.code();
-        write!(f, "{name} ({code})")
+        write!(f, "{}", self.reason())
     }
 }
 

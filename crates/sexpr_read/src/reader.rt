@@ -1,4 +1,7 @@
+//! Reads a text into a row of cells, or tells the first fault in it.
+
 ghost use Rattle.std.specs.Prelude.{◌≡◌, ◌≤◌, ◌<◌, ◌^◌, ◌⊎◌, length, true, false, [], None, Some, IsUtf8, MatchResult, IfOk, IfErr};
+ghost use Rattle.plain_types.specs.Limits.{IsReadable};
 ghost use Rattle.simdutf8.specs.Error.{valid_up_to};
 ghost use Rattle.sexpr_read.specs.Tree.{Tree, levels};
 ghost use Rattle.sexpr_read.specs.declared.bytes.ByteClass.TheVariants.{Open};
@@ -24,7 +27,7 @@ const MOST_LEVELS: u32 = 64;
 
 /// Reads trees from `from` on into an arena, up to a `)` of no list that opens here, or to the end of the text.
 fn read_forest(text: &[u8], from: usize, one: bool, arena: &mut Arena) -> Result<usize, TextError>
-    requires fits { length text.now ≤ 33_554_432 }
+    requires fits { IsReadable text.now }
     requires within { from ≤ length text.now }
     requires line { IsInLine one text.now from true }
     requires stands { Stands one (signs one text.now) from (outside (outer_levels one)) }
@@ -82,11 +85,12 @@ fn read_forest(text: &[u8], from: usize, one: bool, arena: &mut Arena) -> Result
 
 /// Where the one list of a text begins.
 fn list_start(text: &[u8]) -> Result<usize, TextError>
-    requires { length text.now ≤ 33_554_432 }
+    requires { IsReadable text.now }
     ensures gap { IfOk result (λ at. IsGap (sign_of text.now) 0 at) }
     ensures bracket { IfOk result (λ at. sign_of text.now at ≡ Open) }
     ensures within { IfOk result (λ at. at < length text.now) }
-    ensures err { IfErr result (λ e. whole_fault true (sign_of text.now) (length text.now) ≡ Some e) }
+    ensures err { IfErr result
+        (λ e. whole_fault true (sign_of text.now) (length text.now) ≡ Some e) }
 {
     let at = gap_end(text, 0);
     if at == text.len() {
@@ -101,12 +105,13 @@ fn list_start(text: &[u8]) -> Result<usize, TextError>
 
 /// That only space follows the one list of a text.
 fn check_rest(text: &[u8], end: usize) -> Result<(), TextError>
-    requires fits { length text.now ≤ 33_554_432 }
+    requires fits { IsReadable text.now }
     requires within { end ≤ length text.now }
     requires stands { Stands true (sign_of text.now) end (outside 0) }
     requires seen { is_blank_before (sign_of text.now) end ≡ false }
     ensures ok { IfOk result (λ _. IsGap (sign_of text.now) end (length text.now)) }
-    ensures err { IfErr result (λ e. whole_fault true (sign_of text.now) (length text.now) ≡ Some e) }
+    ensures err { IfErr result
+        (λ e. whole_fault true (sign_of text.now) (length text.now) ≡ Some e) }
 {
     let at = gap_end(text, end);
     if at == text.len() {
@@ -128,9 +133,9 @@ fn not_utf8(e: &Utf8Error) -> TextError
     }
 }
 
-/// `parse_one` for a text that is UTF-8.
+/// Reads a text of one list that is UTF-8.
 fn read_one<'t>(alloc: Global, text: &'t [u8]) -> Result<Doc<'t>, TextError>
-    requires fits { length text.now ≤ 33_554_432 }
+    requires fits { IsReadable text.now }
     requires utf8 { IsUtf8 text.now }
     ensures spelled { IfOk result (λ doc. Spells text.now (root_of doc)) }
     ensures levels { IfOk result (λ doc. levels (root_of doc) ≤ 64) }
@@ -156,7 +161,7 @@ fn read_one<'t>(alloc: Global, text: &'t [u8]) -> Result<Doc<'t>, TextError>
 
 /// Reads a text of one list, with only space around it.
 pub fn parse_one<'t>(alloc: Global, text: &'t [u8]) -> Result<Doc<'t>, TextError>
-    requires { length text.now ≤ 33_554_432 }
+    requires { IsReadable text.now }
     // What is read is what the text spells, and nothing else is spelled.
     ensures spelled { IfOk result (λ doc. Spells text.now (root_of doc)) }
     ensures levels { IfOk result (λ doc. levels (root_of doc) ≤ 64) }
@@ -174,9 +179,9 @@ pub fn parse_one<'t>(alloc: Global, text: &'t [u8]) -> Result<Doc<'t>, TextError
     }
 }
 
-/// `parse_all` for a text that is UTF-8.
+/// Reads a text of any number of forms that is UTF-8.
 fn read_all<'t>(alloc: Global, text: &'t [u8]) -> Result<Doc<'t>, TextError>
-    requires fits { length text.now ≤ 33_554_432 }
+    requires fits { IsReadable text.now }
     requires utf8 { IsUtf8 text.now }
     ensures spelled { IfOk result (λ doc. SpellsAll text.now (root_of doc)) }
     ensures levels { IfOk result (λ doc. levels (root_of doc) ≤ 65) }
@@ -201,11 +206,12 @@ fn read_all<'t>(alloc: Global, text: &'t [u8]) -> Result<Doc<'t>, TextError>
 /// Reads a text of any number of forms, with comment lines among them. The root is the list of all forms. It never
 /// answers `ExtraText` or `EmptyText`.
 pub fn parse_all<'t>(alloc: Global, text: &'t [u8]) -> Result<Doc<'t>, TextError>
-    requires { length text.now ≤ 33_554_432 }
+    requires { IsReadable text.now }
     // What is read is what the text spells, and nothing else is spelled.
     ensures spelled { IfOk result (λ doc. SpellsAll text.now (root_of doc)) }
     ensures levels { IfOk result (λ doc. levels (root_of doc) ≤ 65) }
-    ensures only { IfOk result (λ doc. (tree : Tree) → SpellsAll text.now tree → tree ≡ root_of doc) }
+    ensures only { IfOk result
+        (λ doc. (tree : Tree) → SpellsAll text.now tree → tree ≡ root_of doc) }
     // A text that is refused spells no forms of at most 64 levels.
     ensures unspelled { IfErr result (λ e. (e ≡ TextError.OutOfMemory)
         ⊎ ((tree : Tree) → SpellsAll text.now tree → levels tree ≤ 65 → ⊥)) }

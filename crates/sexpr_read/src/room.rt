@@ -20,7 +20,7 @@ fn begun(text: &[u8]) -> u32 {
 
 /// About how many lists and atoms a text has, told from the fronts of its pieces, with a sixteenth more. It is no more
 /// than a third of the bytes.
-pub fn about_cells(text: &[u8]) -> usize {
+pub(crate) fn about_cells(text: &[u8]) -> usize {
     let mut begun_in_fronts = 0usize;
     for piece in text.chunks(PIECE) {
         let front = &piece[..piece.len().min(FRONT)];

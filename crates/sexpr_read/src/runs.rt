@@ -1,3 +1,5 @@
+//! Where a run of space, a word and a string end.
+
 ghost use Rattle.std.specs.Prelude.{◌≡◌, ◌≢◌, ◌<◌, ◌≤◌, length, true, MatchOption, ⊤};
 ghost use Rattle.sexpr_read.specs.declared.bytes.ByteClass.TheVariants.{Space, Quote};
 ghost use Rattle.sexpr_read.specs.Bytes.{sign_of, is_word};
@@ -8,7 +10,7 @@ use crate::bytes::{ByteClass, sign_at};
 
 /// Where the space from `at` on ends.
 #[inline(always)]
-pub fn gap_end(text: &[u8], at: usize) -> usize
+pub(crate) fn gap_end(text: &[u8], at: usize) -> usize
     requires { at ≤ length text.now }
     ensures gap { IsGap (sign_of text.now) at result }
     ensures within { result ≤ length text.now }
@@ -25,7 +27,7 @@ pub fn gap_end(text: &[u8], at: usize) -> usize
 }
 
 /// Where the word at `at` ends.
-pub fn word_end(text: &[u8], at: usize) -> usize
+pub(crate) fn word_end(text: &[u8], at: usize) -> usize
     requires within { at < length text.now }
     requires begins { is_word (sign_of text.now at) ≡ true }
     ensures word { IsWord (sign_of text.now) at result }
@@ -42,7 +44,7 @@ pub fn word_end(text: &[u8], at: usize) -> usize
 }
 
 /// The place of the quote that ends the string whose content begins at `at`, or `None` where the text ends first.
-pub fn string_end(text: &[u8], at: usize) -> Option<usize>
+pub(crate) fn string_end(text: &[u8], at: usize) -> Option<usize>
     requires { at ≤ length text.now }
     ensures content { MatchOption result (IsUnclosed (sign_of text.now) at (length text.now))
         (λ close. IsContent (sign_of text.now) at close) }

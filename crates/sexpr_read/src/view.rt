@@ -1,3 +1,5 @@
+//! The tree of a text, walked without copying it.
+
 ghost use Rattle.std.specs.Prelude.{◌≡◌, ◌↔◌, IsTrue};
 ghost use Rattle.std.proofs.Props.{props};
 ghost use Rattle.sexpr_read.specs.Cells.{cells_of, forest_of, tree_at, LiesInText, ArePlaced, ArePlaced-prop};
@@ -160,7 +162,8 @@ impl<'d, 't> Node<'d, 't> {
 
     /// Appends what an atom stands for; a list appends nothing. What is appended is UTF-8.
     pub fn value(self, out: &mut Vec<u8>) -> Result<(), AllocError>
-        ensures ok { OnOk result (out.new.items ≡ out.old.items ++ unwrap_or (value (tree_of self.entry)) []) }
+        ensures ok { OnOk result
+            (out.new.items ≡ out.old.items ++ unwrap_or (value (tree_of self.entry)) []) }
         ensures err { OnErr result (out.new.items ≡ out.old.items) }
         ensures utf8 { IsUtf8 (unwrap_or (value (tree_of self.entry)) []) }
     {
@@ -174,7 +177,8 @@ impl<'d, 't> Node<'d, 't> {
     }
 }
 
-/// Whether two texts are the same. Most that are asked about differ in length or in the first byte, which is told without a call.
+/// Whether two texts are the same. Most that are asked about differ in length or in the first byte, which is told
+/// without a call.
 #[inline(always)]
 fn is_same(content: &[u8], text: &[u8]) -> bool
     ensures { IsTrue result ↔ (content.now ≡ text.now) }
