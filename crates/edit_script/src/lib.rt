@@ -32,12 +32,18 @@ use std::alloc::Global;
 #[tactic(auto, unfolding(crate::specs::CommandsOf::commands_of))]
 pub fn read_script<'t>(alloc: Global, text: &'t [u8]) -> Result<Vec<Command<'t>>, ScriptError>
     requires { length text.now ≤ 33_554_432 }
-    ensures says { MatchResult result (λ commands. ScriptSays text.entry.now (Ok (map plain_command commands.items))) (λ e. (e ≡ ScriptError.OutOfMemory) ⊎ ScriptSays text.entry.now (Err e)) }
-    ensures only { (answer : Result (List PlainCommand) ScriptError) → ScriptSays text.entry.now answer → MatchResult result (λ commands. answer ≡ Ok (map plain_command commands.items)) (λ e. (e ≡ ScriptError.OutOfMemory) ⊎ (answer ≡ Err e)) }
+    ensures says { MatchResult result
+        (λ commands. ScriptSays text.entry.now (Ok (map plain_command commands.items)))
+        (λ e. (e ≡ ScriptError.OutOfMemory) ⊎ ScriptSays text.entry.now (Err e)) }
+    ensures only { (answer : Result (List PlainCommand) ScriptError)
+        → ScriptSays text.entry.now answer
+        → MatchResult result (λ commands. answer ≡ Ok (map plain_command commands.items))
+        (λ e. (e ≡ ScriptError.OutOfMemory) ⊎ (answer ≡ Err e)) }
     ensures fit { IfOk result (λ commands. All Fits (map plain_command commands.items)) }
     ensures shallow { IfOk result (λ commands. AreShallow (map plain_command commands.items)) }
     ensures near { IfOk result (λ commands. All IsNearIfMoved (map plain_command commands.items)) }
-    ensures together { IfOk result (λ commands. sum_by added_by (map plain_command commands.items) ≤ length text.entry.now) }
+    ensures together { IfOk result
+        (λ commands. sum_by added_by (map plain_command commands.items) ≤ length text.entry.now) }
 {
     one_reading();
     spans_in_order();
@@ -52,12 +58,17 @@ pub fn read_script<'t>(alloc: Global, text: &'t [u8]) -> Result<Vec<Command<'t>>
 #[tactic(auto, unfolding(crate::specs::CommandsOf::steps_of))]
 pub fn read_steps<'t>(alloc: Global, text: &'t [u8]) -> Result<Vec<Step<'t>>, ScriptError>
     requires { length text.now ≤ 33_554_432 }
-    ensures says { MatchResult result (λ steps. SaysSteps text.entry.now (Ok (map plain_step steps.items))) (λ e. (e ≡ ScriptError.OutOfMemory) ⊎ SaysSteps text.entry.now (Err e)) }
-    ensures only { (answer : Result (List PlainStep) ScriptError) → SaysSteps text.entry.now answer → MatchResult result (λ steps. answer ≡ Ok (map plain_step steps.items)) (λ e. (e ≡ ScriptError.OutOfMemory) ⊎ (answer ≡ Err e)) }
+    ensures says { MatchResult result
+        (λ steps. SaysSteps text.entry.now (Ok (map plain_step steps.items)))
+        (λ e. (e ≡ ScriptError.OutOfMemory) ⊎ SaysSteps text.entry.now (Err e)) }
+    ensures only { (answer : Result (List PlainStep) ScriptError) → SaysSteps text.entry.now answer
+        → MatchResult result (λ steps. answer ≡ Ok (map plain_step steps.items))
+        (λ e. (e ≡ ScriptError.OutOfMemory) ⊎ (answer ≡ Err e)) }
     ensures fit { IfOk result (λ steps. All StepFits (map plain_step steps.items)) }
     ensures shallow { IfOk result (λ steps. All IsShallowStep (map plain_step steps.items)) }
     ensures near { IfOk result (λ steps. All IsNearStep (map plain_step steps.items)) }
-    ensures together { IfOk result (λ steps. sum_by added_by_step (map plain_step steps.items) ≤ length text.entry.now) }
+    ensures together { IfOk result
+        (λ steps. sum_by added_by_step (map plain_step steps.items) ≤ length text.entry.now) }
 {
     one_reading();
     spans_in_order();

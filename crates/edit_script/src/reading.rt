@@ -35,7 +35,8 @@ fn added<'t>(text: &'t [u8], form: Node<'_, '_>) -> Result<Command<'t>, ScriptEr
     requires shallow { AllShallow text.now (parts (tree_of form)) }
     ensures read { Gives plain_command result (added text.entry.now (tree_of form.entry)) }
     ensures known { IfOk result (λ command. IsRead (plain_command command)) }
-    ensures size { IfOk result (λ command. added_by (plain_command command) ≤ size_of (tree_of form.entry)) }
+    ensures size { IfOk result
+        (λ command. added_by (plain_command command) ≤ size_of (tree_of form.entry)) }
 {
     let mut parts = behind_head(form);
     let Some(part) = parts.next() else {
@@ -104,7 +105,8 @@ fn moved<'t>(alloc: Global, form: Node<'_, '_>) -> Result<Command<'t>, ScriptErr
 /// `(again)`.
 fn again<'t>(form: Node<'_, '_>) -> Result<Command<'t>, ScriptError>
     requires { place (tree_of form) ≤ 33_554_432 }
-    ensures read { Gives plain_command result (alone (again (place (tree_of form.entry))) (tree_of form.entry)) }
+    ensures read { Gives plain_command result
+        (alone (again (place (tree_of form.entry))) (tree_of form.entry)) }
     ensures known { IfOk result (λ command. IsRead (plain_command command)) }
     ensures adds_nothing { IfOk result (λ command. added_by (plain_command command) ≡ 0) }
 {
@@ -124,7 +126,8 @@ fn command_of<'t>(
     requires shallow { AllShallow text.now (parts (tree_of form)) }
     ensures read { Gives plain_command result (command_of text.entry.now (tree_of form.entry)) }
     ensures known { IfOk result (λ command. IsRead (plain_command command)) }
-    ensures size { IfOk result (λ command. added_by (plain_command command) ≤ size_of (tree_of form.entry)) }
+    ensures size { IfOk result
+        (λ command. added_by (plain_command command) ≤ size_of (tree_of form.entry)) }
 {
     if has_word_head(form, b"add") {
         added(text, form)
@@ -152,7 +155,8 @@ fn step_of<'t>(alloc: Global, text: &'t [u8], form: Node<'_, '_>) -> Result<Step
     requires shallow { AllShallow text.now (parts (tree_of form)) }
     ensures read { Gives plain_step result (step_of text.entry.now (tree_of form.entry)) }
     ensures known { IfOk result (λ step. IsReadStep (plain_step step)) }
-    ensures size { IfOk result (λ step. added_by_step (plain_step step) ≤ size_of (tree_of form.entry)) }
+    ensures size { IfOk result
+        (λ step. added_by_step (plain_step step) ≤ size_of (tree_of form.entry)) }
 {
     if has_word_head(form, b"undo") {
         no_more(behind_head(form))?;
@@ -179,9 +183,11 @@ pub(crate) fn commands_in<'t>(
     requires forms { FormsStandIn (length text.now) (trees_left forms) }
     requires shallow { FormsShallow text.now (trees_left forms) }
     requires room { HaveRoom (length text.now) (trees_left forms) }
-    ensures read { Gives (λ commands. map plain_command commands.items) result (each_of (command_of text.entry.now) (trees_left forms.entry)) }
+    ensures read { Gives (λ commands. map plain_command commands.items) result
+        (each_of (command_of text.entry.now) (trees_left forms.entry)) }
     ensures known { IfOk result (λ commands. All IsRead (map plain_command commands.items)) }
-    ensures together { IfOk result (λ commands. sum_by added_by (map plain_command commands.items) ≤ length text.entry.now) }
+    ensures together { IfOk result
+        (λ commands. sum_by added_by (map plain_command commands.items) ≤ length text.entry.now) }
 {
     let mut commands = Vec::new(alloc);
     for form in forms {
@@ -204,9 +210,11 @@ pub(crate) fn steps_in<'t>(
     requires forms { FormsStandIn (length text.now) (trees_left forms) }
     requires shallow { FormsShallow text.now (trees_left forms) }
     requires room { HaveRoom (length text.now) (trees_left forms) }
-    ensures read { Gives (λ steps. map plain_step steps.items) result (each_of (step_of text.entry.now) (trees_left forms.entry)) }
+    ensures read { Gives (λ steps. map plain_step steps.items) result
+        (each_of (step_of text.entry.now) (trees_left forms.entry)) }
     ensures known { IfOk result (λ steps. All IsReadStep (map plain_step steps.items)) }
-    ensures together { IfOk result (λ steps. sum_by added_by_step (map plain_step steps.items) ≤ length text.entry.now) }
+    ensures together { IfOk result
+        (λ steps. sum_by added_by_step (map plain_step steps.items) ≤ length text.entry.now) }
 {
     let mut steps = Vec::new(alloc);
     for form in forms {

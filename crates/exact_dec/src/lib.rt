@@ -95,7 +95,8 @@ pub fn mm_near(text: &[u8]) -> Result<Nm, DecError>
 pub fn ratio_near(text: &[u8], of: Nm) -> Result<Nm, DecError>
     requires from_zero { pos 0 ≤ℤ of }
     requires half_a_metre { of ≤ℤ pos 500000000 }
-    ensures reads { (answer : Result ℤ DecError) → (result ≡ answer) ↔ RatioNear text.now of answer }
+    ensures reads { (answer : Result ℤ DecError)
+        → (result ≡ answer) ↔ RatioNear text.now of answer }
     ensures computed { result ≡ ratio_near_answer text.now of }
 {
     match take_apart(text) {
@@ -172,7 +173,8 @@ fn is_long(text: &[u8], parts: &DecimalParts<'_>) -> bool
 
 /// The number with its sign, unless it is too far from 0.
 fn bounded(negative: bool, whole: u64) -> Result<Nm, DecError>
-    ensures { result ≡ (if nat_lt 1000000000000 whole then Err DecError.TooWide else Ok (signed negative whole)) }
+    ensures { result ≡ (if nat_lt 1000000000000 whole then Err DecError.TooWide else Ok
+        (signed negative whole)) }
 {
     if whole > FARTHEST {
         return Err(DecError::TooWide);
@@ -197,7 +199,8 @@ fn half_up(negative: bool, halves: Quotient) -> u64
 fn cut(text: &[u8], parts: &DecimalParts<'_>, unit: u64) -> Result<Nm, DecError>
     requires unit { unit ≤ 500000000 }
     requires digits { HasDigits (spelled parts.now) }
-    requires reach { 100000000 * bottom (spelled parts.now) < top (spelled parts.now) → 25400 ≤ unit }
+    requires reach { 100000000 * bottom (spelled parts.now) < top (spelled parts.now)
+        → 25400 ≤ unit }
     ensures { result ≡ answer_of text.now (pos unit) cut_value no_more (Some (spelled parts.now)) }
 {
     if is_long(text, parts) {
@@ -213,7 +216,8 @@ fn cut(text: &[u8], parts: &DecimalParts<'_>, unit: u64) -> Result<Nm, DecError>
 fn nearest(text: &[u8], parts: &DecimalParts<'_>, unit: u64) -> Result<Nm, DecError>
     requires unit { unit ≤ 500000000 }
     requires digits { HasDigits (spelled parts.now) }
-    requires reach { 100000000 * bottom (spelled parts.now) < top (spelled parts.now) → 25400 ≤ unit }
+    requires reach { 100000000 * bottom (spelled parts.now) < top (spelled parts.now)
+        → 25400 ≤ unit }
     ensures { result ≡ answer_of text.now (pos unit) near no_more (Some (spelled parts.now)) }
 {
     if is_long(text, parts) {

@@ -76,7 +76,8 @@ pub fn is_all_digits(text: &[u8]) -> bool
 
 /// The sign and the digits of an exponent, which may be missing.
 fn power(text: &[u8]) -> Option<(bool, &[u8])>
-    ensures { MatchOption result (power_of text.now ≡ None) (λ found. power_of text.now ≡ Some (found.0, found.1.now)) }
+    ensures { MatchOption result (power_of text.now ≡ None)
+        (λ found. power_of text.now ≡ Some (found.0, found.1.now)) }
 {
     match text {
         [] => Some((false, text)),
@@ -93,7 +94,8 @@ fn power(text: &[u8]) -> Option<(bool, &[u8])>
 
 /// The parts of a text, or None where it is no decimal.
 pub fn take_apart(text: &[u8]) -> Option<DecimalParts<'_>>
-    ensures parts { MatchOption result (parts_of text.now ≡ None) (λ found. parts_of text.now ≡ Some (spelled found)) }
+    ensures parts { MatchOption result (parts_of text.now ≡ None)
+        (λ found. parts_of text.now ≡ Some (spelled found)) }
     ensures digits { IfSome result (λ found. HasDigits (spelled found)) }
 {
     let (whole, rest) = split_digits(skip_sign(text));

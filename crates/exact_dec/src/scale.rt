@@ -83,7 +83,8 @@ fn digits_behind(digits: &[u8], unit: u64, behind: Quotient) -> Quotient
     requires below { behind.whole ≤ unit }
     ensures below { result.whole ≤ unit }
     ensures divides { (n s : ℕ) → IsQuotient n (10 ^ s) behind.whole behind.exact →
-        IsQuotient (unit * number digits.now * 10 ^ s + n) (10 ^ (length digits.now + s)) result.whole result.exact }
+        IsQuotient (unit * number digits.now * 10 ^ s + n)
+            (10 ^ (length digits.now + s)) result.whole result.exact }
 {
     let mut quotient = behind;
     let mut at = digits.len();

@@ -27,7 +27,8 @@ fn leading(text: &[u8], most: usize) -> Option<Run>
     ensures number { IfSome result (λ f. f.n ≡ number (front_digits text.now)) }
     ensures count { IfSome result (λ f. f.count ≡ length (front_digits text.now)) }
     ensures rest { IfSome result (λ f. drop f.count text.now ≡ after_digits text.now) }
-    ensures within { IfSome result (λ f. (f.count ≤ most) × (f.count ≤ length text.now) × (f.n < 10 ^ f.count)) }
+    ensures within { IfSome result
+        (λ f. (f.count ≤ most) × (f.count ≤ length text.now) × (f.n < 10 ^ f.count)) }
 {
     let mut n = 0;
     let mut count = 0;

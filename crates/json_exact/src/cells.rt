@@ -1,4 +1,4 @@
-// The flat form of a text: a cell for each value and each name, in the order in which they begin.
+//! The flat form of a text: a cell for each value and each name, in the order in which they begin.
 
 #[derive(Clone, Copy, Debug, Drop, PartialEq, Eq)]
 pub(crate) enum Kind {

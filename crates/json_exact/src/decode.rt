@@ -1,4 +1,5 @@
-// What the bytes between the quotes of a string stand for.
+//! What the bytes between the quotes of a string stand for.
+
 ghost use Rattle.std.specs.Prelude.{◌≡◌, ◌+◌, ◌<◌, ◌≤◌, ◌++◌, length, take, drop, IsTrue, MatchResult};
 ghost use Rattle.std.specs.Char.{encode_utf8};
 ghost use Rattle.json_exact.specs.Characters.{hex_value, code_unit, short_value, decoded};
@@ -160,7 +161,8 @@ fn behind(raw: &[u8], at: usize) -> &[u8]
 
 /// Appends the characters.
 pub(crate) fn append(raw: &[u8], out: &mut Vec<u8>) -> Result<(), AllocError>
-    ensures { MatchResult result (λ _. out.new.items ≡ out.old.items ++ decoded raw.now) (λ _. take (length out.old.items) out.new.items ≡ out.old.items) }
+    ensures { MatchResult result (λ _. out.new.items ≡ out.old.items ++ decoded raw.now)
+        (λ _. take (length out.old.items) out.new.items ≡ out.old.items) }
 {
     let mut i = 0;
     'characters: while i < raw.len() {

@@ -1,5 +1,6 @@
-// Why a text was refused.
-use plain_types::{Reason, Reasons, reasons};
+//! Why a text was refused.
+
+use plain_types::{HasReason, NewReason};
 use std::alloc::{AllocError, AllocFailed};
 use std::fmt;
 
@@ -16,50 +17,21 @@ pub enum JsonError {
     OutOfMemory,
 }
 
-impl JsonError {
-    ghost use Rattle.std.specs.Prelude.{◌≡◌};
-    ghost use Rattle.plain_types.specs.Reasons.{plain_reason};
-    ghost use Rattle.json_exact.specs.Reasons.{reason_in, carried_reason_in, name_of, code_of, place_of};
+impl HasReason for JsonError {
+    ghost use Rattle.json_exact.specs.Reasons.{json_reason};
 
-    /// What it is called, its number and its place, by itself and in an error that carries it. Want of memory has no number,
-    /// which is written 0, and no place.
-    fn reasons(&self) -> Reasons
-        ensures own { plain_reason result.own ≡ reason_in self.now }
-        ensures carried { plain_reason result.carried ≡ carried_reason_in self.now }
-    {
-        reasons!(self, "Json.", "1.", {
-            JsonError::Bad { at } => ("Bad", "1", Some(*at)),
-            JsonError::TooDeep { at } => ("TooDeep", "2", Some(*at)),
-            JsonError::OutOfMemory => ("OutOfMemory", "0", None),
-        })
-    }
+    ghost reason_of = { json_reason };
 
-    /// Its reason as the first of an error that carries it: `Json.` stands before its name and `1.` before its number.
-    pub fn carried_reason(&self) -> Reason
-        ensures { plain_reason result ≡ carried_reason_in self.now }
-    {
-        self.reasons().carried
-    }
+    ghost depth = { 1 };
 
-    /// Its name.
-    pub fn name(&self) -> &'static str
-        ensures { result.now ≡ name_of self.now }
-    {
-        self.reasons().own.name
-    }
-
-    /// Its number. Want of memory has none, which is written 0.
-    pub fn code(&self) -> &'static str
-        ensures { result.now ≡ code_of self.now }
-    {
-        self.reasons().own.code
-    }
-
-    /// Its byte of the text. Want of memory has no place.
-    pub fn place(&self) -> Option<u32>
-        ensures { result ≡ place_of self.now }
-    {
-        self.reasons().own.place
+    /// What it is called, its number and its byte of the text. Want of memory has no number, which is written 0, and
+    /// no place.
+    fn reason(&self) -> NewReason {
+        match self {
+            JsonError::Bad { at } => NewReason::new("Bad", 1, Some(*at)),
+            JsonError::TooDeep { at } => NewReason::new("TooDeep", 2, Some(*at)),
+            JsonError::OutOfMemory => NewReason::new("OutOfMemory", 0, None),
+        }
     }
 }
 
@@ -87,14 +59,13 @@ impl<T: Drop> From<AllocFailed<T>> for JsonError {
 
 impl fmt::Display for JsonError {
     ghost use Rattle.std.specs.Prelude.{Some};
-    ghost use Rattle.json_exact.specs.Reasons.{reason_of};
+    ghost use Rattle.plain_types.specs.NewReasons.{written};
+    ghost use Rattle.json_exact.specs.Reasons.{json_reason};
 
-    ghost output = { λ e. Some (reason_of e) };
+    ghost output = { λ e. Some (written (json_reason e)) };
 
     fn fmt<W: fmt::Write>(&self, f: &mut fmt::Formatter<W>) -> fmt::Result {
-        let name = self.name();
-        let code = self.code();
-        write!(f, "{name} ({code})")
+        write!(f, "{}", self.reason())
     }
 }
 

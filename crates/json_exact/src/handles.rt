@@ -1,4 +1,5 @@
-// A text that was read, and handles on its values.
+//! A text that was read, and handles on its values.
+
 ghost use Rattle.std.specs.Prelude.{ℕ, List, ◌≡◌, ◌+◌, ◌-◌, ◌≤◌, length, drop, slice_range};
 ghost use Rattle.json_exact.specs.Cells.{first_kind, first_inside, own_cells, other_cells};
 ghost use Rattle.json_exact.specs.Texts.{AreTexts, AreTexts-prop};
@@ -79,6 +80,7 @@ impl<'j, 't> Value<'j, 't> {
     ghost use Rattle.json_exact.specs.Bytes.{same_bytes};
     ghost use Rattle.json_exact.specs.Handles.{json_of, items_left};
 
+    /// What kind of value it is.
     fn kind(self) -> Kind
         ensures { result ≡ first_kind self.entry.cells.now }
     {
@@ -139,7 +141,8 @@ impl<'j, 't> Value<'j, 't> {
 
     /// The digits of a number, as they are written. None of any other value.
     pub fn number(self) -> Option<&'t [u8]>
-        ensures { MatchOption result (number_of (json_of self.entry) ≡ None) (λ digits. number_of (json_of self.entry) ≡ Some digits.now) }
+        ensures { MatchOption result (number_of (json_of self.entry) ≡ None)
+            (λ digits. number_of (json_of self.entry) ≡ Some digits.now) }
     {
         if self.kind() != Kind::Number {
             return None;
@@ -168,7 +171,8 @@ impl<'j, 't> Value<'j, 't> {
 
     /// The first member of an object that has this name. None where there is none, and in any other value.
     pub fn get(self, name: &[u8]) -> Option<Value<'j, 't>>
-        ensures { option_map json_of result ≡ member (λ text. same_bytes text name.now) (json_of self.entry) }
+        ensures { option_map json_of result
+            ≡ member (λ text. same_bytes text name.now) (json_of self.entry) }
     {
         if self.kind() != Kind::Object {
             return None;
@@ -191,7 +195,8 @@ impl<'j, 't> Value<'j, 't> {
     /// false. After false, and where memory runs out, nothing was appended. What is appended is UTF-8.
     pub fn text(self, out: &mut Vec<u8>) -> Result<bool, AllocError>
         ensures ok { IfOk result (λ said. MatchOption (text_of (json_of self.entry))
-            ((said ≡ false) × (out.new.items ≡ out.old.items)) (λ text. (said ≡ true) × (out.new.items ≡ out.old.items ++ text))) }
+            ((said ≡ false) × (out.new.items ≡ out.old.items))
+            (λ text. (said ≡ true) × (out.new.items ≡ out.old.items ++ text))) }
         ensures err { OnErr result (out.new.items ≡ out.old.items) }
         ensures utf8 { IsUtf8 (unwrap_or (text_of (json_of self.entry)) []) }
     {

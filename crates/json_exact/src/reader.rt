@@ -1,5 +1,7 @@
-// The reader: one pass over the text. The open brackets are kept in the cells themselves.
+//! The reader: one pass over the text. The open brackets are kept in the cells themselves.
+
 ghost use Rattle.std.specs.Prelude.{◌≡◌, ◌+◌, ◌-◌, ◌<◌, ◌≤◌, length, IfOk, IfErr, MatchResult};
+ghost use Rattle.plain_types.specs.Limits.{IsInText, IsReadable};
 ghost use Rattle.json_exact.specs.Refusals.{IsRefused};
 ghost use Rattle.json_exact.specs.Reading.{EndsLeaf, StopsLeaf, ReadsValue, ReadsValueHere, ReadsName, ReadsNameHere, ReadsColon, ReadsFirst, ReadsBehind, Reads, Puts, Opens, Closes, HasOpen, finished, closing_of, with_kind, IsRead};
 
@@ -59,6 +61,7 @@ fn leaf_end(text: &[u8], at: usize) -> Result<(Kind, usize), usize>
     }
 }
 
+/// The kind, and where it ends.
 fn with_kind(kind: Kind, end: Result<usize, usize>) -> Result<(Kind, usize), usize>
     ensures { result ≡ with_kind kind end }
 {
@@ -68,8 +71,9 @@ fn with_kind(kind: Kind, end: Result<usize, usize>) -> Result<(Kind, usize), usi
     }
 }
 
+/// The fault that counts at this byte.
 fn bad(at: usize) -> JsonError
-    requires { at ≤ 33554432 }
+    requires { IsInText at }
     ensures { result ≡ JsonError.Bad at }
 {
     JsonError::Bad { at: at as u32 }
@@ -83,11 +87,13 @@ fn closing(kind: Kind) -> u8
 }
 
 impl Reader {
+    /// What stands where a value has to be, behind blanks.
     fn value(&mut self, text: &[u8]) -> Result<Next, JsonError>
-        requires small { length text.now ≤ 33554432 }
+        requires small { IsReadable text.now }
         requires reads { ReadsValue text.now self.old }
         ensures next { MatchResult result (Reads text.now self.new) (IsRefused text.now) }
-        ensures progress { IfOk result (λ _. (self.old.at < self.new.at) × (self.new.at ≤ length text.now)) }
+        ensures progress { IfOk result
+            (λ _. (self.old.at < self.new.at) × (self.new.at ≤ length text.now)) }
     {
         let at = scan::blanks_end(text, self.at);
         if at == text.len() {
@@ -97,11 +103,13 @@ impl Reader {
         self.value_here(text)
     }
 
+    /// The value that begins here.
     fn value_here(&mut self, text: &[u8]) -> Result<Next, JsonError>
-        requires small { length text.now ≤ 33554432 }
+        requires small { IsReadable text.now }
         requires reads { ReadsValueHere text.now self.old }
         ensures next { MatchResult result (Reads text.now self.new) (IsRefused text.now) }
-        ensures progress { IfOk result (λ _. (self.old.at < self.new.at) × (self.new.at ≤ length text.now)) }
+        ensures progress { IfOk result
+            (λ _. (self.old.at < self.new.at) × (self.new.at ≤ length text.now)) }
     {
         let b = text[self.at];
         if b == b'[' {
@@ -121,7 +129,7 @@ impl Reader {
 
     /// Puts the cell of a leaf from here to `end`.
     fn put(&mut self, text: &[u8], kind: Kind, end: usize) -> Result<(), JsonError>
-        requires small { length text.now ≤ 33554432 }
+        requires small { IsReadable text.now }
         requires order { self.old.at ≤ end }
         requires in_text { end ≤ length text.now }
         ensures { Puts self.old kind end self.new result }
@@ -138,7 +146,7 @@ impl Reader {
 
     /// Puts the cell of the bracket that opens here.
     fn open(&mut self, text: &[u8], kind: Kind) -> Result<Next, JsonError>
-        requires small { length text.now ≤ 33554432 }
+        requires small { IsReadable text.now }
         requires here { self.old.at < length text.now }
         requires top { self.old.top ≤ length self.old.cells.items }
         requires few { length self.old.cells.items ≤ self.old.at }
@@ -163,7 +171,7 @@ impl Reader {
 
     /// Closes the innermost bracket here.
     fn close(&mut self, text: &[u8])
-        requires small { length text.now ≤ 33554432 }
+        requires small { IsReadable text.now }
         requires here { self.old.at < length text.now }
         requires has { HasOpen self.old }
         requires few { length self.old.cells.items ≤ self.old.at }
@@ -183,10 +191,11 @@ impl Reader {
 
     /// What may stand behind an opening bracket.
     fn first(&mut self, text: &[u8]) -> Result<Next, JsonError>
-        requires small { length text.now ≤ 33554432 }
+        requires small { IsReadable text.now }
         requires reads { ReadsFirst text.now self.old }
         ensures next { MatchResult result (Reads text.now self.new) (IsRefused text.now) }
-        ensures progress { IfOk result (λ _. (self.old.at < self.new.at) × (self.new.at ≤ length text.now)) }
+        ensures progress { IfOk result
+            (λ _. (self.old.at < self.new.at) × (self.new.at ≤ length text.now)) }
     {
         let at = scan::blanks_end(text, self.at);
         if at == text.len() {
@@ -204,11 +213,13 @@ impl Reader {
         }
     }
 
+    /// What stands where a name has to be, behind blanks.
     fn name(&mut self, text: &[u8]) -> Result<Next, JsonError>
-        requires small { length text.now ≤ 33554432 }
+        requires small { IsReadable text.now }
         requires reads { ReadsName text.now self.old }
         ensures next { MatchResult result (Reads text.now self.new) (IsRefused text.now) }
-        ensures progress { IfOk result (λ _. (self.old.at < self.new.at) × (self.new.at ≤ length text.now)) }
+        ensures progress { IfOk result
+            (λ _. (self.old.at < self.new.at) × (self.new.at ≤ length text.now)) }
     {
         let at = scan::blanks_end(text, self.at);
         if at == text.len() {
@@ -218,11 +229,13 @@ impl Reader {
         self.name_here(text)
     }
 
+    /// The name that begins here, and the colon behind it.
     fn name_here(&mut self, text: &[u8]) -> Result<Next, JsonError>
-        requires small { length text.now ≤ 33554432 }
+        requires small { IsReadable text.now }
         requires reads { ReadsNameHere text.now self.old }
         ensures next { MatchResult result (Reads text.now self.new) (IsRefused text.now) }
-        ensures progress { IfOk result (λ _. (self.old.at < self.new.at) × (self.new.at ≤ length text.now)) }
+        ensures progress { IfOk result
+            (λ _. (self.old.at < self.new.at) × (self.new.at ≤ length text.now)) }
     {
         let at = self.at;
         if text[at] != b'"' {
@@ -237,11 +250,13 @@ impl Reader {
         }
     }
 
+    /// What stands where a colon has to be, behind blanks.
     fn colon(&mut self, text: &[u8]) -> Result<Next, JsonError>
-        requires small { length text.now ≤ 33554432 }
+        requires small { IsReadable text.now }
         requires reads { ReadsColon text.now self.old }
         ensures next { MatchResult result (Reads text.now self.new) (IsRefused text.now) }
-        ensures progress { IfOk result (λ _. (self.old.at < self.new.at) × (self.new.at ≤ length text.now)) }
+        ensures progress { IfOk result
+            (λ _. (self.old.at < self.new.at) × (self.new.at ≤ length text.now)) }
     {
         let at = scan::blanks_end(text, self.at);
         if at == text.len() {
@@ -256,11 +271,12 @@ impl Reader {
 
     /// What may stand behind a value in brackets.
     fn after(&mut self, text: &[u8]) -> Result<Next, JsonError>
-        requires small { length text.now ≤ 33554432 }
+        requires small { IsReadable text.now }
         requires reads { ReadsBehind text.now self.old }
         requires level { 0 < self.old.depth }
         ensures next { MatchResult result (Reads text.now self.new) (IsRefused text.now) }
-        ensures progress { IfOk result (λ _. (self.old.at < self.new.at) × (self.new.at ≤ length text.now)) }
+        ensures progress { IfOk result
+            (λ _. (self.old.at < self.new.at) × (self.new.at ≤ length text.now)) }
     {
         let at = scan::blanks_end(text, self.at);
         if at == text.len() {
@@ -296,7 +312,7 @@ impl Reader {
 
 /// The cells of the text's value.
 pub(crate) fn read(alloc: Global, text: &[u8]) -> Result<Vec<Cell>, JsonError>
-    requires { length text.now ≤ 33554432 }
+    requires { IsReadable text.now }
     ensures { MatchResult result (λ cells. IsRead text.now cells.items) (IsRefused text.now) }
 {
     let mut reader = Reader {

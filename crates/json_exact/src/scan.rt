@@ -1,4 +1,5 @@
-// Readers of what has no brackets: blanks, words and numbers.
+//! Readers of what has no brackets: blanks, words and numbers.
+
 ghost use Rattle.std.specs.Prelude.{◌≡◌, ◌+◌, ◌<◌, ◌≤◌, length, MatchResult};
 ghost use Rattle.json_exact.specs.Numbers.{is_digit};
 ghost use Rattle.json_exact.specs.JsonText.{is_blank};
@@ -71,7 +72,8 @@ pub(crate) fn blanks_end(text: &[u8], at: usize) -> usize
 /// The place behind the word that stands at `at`, or where the text differs from it.
 pub(crate) fn word_end(text: &[u8], at: usize, word: &[u8]) -> Result<usize, usize>
     requires { at ≤ length text.now }
-    ensures { MatchResult result (PassesWord text.now at word.now) (StopsWord text.now at word.now) }
+    ensures { MatchResult result (PassesWord text.now at word.now)
+        (StopsWord text.now at word.now) }
 {
     let mut i = at;
     'letters: for letter in word {

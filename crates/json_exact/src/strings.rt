@@ -1,4 +1,5 @@
-// The reader of strings.
+//! The reader of strings.
+
 ghost use Rattle.std.specs.Prelude.{◌≡◌, ◌↔◌, ◌+◌, ◌<◌, ◌≤◌, false, length, MatchResult, IfErr, slice_index, IsTrue};
 ghost use Rattle.json_exact.specs.Characters.{is_plain, is_hex, is_d, is_high_digit, is_low_digit, is_short, escape, digits, surrogate, two_digits, low_half, within, character};
 ghost use Rattle.json_exact.specs.Refusals.{EndsDigits};
@@ -85,7 +86,8 @@ fn is_short(b: u8) -> bool
 /// The place behind the bytes of this row that stand at `at`, or that of the first other byte.
 fn row_end(text: &[u8], at: usize, row: &[Class]) -> Result<usize, usize>
     requires { at ≤ length text.now }
-    ensures { MatchResult result (PassesWay (way_of row.now) text.now at) (StopsWay (way_of row.now) text.now at) }
+    ensures { MatchResult result (PassesWay (way_of row.now) text.now at)
+        (StopsWay (way_of row.now) text.now at) }
 {
     let mut i = at;
     'row: for class in row {
@@ -115,7 +117,8 @@ fn escape_end(text: &[u8], at: usize) -> Result<usize, usize>
     }
 }
 
-/// The same, behind `\u`.
+/// The place behind the digits of an escape whose first one is at `at`, those of a second escape with them where it is a
+/// surrogate; or where it stops.
 fn digits_end(text: &[u8], at: usize) -> Result<usize, usize>
     requires { at ≤ length text.now }
     ensures { MatchResult result (PassesWay digits text.now at) (StopsWay digits text.now at) }
@@ -133,10 +136,11 @@ fn digits_end(text: &[u8], at: usize) -> Result<usize, usize>
     }
 }
 
-/// The same, behind `\uD`.
+/// The place behind an escape that begins with `\uD`, whose second digit is at `at`, or where it stops.
 fn surrogate_end(text: &[u8], at: usize) -> Result<usize, usize>
     requires { at ≤ length text.now }
-    ensures { MatchResult result (PassesWay surrogate text.now at) (StopsWay surrogate text.now at) }
+    ensures { MatchResult result (PassesWay surrogate text.now at)
+        (StopsWay surrogate text.now at) }
 {
     if at == text.len() {
         return Err(at);
@@ -151,10 +155,11 @@ fn surrogate_end(text: &[u8], at: usize) -> Result<usize, usize>
     }
 }
 
-/// The same, behind the second digit of a high surrogate.
+/// The place behind a pair of surrogates, of which the third digit of the first is at `at`, or where it stops.
 fn high_end(text: &[u8], at: usize) -> Result<usize, usize>
     requires { at ≤ length text.now }
-    ensures { MatchResult result (PassesWay (two_digits low_half) text.now at) (StopsWay (two_digits low_half) text.now at) }
+    ensures { MatchResult result (PassesWay (two_digits low_half) text.now at)
+        (StopsWay (two_digits low_half) text.now at) }
 {
     let row = [
         Class::Hex,
@@ -191,7 +196,7 @@ fn character_end(text: &[u8], at: usize) -> Result<usize, usize>
     }
 }
 
-/// The same, of a character of four bytes.
+/// The place behind the character of four bytes at `at`, or where it stops.
 fn long_end(text: &[u8], at: usize) -> Result<usize, usize>
     requires here { at < length text.now }
     requires long { character (slice_index text.now at) ≡ four_bytes (slice_index text.now at) }

@@ -1,13 +1,8 @@
--- The refusal of a text has its place in a text of at most 33,554,432 bytes, or none.
-use Rattle.std.specs.Prelude.{◌≤◌}
+-- The refusal of a text has its place in a text that is not too long to be read, or none.
+use Rattle.std.specs.Prelude.{IfSome}
+use Rattle.plain_types.specs.Limits.{IsInText}
 use Rattle.sexpr_read.specs.declared.place.TextError.{TextError}
-use Rattle.sexpr_read.specs.declared.place.TextError.TheVariants.{NotUtf8, CloseWithoutOpen, EndInside, TooDeep, ExtraText, EmptyText, OutOfMemory}
+use Rattle.sexpr_read.specs.Reasons.{text_reason}
 
 abbrev pub IsNearText : TextError → Type 0
-IsNearText (NotUtf8 at) = at ≤ 33554432
-IsNearText (CloseWithoutOpen at) = at ≤ 33554432
-IsNearText (EndInside at) = at ≤ 33554432
-IsNearText (TooDeep at) = at ≤ 33554432
-IsNearText (ExtraText at) = at ≤ 33554432
-IsNearText EmptyText = Unit {0}
-IsNearText OutOfMemory = Unit {0}
+IsNearText e = IfSome (text_reason e).place IsInText

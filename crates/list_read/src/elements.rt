@@ -85,7 +85,7 @@ fn are_same(word: &[u8], text: &[u8]) -> bool
     word.len() == text.len() && word == text
 }
 
-/// As `is_wanted`, where the atom is this word, which stands for itself.
+/// Whether a list that begins with this word is the one. The word is the text of the atom, as it stands there.
 #[inline(always)]
 fn is_wanted_word(_first: Node<'_, '_>, word: &[u8], wanted: Wanted) -> bool
     requires { value (tree_of _first) ≡ Some word.now }
@@ -97,7 +97,7 @@ fn is_wanted_word(_first: Node<'_, '_>, word: &[u8], wanted: Wanted) -> bool
     }
 }
 
-/// As `is_new`, where the atom is this word.
+/// Whether a list that begins with this word is the first one. The word is the text of the atom.
 #[inline(always)]
 fn is_new_word(
     found: &Option<Node<'_, '_>>,
@@ -111,7 +111,7 @@ fn is_new_word(
     found.is_none() && is_wanted_word(first, word, wanted)
 }
 
-/// As `note_part`, where the first part is this word, whatever place it is wanted at.
+/// The part, whose first part is this word, is noted for each for which it is the first one. Every place is asked.
 #[inline(never)]
 fn note_word<'d, 't>(
     part: Node<'d, 't>,
@@ -122,7 +122,9 @@ fn note_word<'d, 't>(
 )
     requires word { value (tree_of first) ≡ Some word.now }
     requires places { length wanted.now ≡ length found.old }
-    ensures { map (option_map tree_of) found.new ≡ noted (tree_of part.entry) (tree_of first.entry) wanted.now (map (option_map tree_of) found.old) }
+    ensures { map (option_map tree_of) found.new
+        ≡ noted (tree_of part.entry) (tree_of first.entry) wanted.now
+        (map (option_map tree_of) found.old) }
 {
     for k in 0..wanted.len() {
         let sought = wanted[k];
@@ -132,7 +134,8 @@ fn note_word<'d, 't>(
     }
 }
 
-/// As `note_word`, where the first part may be in quotes.
+/// The part, whose first part is `first`, also in quotes, is noted for each for which it is the first one. Every place is
+/// asked.
 #[inline(never)]
 fn note_any<'d, 't>(
     part: Node<'d, 't>,
@@ -141,7 +144,9 @@ fn note_any<'d, 't>(
     found: &mut [Option<Node<'d, 't>>],
 )
     requires { length wanted.now ≡ length found.old }
-    ensures { map (option_map tree_of) found.new ≡ noted (tree_of part.entry) (tree_of first.entry) wanted.now (map (option_map tree_of) found.old) }
+    ensures { map (option_map tree_of) found.new
+        ≡ noted (tree_of part.entry) (tree_of first.entry) wanted.now
+        (map (option_map tree_of) found.old) }
 {
     for k in 0..wanted.len() {
         let sought = wanted[k];
@@ -151,7 +156,8 @@ fn note_any<'d, 't>(
     }
 }
 
-/// As `note_part`, where the first part is this word, as in nearly all lists: it is taken from the text once.
+/// The part, whose first part is this word, is noted for each for which it is the first one, and the place that is next
+/// after it is given. Nearly all lists begin with a word, and here it is taken from the text once.
 #[inline(always)]
 fn note_in_turn<'d, 't>(
     part: Node<'d, 't>,
@@ -164,7 +170,9 @@ fn note_in_turn<'d, 't>(
     requires word { value (tree_of first) ≡ Some word.now }
     requires places { length wanted.now ≡ length found.old }
     requires distinct { are_distinct wanted.now ≡ true }
-    ensures { map (option_map tree_of) found.new ≡ noted (tree_of part.entry) (tree_of first.entry) wanted.now (map (option_map tree_of) found.old) }
+    ensures { map (option_map tree_of) found.new
+        ≡ noted (tree_of part.entry) (tree_of first.entry) wanted.now
+        (map (option_map tree_of) found.old) }
 {
     if next < wanted.len() && is_new_word(&found[next], first, word, wanted[next]) {
         found[next] = Some(part);
@@ -186,7 +194,9 @@ fn note_part<'d, 't>(
 ) -> usize
     requires places { length wanted.now ≡ length found.old }
     requires distinct { are_distinct wanted.now ≡ true }
-    ensures { map (option_map tree_of) found.new ≡ noted (tree_of part.entry) (tree_of first.entry) wanted.now (map (option_map tree_of) found.old) }
+    ensures { map (option_map tree_of) found.new
+        ≡ noted (tree_of part.entry) (tree_of first.entry) wanted.now
+        (map (option_map tree_of) found.old) }
 {
     match first.word() {
         Some(word) => note_in_turn(part, first, word, wanted, next, found),
@@ -229,7 +239,8 @@ pub fn find_elements<'d, 't>(
 /// What was found at this place.
 pub fn pick<'d, 't>(found: &[Option<Node<'d, 't>>], k: usize) -> Option<Node<'d, 't>>
     requires { k < length found.now }
-    ensures { option_map tree_of result ≡ slice_index_or (map (option_map tree_of) found.now) k None }
+    ensures { option_map tree_of result
+        ≡ slice_index_or (map (option_map tree_of) found.now) k None }
 {
     found[k]
 }

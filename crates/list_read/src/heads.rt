@@ -27,7 +27,7 @@ pub fn has_head(node: Node<'_, '_>, head: &[u8]) -> bool
     }
 }
 
-/// The same, where the first part does not stand in quotes.
+/// Whether it is a list whose first part stands for this text and does not stand in quotes.
 #[inline]
 #[tactic(auto, unfolding(crate::specs::Heads::has_word_head))]
 pub fn has_word_head(node: Node<'_, '_>, head: &[u8]) -> bool

@@ -1,4 +1,5 @@
-//! Lists of a text by their heads, the elements in them, and what their atoms stand for: what all readers of S-expressions share.
+//! Lists of a text by their heads, the elements in them, and what their atoms stand for: what all readers of
+//! S-expressions share.
 #![tactic(auto)]
 
 mod elements;

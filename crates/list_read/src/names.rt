@@ -18,7 +18,7 @@ pub fn name_from(alloc: Global, atom: Node<'_, '_>) -> Result<Name, AllocError>
     }
 }
 
-/// The same, with escapes read.
+/// What an atom in quotes stands for, as a name, with its escapes read.
 fn name_decoded(alloc: Global, atom: Node<'_, '_>) -> Result<Name, AllocError>
     ensures { IfOk result (λ name. name ≡ text_of (tree_of atom.entry)) }
 {

@@ -42,7 +42,8 @@ impl Model for Classes {
 /// The class of this name, or the other.
 #[tactic(auto, unfolding(crate::specs::Classes::class_named))]
 fn class_named<'c>(default: &'c Class, named: &'c [Class], name: &Name) -> &'c Class
-    ensures { plain_class result.now ≡ class_named (plain_class default.now) (map plain_class named.now) name.now }
+    ensures { plain_class result.now
+        ≡ class_named (plain_class default.now) (map plain_class named.now) name.now }
 {
     for class in named {
         if class.name.bytes() == name.bytes() {
@@ -55,7 +56,8 @@ fn class_named<'c>(default: &'c Class, named: &'c [Class], name: &Name) -> &'c C
 /// The first pattern that matches the whole name.
 #[tactic(auto, unfolding(crate::specs::Classes::pattern_of))]
 fn pattern_of<'c>(patterns: &'c [Pattern], name: &Name) -> Option<&'c Pattern>
-    ensures { option_map (λ p. plain_pattern p.now) result ≡ pattern_of (map plain_pattern patterns.now) name.now }
+    ensures { option_map (λ p. plain_pattern p.now) result
+        ≡ pattern_of (map plain_pattern patterns.now) name.now }
 {
     for pattern in patterns {
         if wild(pattern.pattern.bytes(), name.bytes(), false) {
@@ -72,7 +74,9 @@ fn class_of<'c>(
     patterns: &[Pattern],
     name: &Name,
 ) -> &'c Class
-    ensures { plain_class result.now ≡ class_by (plain_class default.now) (map plain_class named.now) (pattern_of (map plain_pattern patterns.now) name.now) }
+    ensures { plain_class result.now
+        ≡ class_by (plain_class default.now) (map plain_class named.now)
+        (pattern_of (map plain_pattern patterns.now) name.now) }
 {
     match pattern_of(patterns, name) {
         None => default,
@@ -194,7 +198,9 @@ impl Classes {
 
 /// The class Default.
 fn default_class(alloc: Global, clearance: Length) -> Result<Class, AllocError>
-    ensures { IfOk result (λ class. plain_class class ≡ record { name = plain_default.name; clearance = clearance.nm }) }
+    ensures { IfOk result
+        (λ class. plain_class class
+        ≡ record { name = plain_default.name; clearance = clearance.nm }) }
 {
     let name = Name::from_slice(alloc, b"Default")?;
     Ok(Class {

@@ -35,7 +35,8 @@ impl Model for Drafts {
 
 /// The class of this name, if it was read.
 fn find<'d>(drafts: &'d [Draft], name: &[u8]) -> Option<&'d Draft>
-    ensures { option_map (λ d. written_class d.now) result ≡ find (is_named name.now) (map written_class drafts.now) }
+    ensures { option_map (λ d. written_class d.now) result
+        ≡ find (is_named name.now) (map written_class drafts.now) }
 {
     for draft in drafts {
         if draft.name.bytes() == name {
@@ -89,7 +90,9 @@ fn classes_from(
     drafts: Vec<Draft>,
     default: Length,
 ) -> Result<Vec<Class>, AllocError>
-    ensures { IfOk result (λ classes. map plain_class classes.items ≡ map (class_from default.nm) (map written_class drafts.items)) }
+    ensures { IfOk result
+        (λ classes. map plain_class classes.items
+        ≡ map (class_from default.nm) (map written_class drafts.items)) }
 {
     let mut classes = Vec::with_capacity(alloc, drafts.len())?;
     for draft in drafts {
@@ -162,7 +165,8 @@ impl Drafts {
         alloc: Global,
         default: Length,
     ) -> Result<Vec<Class>, AllocError>
-        ensures { IfOk result (λ classes. map plain_class classes.items ≡ map (class_from default.nm) self) }
+        ensures { IfOk result
+            (λ classes. map plain_class classes.items ≡ map (class_from default.nm) self) }
     {
         classes_from(alloc, self.list, default)
     }

@@ -32,8 +32,11 @@ use std::alloc::Global;
 /// free.
 pub fn read_project(alloc: Global, text: &[u8]) -> Result<Classes, ProjectError>
     requires { length text.now ≤ 33_554_432 }
-    ensures says { MatchResult result (λ classes. ProjectSays text.now (Ok classes)) (λ e. (e ≡ ProjectError.OutOfMemory) ⊎ ProjectSays text.now (Err e)) }
-    ensures only { (answer : Result PlainClasses ProjectError) → ProjectSays text.now answer → MatchResult result (λ classes. answer ≡ Ok classes) (λ e. (e ≡ ProjectError.OutOfMemory) ⊎ (answer ≡ Err e)) }
+    ensures says { MatchResult result (λ classes. ProjectSays text.now (Ok classes))
+        (λ e. (e ≡ ProjectError.OutOfMemory) ⊎ ProjectSays text.now (Err e)) }
+    ensures only { (answer : Result PlainClasses ProjectError) → ProjectSays text.now answer
+        → MatchResult result (λ classes. answer ≡ Ok classes)
+        (λ e. (e ≡ ProjectError.OutOfMemory) ⊎ (answer ≡ Err e)) }
 {
     match parse(alloc, text) {
         Ok(json) => classes_of(alloc, json.root()),

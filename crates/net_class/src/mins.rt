@@ -52,7 +52,8 @@ fn min_in(rules: Option<Value<'_, '_>>, name: &[u8], plain: Length) -> Result<Le
 
 /// The same of the distance from the edge: a negative one counts as not there.
 fn edge_in(rules: Option<Value<'_, '_>>, name: &[u8], plain: Length) -> Result<Length, ProjectError>
-    ensures { length_read result ≡ or_plain (length_or_none_in name.now (json_if rules.entry)) plain.nm }
+    ensures { length_read result
+        ≡ or_plain (length_or_none_in name.now (json_if rules.entry)) plain.nm }
 {
     match length_or_none_in(rules, name)? {
         Some(nm) => Ok(Length { nm }),

@@ -43,7 +43,8 @@ fn is_same(fold: bool, a: u8, b: u8) -> bool
 /// What is left of the name behind what a sign other than `*` stands for.
 fn behind(sign: u8, name: &[u8], fold: bool) -> Option<&[u8]>
     requires { sign ≡ 42 → ⊥ }
-    ensures { MatchOption result (behind fold (sign_of sign) name.now ≡ None) (λ rest. behind fold (sign_of sign) name.now ≡ Some rest.now) }
+    ensures { MatchOption result (behind fold (sign_of sign) name.now ≡ None)
+        (λ rest. behind fold (sign_of sign) name.now ≡ Some rest.now) }
 {
     if name.is_empty() {
         return None;
@@ -60,8 +61,11 @@ fn behind(sign: u8, name: &[u8], fold: bool) -> Option<&[u8]>
 
 /// Matches the pattern up to its next `*`, or to its end.
 fn run<'p, 'n>(pattern: &'p [u8], name: &'n [u8], fold: bool) -> Option<Rests<'p, 'n>>
-    ensures run { MatchOption result (run_of fold pattern.now name.now ≡ None) (λ r. run_of fold pattern.now name.now ≡ Some (record { pattern = r.pattern.now; text = r.name.now })) }
-    ensures begins { IfSome result (λ r. 0 < length r.pattern.now → slice_index r.pattern.now 0 ≡ 42) }
+    ensures run { MatchOption result (run_of fold pattern.now name.now ≡ None)
+        (λ r. run_of fold pattern.now name.now
+        ≡ Some (record { pattern = r.pattern.now; text = r.name.now })) }
+    ensures begins { IfSome result
+        (λ r. 0 < length r.pattern.now → slice_index r.pattern.now 0 ≡ 42) }
     ensures end { IfSome result (λ r. length r.pattern.now ≤ length pattern.now) }
 {
     let mut rest = name;
@@ -82,8 +86,10 @@ fn run<'p, 'n>(pattern: &'p [u8], name: &'n [u8], fold: bool) -> Option<Rests<'p
 
 /// The same, where it goes up to a `*` or to the end of both.
 fn whole_run<'p, 'n>(pattern: &'p [u8], name: &'n [u8], fold: bool) -> Option<Rests<'p, 'n>>
-    ensures found { MatchOption result (matches fold pattern.now name.now ≡ false) (λ r. matches_an_end fold pattern.now name.now ≡ matches fold r.pattern.now r.name.now) }
-    ensures begins { IfSome result (λ r. 0 < length r.pattern.now → slice_index r.pattern.now 0 ≡ 42) }
+    ensures found { MatchOption result (matches fold pattern.now name.now ≡ false)
+        (λ r. matches_an_end fold pattern.now name.now ≡ matches fold r.pattern.now r.name.now) }
+    ensures begins { IfSome result
+        (λ r. 0 < length r.pattern.now → slice_index r.pattern.now 0 ≡ 42) }
     ensures end { IfSome result (λ r. length r.pattern.now ≤ length pattern.now) }
 {
     let rests = run(pattern, name, fold)?;
@@ -98,8 +104,10 @@ fn whole_run<'p, 'n>(pattern: &'p [u8], name: &'n [u8], fold: bool) -> Option<Re
 
 /// Matches what stands behind a `*` from the first place on from which it goes so.
 fn search<'p, 'n>(pattern: &'p [u8], name: &'n [u8], fold: bool) -> Option<Rests<'p, 'n>>
-    ensures found { MatchOption result (matches_an_end fold pattern.now name.now ≡ false) (λ r. matches_an_end fold pattern.now name.now ≡ matches fold r.pattern.now r.name.now) }
-    ensures begins { IfSome result (λ r. 0 < length r.pattern.now → slice_index r.pattern.now 0 ≡ 42) }
+    ensures found { MatchOption result (matches_an_end fold pattern.now name.now ≡ false)
+        (λ r. matches_an_end fold pattern.now name.now ≡ matches fold r.pattern.now r.name.now) }
+    ensures begins { IfSome result
+        (λ r. 0 < length r.pattern.now → slice_index r.pattern.now 0 ≡ 42) }
     ensures end { IfSome result (λ r. length r.pattern.now ≤ length pattern.now) }
 {
     let mut rest = name;

@@ -61,7 +61,9 @@ fn add_pattern(
     class: Option<Name>,
     pattern: Option<Name>,
 ) -> Result<(), AllocError>
-    ensures { OnOk result (map plain_pattern patterns.new.items ≡ with_texts (map plain_pattern patterns.old.items) class pattern) }
+    ensures { OnOk result
+        (map plain_pattern patterns.new.items
+        ≡ with_texts (map plain_pattern patterns.old.items) class pattern) }
 {
     let Some(class) = class else {
         return Ok(());
@@ -80,7 +82,8 @@ fn read_pattern(
     patterns: &mut Vec<Pattern>,
     v: Value<'_, '_>,
 ) -> Result<(), ProjectError>
-    ensures { Leaves result (map plain_pattern patterns.new.items) (with_pattern (map plain_pattern patterns.old.items) (json_of v.entry)) }
+    ensures { Leaves result (map plain_pattern patterns.new.items)
+        (with_pattern (map plain_pattern patterns.old.items) (json_of v.entry)) }
 {
     let object = entry_of(v)?;
     let class = text_in(alloc, object, b"netclass")?;

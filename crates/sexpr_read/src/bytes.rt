@@ -3,9 +3,9 @@
 ghost use Rattle.std.specs.Prelude.{◌≡◌, ◌<◌, length, slice_index_or};
 ghost use Rattle.sexpr_read.specs.Bytes.{class_of, sign_of};
 
-/// What a byte is to the reader.
+/// What a byte is to the reader. Definitions of other crates name it.
 #[derive(Clone, Copy)]
-pub(crate) enum ByteClass {
+pub enum ByteClass {
     Space,
     Open,
     Close,
