@@ -27,6 +27,8 @@ impl HasReason for CondError {
 
     ghost depth = { 1 };
 
+    /// What it is called, its number and its byte of the text. Want of memory has no number, which is written 0, and no
+    /// place.
     fn reason(&self) -> NewReason {
         match self {
             CondError::Bad { at } => NewReason::new("Bad", 1, Some(*at)),
