@@ -7,6 +7,7 @@ use board_items::Board;
 use case_lines::{Fault, add, numbers_of, refused, small};
 use net_groups::{Group, groups};
 use pcb_read::read_board;
+use plain_types::HasReason;
 use std::alloc::Global;
 
 /// A board up to its items.
@@ -91,6 +92,6 @@ pub fn answer(alloc: Global, written: &str) -> Result<Vec<u8>, Fault> {
     };
     match read_board(alloc, &text_of_grid(alloc, grid)?) {
         Ok(board) => grouped(alloc, &board),
-        Err(error) => refused(alloc, &error, error.place()),
+        Err(error) => refused(alloc, &error, error.reason().place()),
     }
 }

@@ -5,6 +5,7 @@ use case_lines::{Fault, first_word, number, refused, small, text_of, told};
 use item_facts::{facts, same};
 use net_class::Classes;
 use pcb_read::read_board;
+use plain_types::HasReason;
 use rule_pick::Facts;
 use std::alloc::Global;
 
@@ -55,6 +56,6 @@ pub fn answer(alloc: Global, name: &str, written: &str) -> Result<Vec<u8>, Fault
     };
     match read_board(alloc, &text_of(alloc, text)?) {
         Ok(board) => said(alloc, &board, first, second),
-        Err(error) => refused(alloc, &error, error.place()),
+        Err(error) => refused(alloc, &error, error.reason().place()),
     }
 }

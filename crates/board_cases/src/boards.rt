@@ -10,6 +10,7 @@ use copper_layers::LayerSet;
 use drc_io::Name;
 use geo_seg::{Core, Point, Seg, Shape};
 use pcb_read::{Spans, read_board, read_item, read_with_spans};
+use plain_types::HasReason;
 use smallvec::SmallVec;
 use std::alloc::Global;
 
@@ -92,7 +93,7 @@ pub fn filled(alloc: Global, written: &str) -> Result<Vec<u8>, Fault> {
 pub fn read(alloc: Global, written: &str) -> Result<Vec<u8>, Fault> {
     match read_board(alloc, &text_of(alloc, written)?) {
         Ok(board) => Ok(shown(alloc, &board)?.into_bytes()),
-        Err(error) => refused(alloc, &error, error.place()),
+        Err(error) => refused(alloc, &error, error.reason().place()),
     }
 }
 
@@ -110,7 +111,7 @@ fn with_spans(alloc: Global, board: &Board, spans: &Spans) -> Result<Vec<u8>, Fa
 pub fn spanned(alloc: Global, written: &str) -> Result<Vec<u8>, Fault> {
     match read_with_spans(alloc, &text_of(alloc, written)?) {
         Ok((board, spans)) => with_spans(alloc, &board, &spans),
-        Err(error) => refused(alloc, &error, error.place()),
+        Err(error) => refused(alloc, &error, error.reason().place()),
     }
 }
 
@@ -123,7 +124,7 @@ fn items(alloc: Global, at: u32, text: &[u8], board: &Board) -> Result<Vec<u8>, 
     }
     match read_item(alloc, text, at, board, 5) {
         Ok(items) => told(alloc, &items.len()),
-        Err(error) => refused(alloc, &error, error.place()),
+        Err(error) => refused(alloc, &error, error.reason().place()),
     }
 }
 
@@ -135,6 +136,6 @@ pub fn listed(alloc: Global, written: &str) -> Result<Vec<u8>, Fault> {
     let list = text_of(alloc, list)?;
     match read_board(alloc, &text_of(alloc, board)?) {
         Ok(board) => items(alloc, at, &list, &board),
-        Err(error) => refused(alloc, &error, error.place()),
+        Err(error) => refused(alloc, &error, error.reason().place()),
     }
 }

@@ -4,6 +4,7 @@ use board_items::{Board, ItemError};
 use case_lines::{Fault, add, first_word, number, refused, small, text_of, told};
 use drc_io::Name;
 use pcb_read::read_board;
+use plain_types::HasReason;
 use std::alloc::Global;
 
 fn items(alloc: Global, board: &Board) -> Result<Vec<u8>, Fault> {
@@ -70,6 +71,6 @@ pub fn answer(alloc: Global, name: &str, written: &str) -> Result<Vec<u8>, Fault
     let (asked, text) = written.split_once(" | ").ok_or(Fault::UnknownCall)?;
     match read_board(alloc, &text_of(alloc, text)?) {
         Ok(board) => said(alloc, name, board, asked),
-        Err(error) => refused(alloc, &error, error.place()),
+        Err(error) => refused(alloc, &error, error.reason().place()),
     }
 }

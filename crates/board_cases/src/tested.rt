@@ -6,6 +6,7 @@ use case_lines::{Fault, add, first_word, number, refused, small, text_of};
 use item_facts::{all_facts, reach};
 use net_class::Classes;
 use pcb_read::read_board;
+use plain_types::HasReason;
 use row_check::{CheckView, Row, rows_of, rows_of_changed};
 use std::alloc::Global;
 
@@ -63,6 +64,6 @@ pub fn answer(alloc: Global, name: &str, written: &str) -> Result<Vec<u8>, Fault
     };
     match read_board(alloc, &text_of(alloc, text)?) {
         Ok(board) => rows_on(alloc, &board, changed),
-        Err(error) => refused(alloc, &error, error.place()),
+        Err(error) => refused(alloc, &error, error.reason().place()),
     }
 }

@@ -1,6 +1,6 @@
 //! Why an item or a board is refused.
 
-use plain_types::Reason;
+use plain_types::{HasReason, NewReason};
 use sexpr_read::TextError;
 use std::alloc::{AllocError, AllocFailed};
 use std::error::Error;
@@ -21,49 +21,35 @@ pub enum ItemError {
     OutOfMemory,
 }
 
-impl ItemError {
-    ghost use Rattle.std.specs.Prelude.{◌≡◌};
-    ghost use Rattle.plain_types.specs.Reasons.{plain_reason};
-    ghost use Rattle.board_errors.specs.Reasons.{item_reason_in, item_name_of, item_code_of};
+impl HasReason for ItemError {
+    ghost use Rattle.board_errors.specs.Reasons.{item_reason};
 
-    /// What it is called, and its number. It has no place: an item that is not taken stands in no text.
-    fn reason(&self) -> Reason
-        ensures { plain_reason result ≡ item_reason_in self.now }
-    {
+    ghost reason_of = { item_reason };
+
+    ghost depth = { 1 };
+
+    /// What it is called and its number. It has no place: an item that is not taken stands in no text. Want of memory has
+    /// no number, which is written 0.
+    fn reason(&self) -> NewReason {
         match self {
-            ItemError::OutOfBoard => Reason::new("OutOfBoard", "1", None),
-            ItemError::UnknownNet => Reason::new("UnknownNet", "2", None),
-            ItemError::UnknownLayer => Reason::new("UnknownLayer", "3", None),
-            ItemError::TooMany => Reason::new("TooMany", "4", None),
-            ItemError::OutOfMemory => Reason::new("OutOfMemory", "0", None),
+            ItemError::OutOfBoard => NewReason::new("OutOfBoard", 1, None),
+            ItemError::UnknownNet => NewReason::new("UnknownNet", 2, None),
+            ItemError::UnknownLayer => NewReason::new("UnknownLayer", 3, None),
+            ItemError::TooMany => NewReason::new("TooMany", 4, None),
+            ItemError::OutOfMemory => NewReason::new("OutOfMemory", 0, None),
         }
-    }
-
-    /// Its name.
-    pub fn name(&self) -> &'static str
-        ensures { result.now ≡ item_name_of self.now }
-    {
-        self.reason().name
-    }
-
-    /// Its number. Want of memory has none, which is written 0.
-    pub fn code(&self) -> &'static str
-        ensures { result.now ≡ item_code_of self.now }
-    {
-        self.reason().code
     }
 }
 
 impl fmt::Display for ItemError {
     ghost use Rattle.std.specs.Prelude.{Some};
-    ghost use Rattle.board_errors.specs.Reasons.{item_reason_of};
+    ghost use Rattle.plain_types.specs.NewReasons.{written};
+    ghost use Rattle.board_errors.specs.Reasons.{item_reason};
 
-    ghost output = { λ e. Some (item_reason_of e) };
+    ghost output = { λ e. Some (written (item_reason e)) };
 
     fn fmt<W: fmt::Write>(&self, f: &mut fmt::Formatter<W>) -> fmt::Result {
-        let name = self.name();
-        let code = self.code();
-        write!(f, "{name} ({code})")
+        write!(f, "{}", self.reason())
     }
 }
 
@@ -127,66 +113,45 @@ pub enum BoardError {
     OutOfMemory,
 }
 
-impl BoardError {
-    ghost use Rattle.std.specs.Prelude.{◌≡◌};
-    ghost use Rattle.plain_types.specs.Reasons.{plain_reason};
-    ghost use Rattle.board_errors.specs.Reasons.{board_reason_in, board_name_of, board_code_of, board_place_of};
+impl HasReason for BoardError {
+    ghost use Rattle.board_errors.specs.Reasons.{board_reason};
 
-    /// Its name, its number and its place.
-    pub fn reason(&self) -> Reason
-        ensures { plain_reason result ≡ board_reason_in self.now }
-    {
+    ghost reason_of = { board_reason };
+
+    ghost depth = { 2 };
+
+    /// What it is called, its number and its byte of the text. Want of memory has no number, which is written 0, and no
+    /// place.
+    fn reason(&self) -> NewReason {
         match self {
-            BoardError::Text(error) => error.carried_reason(),
-            BoardError::NotABoard { at } => Reason::new("NotABoard", "2", Some(*at)),
-            BoardError::Version { at } => Reason::new("Version", "3", Some(*at)),
-            BoardError::Missing { at } => Reason::new("Missing", "4", Some(*at)),
-            BoardError::BadNumber { at } => Reason::new("BadNumber", "5", Some(*at)),
-            BoardError::OutOfBoard { at } => Reason::new("OutOfBoard", "6", Some(*at)),
-            BoardError::Arc { at } => Reason::new("Arc", "7", Some(*at)),
-            BoardError::Turned { at } => Reason::new("Turned", "8", Some(*at)),
-            BoardError::PadShape { at } => Reason::new("PadShape", "9", Some(*at)),
-            BoardError::Ring { at } => Reason::new("Ring", "10", Some(*at)),
-            BoardError::UnknownNet { at } => Reason::new("UnknownNet", "11", Some(*at)),
-            BoardError::UnknownLayer { at } => Reason::new("UnknownLayer", "12", Some(*at)),
-            BoardError::ThickFill { at } => Reason::new("ThickFill", "13", Some(*at)),
-            BoardError::TooMany { at } => Reason::new("TooMany", "14", Some(*at)),
-            BoardError::OutOfMemory => Reason::new("OutOfMemory", "0", None),
+            BoardError::Text(error) => error.reason().behind("Text", 1),
+            BoardError::NotABoard { at } => NewReason::new("NotABoard", 2, Some(*at)),
+            BoardError::Version { at } => NewReason::new("Version", 3, Some(*at)),
+            BoardError::Missing { at } => NewReason::new("Missing", 4, Some(*at)),
+            BoardError::BadNumber { at } => NewReason::new("BadNumber", 5, Some(*at)),
+            BoardError::OutOfBoard { at } => NewReason::new("OutOfBoard", 6, Some(*at)),
+            BoardError::Arc { at } => NewReason::new("Arc", 7, Some(*at)),
+            BoardError::Turned { at } => NewReason::new("Turned", 8, Some(*at)),
+            BoardError::PadShape { at } => NewReason::new("PadShape", 9, Some(*at)),
+            BoardError::Ring { at } => NewReason::new("Ring", 10, Some(*at)),
+            BoardError::UnknownNet { at } => NewReason::new("UnknownNet", 11, Some(*at)),
+            BoardError::UnknownLayer { at } => NewReason::new("UnknownLayer", 12, Some(*at)),
+            BoardError::ThickFill { at } => NewReason::new("ThickFill", 13, Some(*at)),
+            BoardError::TooMany { at } => NewReason::new("TooMany", 14, Some(*at)),
+            BoardError::OutOfMemory => NewReason::new("OutOfMemory", 0, None),
         }
-    }
-
-    /// Its name; a refusal of the text stands behind a point.
-    pub fn name(&self) -> &'static str
-        ensures { result.now ≡ board_name_of self.now }
-    {
-        self.reason().name
-    }
-
-    /// Its number; that of a refusal of the text stands behind a point. Want of memory has none, which is written 0.
-    pub fn code(&self) -> &'static str
-        ensures { result.now ≡ board_code_of self.now }
-    {
-        self.reason().code
-    }
-
-    /// Its byte of the text. Want of memory has no place.
-    pub fn place(&self) -> Option<u32>
-        ensures { result ≡ board_place_of self.now }
-    {
-        self.reason().place
     }
 }
 
 impl fmt::Display for BoardError {
     ghost use Rattle.std.specs.Prelude.{Some};
-    ghost use Rattle.board_errors.specs.Reasons.{board_reason_of};
+    ghost use Rattle.plain_types.specs.NewReasons.{written};
+    ghost use Rattle.board_errors.specs.Reasons.{board_reason};
 
-    ghost output = { λ e. Some (board_reason_of e) };
+    ghost output = { λ e. Some (written (board_reason e)) };
 
     fn fmt<W: fmt::Write>(&self, f: &mut fmt::Formatter<W>) -> fmt::Result {
-        let name = self.name();
-        let code = self.code();
-        write!(f, "{name} ({code})")
+        write!(f, "{}", self.reason())
     }
 }
 

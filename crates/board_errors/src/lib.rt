@@ -2,7 +2,5 @@
 #![tactic(auto)]
 
 mod errors;
-mod in_two;
 
 pub use errors::{BoardError, ItemError};
-pub use in_two::{InTwo, ReasonInTwo};

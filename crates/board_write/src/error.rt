@@ -1,8 +1,8 @@
 //! Why a board is not written.
 
-use board_errors::{InTwo, ReasonInTwo};
 use board_items::BoardError;
 use drc_io::Failed;
+use plain_types::{HasReason, NewReason};
 use std::alloc::AllocError;
 use std::error::Error;
 use std::fmt;
@@ -18,40 +18,21 @@ pub enum WriteError {
     OutOfMemory,
 }
 
-impl WriteError {
-    ghost use Rattle.std.specs.Prelude.{◌≡◌, ◌++◌};
-    ghost use Rattle.board_errors.specs.Reasons.{reason_in_one};
-    ghost use Rattle.board_write.specs.Reasons.{write_reason_in, write_name_of, write_code_of, write_place_of};
+impl HasReason for WriteError {
+    ghost use Rattle.board_write.specs.Reasons.{write_reason};
 
-    fn reason(&self) -> ReasonInTwo
-        ensures { reason_in_one result ≡ write_reason_in self.now }
-    {
+    ghost reason_of = { write_reason };
+
+    ghost depth = { 3 };
+
+    /// What it is called, its number and the byte of the text at which a board is refused. Want of memory has no number,
+    /// which is written 0.
+    fn reason(&self) -> NewReason {
         match self {
-            WriteError::Board(error) => ReasonInTwo::behind("Board.", "21.", error.reason()),
-            WriteError::Failed => ReasonInTwo::alone("Failed", "22"),
-            WriteError::OutOfMemory => ReasonInTwo::alone("OutOfMemory", "0"),
+            WriteError::Board(error) => error.reason().behind("Board", 21),
+            WriteError::Failed => NewReason::new("Failed", 22, None),
+            WriteError::OutOfMemory => NewReason::new("OutOfMemory", 0, None),
         }
-    }
-
-    /// Its name; that of a refusal of the text stands behind a point.
-    pub fn name(&self) -> InTwo
-        ensures { result.front.now ++ result.rest.now ≡ write_name_of self.now }
-    {
-        self.reason().name
-    }
-
-    /// Its number; that of a refusal of the text stands behind a point. Want of memory has none, which is written 0.
-    pub fn code(&self) -> InTwo
-        ensures { result.front.now ++ result.rest.now ≡ write_code_of self.now }
-    {
-        self.reason().code
-    }
-
-    /// The byte of the text at which it is refused. The others have none.
-    pub fn place(&self) -> Option<u32>
-        ensures { result ≡ write_place_of self.now }
-    {
-        self.reason().place
     }
 }
 
@@ -93,14 +74,13 @@ impl From<Failed> for WriteError {
 
 impl fmt::Display for WriteError {
     ghost use Rattle.std.specs.Prelude.{Some};
-    ghost use Rattle.board_write.specs.Reasons.{write_reason_of};
+    ghost use Rattle.plain_types.specs.NewReasons.{written};
+    ghost use Rattle.board_write.specs.Reasons.{write_reason};
 
-    ghost output = { λ e. Some (write_reason_of e) };
+    ghost output = { λ e. Some (written (write_reason e)) };
 
     fn fmt<W: fmt::Write>(&self, f: &mut fmt::Formatter<W>) -> fmt::Result {
-        let name = self.name();
-        let code = self.code();
-        write!(f, "{name} ({code})")
+        write!(f, "{}", self.reason())
     }
 }
 

@@ -26,7 +26,6 @@ mod source;
 mod written;
 
 use crate::written::text_by;
-pub use board_errors::InTwo;
 use drc_io::{Sink, put_all};
 use edit_script::Command;
 pub use error::WriteError;
@@ -79,5 +78,4 @@ pub fn write_source<W: Sink>(
 
 fn all_cross() {
     crosses_threads::<WriteError>();
-    crosses_threads::<InTwo>();
 }

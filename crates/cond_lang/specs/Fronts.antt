@@ -3,6 +3,7 @@
 use Rattle.std.specs.Prelude.{◌≡◌, ◌⊎◌, ℕ, ◌+◌, true, false, ◌||◌, int_lt, List, [], ◌∷◌, ◌++◌, length, pos, ℤ, Result, Ok, Err}
 use Rattle.std.specs.Str.{is_utf8}
 use Rattle.std.specs.Str.Lossy.{utf8_valid_len}
+use Rattle.plain_types.specs.Lengths.{greatest}
 use Rattle.exact_dec.specs.declared.DecError.{DecError}
 use Rattle.exact_dec.specs.Computed.{with_unit_answer}
 use Rattle.cond_lang.specs.declared.error.CondError.{CondError}
@@ -51,7 +52,7 @@ IsFirstOfLength text j =
     × ((c : ℕ) (cs : List ℕ) → rest ≡ c ∷ cs → (more : List ℕ) → measure (length (front ++ (c ∷ more))) (front ++ (c ∷ more)) ≡ fault (Bad j))
 
 abbrev pub IsOutOfRange : Result ℤ DecError → Type 0
-IsOutOfRange (Ok nm) = (int_lt nm (pos 0) || int_lt (pos 500000000) nm) ≡ true
+IsOutOfRange (Ok nm) = (int_lt nm (pos 0) || int_lt greatest nm) ≡ true
 IsOutOfRange (Err e) = Unit {0}
 
 -- a whole length, whose value is no number from 0 to 500 mm
@@ -67,11 +68,11 @@ IsInLength text k =
 -- ---- texts between quotes
 
 -- behind a front that goes on and ends with a quote (39) stand signs, up to the next quote, that are no UTF-8 from k on
-abbrev pub IsInText : List ℕ → ℕ → Type 0
-IsInText text k =
+abbrev pub IsInQuotes : List ℕ → ℕ → Type 0
+IsInQuotes text k =
     (front rest : List ℕ) × (text ≡ front ++ rest) × GoesOn front × (is_utf8 (front_text rest) ≡ false) × (k ≡ length front + utf8_valid_len (front_text rest))
 
 -- ---- all
 
 abbrev pub StandsFirst : List ℕ → ℕ → Type 0
-StandsFirst text k = IsFirstFault text k ⊎ (IsInLength text k ⊎ IsInText text k)
+StandsFirst text k = IsFirstFault text k ⊎ (IsInLength text k ⊎ IsInQuotes text k)

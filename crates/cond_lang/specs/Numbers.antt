@@ -1,5 +1,6 @@
 -- Numbers with a unit.
 use Rattle.std.specs.Prelude.{ℕ, ◌-◌, Bool, true, ◌||◌, ◌&&◌, ◌==◌, nat_lt, int_lt, if◌then◌else◌, List, [], ◌∷◌, length, take, ℤ, pos, Result, Ok, Err}
+use Rattle.plain_types.specs.Lengths.{greatest}
 use Rattle.exact_dec.specs.declared.DecError.{DecError}
 use Rattle.exact_dec.specs.Computed.{after_sign, front_digits, after_digits, with_unit_answer}
 use Rattle.cond_lang.specs.Found.{Found, read, and_then, stuck, byte}
@@ -51,7 +52,7 @@ spelled n text =
 -- a length from 0 to 500 mm, else the number is bad
 abbrev pub in_range : ℕ → List ℕ → List ℕ → Result ℤ DecError → Found ℤ
 in_range n text rest (Err e) = stuck n text
-in_range n text rest (Ok nm) = if int_lt nm (pos 0) || int_lt (pos 500000000) nm then stuck n text else read nm rest
+in_range n text rest (Ok nm) = if int_lt nm (pos 0) || int_lt greatest nm then stuck n text else read nm rest
 
 unfoldable pub measure : ℕ → List ℕ → Found ℤ
 measure n text = and_then (spelled n text) (λ _ rest. in_range n text rest (with_unit_answer (take (length text - length rest) text)))

@@ -48,7 +48,8 @@ impl Constraints {
 
     /// Equal constraints.
     pub(crate) fn copy(&self) -> Result<Constraints, AllocError>
-        ensures { IfOk result (λ constraints. map plain_constraint constraints ≡ map plain_constraint self.now) }
+        ensures { IfOk result
+            (λ constraints. map plain_constraint constraints ≡ map plain_constraint self.now) }
     {
         let alloc = *self.list.allocator();
         let mut list = Vec::new(alloc);

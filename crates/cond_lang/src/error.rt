@@ -1,6 +1,6 @@
 //! Why a text is no condition.
 
-use plain_types::{Reason, Reasons, reasons};
+use plain_types::{HasReason, NewReason};
 use std::alloc::{AllocError, AllocFailed};
 use std::error::Error;
 use std::fmt;
@@ -20,52 +20,23 @@ pub enum CondError {
     OutOfMemory,
 }
 
-impl CondError {
-    ghost use Rattle.std.specs.Prelude.{◌≡◌};
-    ghost use Rattle.plain_types.specs.Reasons.{plain_reason};
-    ghost use Rattle.cond_lang.specs.Reasons.{reason_in, carried_cond_reason_in, name_of, code_of, cond_place_of};
+impl HasReason for CondError {
+    ghost use Rattle.cond_lang.specs.Reasons.{cond_reason};
 
-    /// What it is called, its number and its place, by itself and in an error that carries it. Want of memory has no number,
-    /// which is written 0, and no place.
-    fn reasons(&self) -> Reasons
-        ensures own { plain_reason result.own ≡ reason_in self.now }
-        ensures carried { plain_reason result.carried ≡ carried_cond_reason_in self.now }
-    {
-        reasons!(self, "Cond.", "4.", {
-            CondError::Bad { at } => ("Bad", "1", Some(*at)),
-            CondError::UnknownName { at } => ("UnknownName", "2", Some(*at)),
-            CondError::TypeClash { at } => ("TypeClash", "3", Some(*at)),
-            CondError::TooDeep { at } => ("TooDeep", "4", Some(*at)),
-            CondError::OutOfMemory => ("OutOfMemory", "0", None),
-        })
-    }
+    ghost reason_of = { cond_reason };
 
-    /// Its reason as the fourth of an error that carries it: `Cond.` stands before its name and `4.` before its number.
-    pub fn carried_reason(&self) -> Reason
-        ensures { plain_reason result ≡ carried_cond_reason_in self.now }
-    {
-        self.reasons().carried
-    }
+    ghost depth = { 1 };
 
-    /// Its name.
-    pub fn name(&self) -> &'static str
-        ensures { result.now ≡ name_of self.now }
-    {
-        self.reasons().own.name
-    }
-
-    /// Its number. Want of memory has none, which is written 0.
-    pub fn code(&self) -> &'static str
-        ensures { result.now ≡ code_of self.now }
-    {
-        self.reasons().own.code
-    }
-
-    /// Its byte of the text. Want of memory has no place.
-    pub fn place(&self) -> Option<u32>
-        ensures { result ≡ cond_place_of self.now }
-    {
-        self.reasons().own.place
+    /// What it is called, its number and its byte of the text. Want of memory has no number, which is written 0, and no
+    /// place.
+    fn reason(&self) -> NewReason {
+        match self {
+            CondError::Bad { at } => NewReason::new("Bad", 1, Some(*at)),
+            CondError::UnknownName { at } => NewReason::new("UnknownName", 2, Some(*at)),
+            CondError::TypeClash { at } => NewReason::new("TypeClash", 3, Some(*at)),
+            CondError::TooDeep { at } => NewReason::new("TooDeep", 4, Some(*at)),
+            CondError::OutOfMemory => NewReason::new("OutOfMemory", 0, None),
+        }
     }
 }
 
@@ -93,14 +64,13 @@ impl<T: Drop> From<AllocFailed<T>> for CondError {
 
 impl fmt::Display for CondError {
     ghost use Rattle.std.specs.Prelude.{Some};
-    ghost use Rattle.cond_lang.specs.Reasons.{cond_reason_of};
+    ghost use Rattle.plain_types.specs.NewReasons.{written};
+    ghost use Rattle.cond_lang.specs.Reasons.{cond_reason};
 
-    ghost output = { λ e. Some (cond_reason_of e) };
+    ghost output = { λ e. Some (written (cond_reason e)) };
 
     fn fmt<W: fmt::Write>(&self, f: &mut fmt::Formatter<W>) -> fmt::Result {
-        let name = self.name();
-        let code = self.code();
-        write!(f, "{name} ({code})")
+        write!(f, "{}", self.reason())
     }
 }
 

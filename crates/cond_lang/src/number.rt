@@ -1,6 +1,7 @@
 //! Numbers with a unit, as they stand in a text.
 
 ghost use Rattle.std.specs.Prelude.{◌≡◌, ◌≤◌, ◌-◌, length, MatchResult};
+ghost use Rattle.plain_types.specs.Limits.{IsInText};
 ghost use Rattle.exact_dec.specs.Computed.{after_sign, front_digits, after_digits};
 ghost use Rattle.cond_lang.specs.Found.{read, fault};
 ghost use Rattle.cond_lang.specs.Numbers.{digits as digits_of, are_zeros as are_zeros_in, fraction as fraction_of, mantissa as mantissa_of, power as power_of, metric as metric_of, unit as unit_of, spelled as spelled_of, measure as measure_of};
@@ -35,9 +36,11 @@ fn split_digits(text: &[u8]) -> (&[u8], &[u8])
 
 /// One digit or more, and what is left behind them.
 fn digits<'t>(whole: usize, text: &'t [u8]) -> Result<(&'t [u8], &'t [u8]), CondError>
-    requires fits { whole ≤ 33554432 }
+    requires fits { IsInText whole }
     requires inside { length text.now ≤ whole }
-    ensures found { MatchResult result (λ p. digits_of whole text.now ≡ read p.0.now p.1.now) (λ e. digits_of whole text.now ≡ fault e) }
+    ensures found { MatchResult result
+        (λ p. digits_of whole text.now ≡ read p.0.now p.1.now)
+        (λ e. digits_of whole text.now ≡ fault e) }
     ensures left { MatchResult result (λ p. length p.1.now ≤ length text.now) (λ _. Unit {0}) }
 {
     let (front, rest) = split_digits(text);
@@ -75,9 +78,11 @@ fn fraction(zero: bool, text: &[u8]) -> (bool, &[u8])
 /// Whether the digits of a number are 0, and what is left behind them.
 #[tactic(auto, using(crate::proofs::Steps::then_read, crate::proofs::Steps::then_fault), unfolding(crate::specs::Numbers::mantissa))]
 fn mantissa<'t>(whole: usize, text: &'t [u8]) -> Result<(bool, &'t [u8]), CondError>
-    requires fits { whole ≤ 33554432 }
+    requires fits { IsInText whole }
     requires inside { length text.now ≤ whole }
-    ensures found { MatchResult result (λ p. mantissa_of whole text.now ≡ read p.0 p.1.now) (λ e. mantissa_of whole text.now ≡ fault e) }
+    ensures found { MatchResult result
+        (λ p. mantissa_of whole text.now ≡ read p.0 p.1.now)
+        (λ e. mantissa_of whole text.now ≡ fault e) }
     ensures left { MatchResult result (λ p. length p.1.now ≤ length text.now) (λ _. Unit {0}) }
 {
     match text {
@@ -96,9 +101,11 @@ fn mantissa<'t>(whole: usize, text: &'t [u8]) -> Result<(bool, &'t [u8]), CondEr
 /// What is left behind the exponent, if there is one.
 #[tactic(auto, using(crate::proofs::Steps::then_read, crate::proofs::Steps::then_fault), unfolding(crate::specs::Numbers::power))]
 fn power<'t>(whole: usize, text: &'t [u8]) -> Result<&'t [u8], CondError>
-    requires fits { whole ≤ 33554432 }
+    requires fits { IsInText whole }
     requires inside { length text.now ≤ whole }
-    ensures found { MatchResult result (λ rest. power_of whole text.now ≡ read tt rest.now) (λ e. power_of whole text.now ≡ fault e) }
+    ensures found { MatchResult result
+        (λ rest. power_of whole text.now ≡ read tt rest.now)
+        (λ e. power_of whole text.now ≡ fault e) }
     ensures left { MatchResult result (λ rest. length rest.now ≤ length text.now) (λ _. Unit {0}) }
 {
     match text {
@@ -112,9 +119,11 @@ fn power<'t>(whole: usize, text: &'t [u8]) -> Result<&'t [u8], CondError>
 
 /// What is left of `mm` and `mil` behind the first m.
 fn metric<'t>(whole: usize, text: &'t [u8]) -> Result<&'t [u8], CondError>
-    requires fits { whole ≤ 33554432 }
+    requires fits { IsInText whole }
     requires inside { length text.now ≤ whole }
-    ensures found { MatchResult result (λ rest. metric_of whole text.now ≡ read tt rest.now) (λ e. metric_of whole text.now ≡ fault e) }
+    ensures found { MatchResult result
+        (λ rest. metric_of whole text.now ≡ read tt rest.now)
+        (λ e. metric_of whole text.now ≡ fault e) }
     ensures left { MatchResult result (λ rest. length rest.now ≤ length text.now) (λ _. Unit {0}) }
 {
     match text {
@@ -127,9 +136,11 @@ fn metric<'t>(whole: usize, text: &'t [u8]) -> Result<&'t [u8], CondError>
 /// What is left behind the unit, which only a number of value 0 may lack.
 #[tactic(auto, unfolding(crate::specs::Numbers::unit))]
 fn unit<'t>(whole: usize, zero: bool, text: &'t [u8]) -> Result<&'t [u8], CondError>
-    requires fits { whole ≤ 33554432 }
+    requires fits { IsInText whole }
     requires inside { length text.now ≤ whole }
-    ensures found { MatchResult result (λ rest. unit_of whole zero text.now ≡ read tt rest.now) (λ e. unit_of whole zero text.now ≡ fault e) }
+    ensures found { MatchResult result
+        (λ rest. unit_of whole zero text.now ≡ read tt rest.now)
+        (λ e. unit_of whole zero text.now ≡ fault e) }
     ensures left { MatchResult result (λ rest. length rest.now ≤ length text.now) (λ _. Unit {0}) }
 {
     match text {
@@ -143,9 +154,11 @@ fn unit<'t>(whole: usize, zero: bool, text: &'t [u8]) -> Result<&'t [u8], CondEr
 /// What is left behind a number.
 #[tactic(auto, using(crate::proofs::Steps::then_read, crate::proofs::Steps::then_fault), unfolding(crate::specs::Numbers::spelled))]
 fn spelled<'t>(whole: usize, text: &'t [u8]) -> Result<&'t [u8], CondError>
-    requires fits { whole ≤ 33554432 }
+    requires fits { IsInText whole }
     requires inside { length text.now ≤ whole }
-    ensures found { MatchResult result (λ rest. spelled_of whole text.now ≡ read tt rest.now) (λ e. spelled_of whole text.now ≡ fault e) }
+    ensures found { MatchResult result
+        (λ rest. spelled_of whole text.now ≡ read tt rest.now)
+        (λ e. spelled_of whole text.now ≡ fault e) }
     ensures left { MatchResult result (λ rest. length rest.now ≤ length text.now) (λ _. Unit {0}) }
 {
     let (zero, rest) = mantissa(whole, skip_sign(text))?;
@@ -155,10 +168,12 @@ fn spelled<'t>(whole: usize, text: &'t [u8]) -> Result<&'t [u8], CondError>
 
 /// A length of 0 to 500 mm, and what is left behind it.
 #[tactic(auto, using(crate::proofs::Steps::then_read, crate::proofs::Steps::then_fault), unfolding(crate::specs::Numbers::measure))]
-pub fn measure<'t>(whole: usize, text: &'t [u8]) -> Result<(Nm, &'t [u8]), CondError>
-    requires fits { whole ≤ 33554432 }
+pub(crate) fn measure<'t>(whole: usize, text: &'t [u8]) -> Result<(Nm, &'t [u8]), CondError>
+    requires fits { IsInText whole }
     requires inside { length text.now ≤ whole }
-    ensures found { MatchResult result (λ p. measure_of whole text.now ≡ read p.0 p.1.now) (λ e. measure_of whole text.now ≡ fault e) }
+    ensures found { MatchResult result
+        (λ p. measure_of whole text.now ≡ read p.0 p.1.now)
+        (λ e. measure_of whole text.now ≡ fault e) }
     ensures left { MatchResult result (λ p. length p.1.now ≤ length text.now) (λ _. Unit {0}) }
 {
     let rest = spelled(whole, text)?;

@@ -1,6 +1,7 @@
 //! Conditions: chains, negations and brackets.
 
 ghost use Rattle.std.specs.Prelude.{◌≡◌, ◌≤◌, ◌⊎◌, ◌*◌, ◌+◌, true, [], length, map, drop, MatchResult, IfOk};
+ghost use Rattle.plain_types.specs.Limits.{IsInText, IsReadable};
 ghost use Rattle.cond_lang.specs.Found.{read, fault};
 ghost use Rattle.cond_lang.specs.Trees.{CondTree, any, all, negated as negated_tree, cond_tree_of, trees_of};
 ghost use Rattle.cond_lang.specs.Grammar.{Spells};
@@ -14,9 +15,11 @@ use std::alloc::Global;
 
 /// A negation where no level is left, and what is left behind it.
 fn shallow<'t>(alloc: Global, whole: usize, text: &'t [u8]) -> Result<(Cond, &'t [u8]), CondError>
-    requires fits { whole ≤ 33554432 }
+    requires fits { IsInText whole }
     requires inside { length text.now ≤ whole }
-    ensures found { MatchResult result (λ p. shallow_at whole text.now ≡ read (cond_tree_of p.0) p.1.now) (λ e. (e ≡ CondError.OutOfMemory) ⊎ (shallow_at whole text.now ≡ fault e)) }
+    ensures found { MatchResult result
+        (λ p. shallow_at whole text.now ≡ read (cond_tree_of p.0) p.1.now)
+        (λ e. (e ≡ CondError.OutOfMemory) ⊎ (shallow_at whole text.now ≡ fault e)) }
     ensures left { MatchResult result (λ p. length p.1.now ≤ length text.now) (λ _. Unit {0}) }
 {
     match text {
@@ -39,7 +42,9 @@ fn shallow<'t>(alloc: Global, whole: usize, text: &'t [u8]) -> Result<(Cond, &'t
 
 /// The negation of a condition.
 fn negated(alloc: Global, inner: Cond) -> Result<Cond, CondError>
-    ensures { MatchResult result (λ c. cond_tree_of c ≡ negated_tree (cond_tree_of inner)) (λ e. e ≡ CondError.OutOfMemory) }
+    ensures { MatchResult result
+        (λ c. cond_tree_of c ≡ negated_tree (cond_tree_of inner))
+        (λ e. e ≡ CondError.OutOfMemory) }
 {
     let boxed = Box::new(alloc, inner)?;
     Ok(Cond::Not(boxed))
@@ -54,9 +59,11 @@ fn negation<'t>(
     levels: u32,
     text: &'t [u8],
 ) -> Result<(Cond, &'t [u8]), CondError>
-    requires fits { whole ≤ 33554432 }
+    requires fits { IsInText whole }
     requires inside { length text.now ≤ whole }
-    ensures found { MatchResult result (λ p. negation_of whole levels text.now ≡ read (cond_tree_of p.0) p.1.now) (λ e. (e ≡ CondError.OutOfMemory) ⊎ (negation_of whole levels text.now ≡ fault e)) }
+    ensures found { MatchResult result
+        (λ p. negation_of whole levels text.now ≡ read (cond_tree_of p.0) p.1.now)
+        (λ e. (e ≡ CondError.OutOfMemory) ⊎ (negation_of whole levels text.now ≡ fault e)) }
     ensures left { MatchResult result (λ p. length p.1.now ≤ length text.now) (λ _. Unit {0}) }
 {
     let at = skip_blanks(text);
@@ -98,10 +105,12 @@ fn behind_first(sign: u8, text: &[u8]) -> &[u8]
 
 /// What is left behind a sign that stands twice, and stands once already.
 fn behind_sign<'t>(whole: usize, sign: u8, text: &'t [u8]) -> Result<&'t [u8], CondError>
-    requires fits { whole ≤ 33554432 }
+    requires fits { IsInText whole }
     requires inside { length text.now ≤ whole }
     requires once { begins_with_byte sign text.now ≡ true }
-    ensures found { MatchResult result (λ rest. twice whole sign text.now ≡ read tt rest.now) (λ e. twice whole sign text.now ≡ fault e) }
+    ensures found { MatchResult result
+        (λ rest. twice whole sign text.now ≡ read tt rest.now)
+        (λ e. twice whole sign text.now ≡ fault e) }
     ensures left { MatchResult result (λ rest. length rest.now + 1 ≤ length text.now) (λ _. Unit {0}) }
 {
     byte(whole, sign, &text[1..])
@@ -132,9 +141,15 @@ fn all_of<'t>(
     levels: u32,
     text: &'t [u8],
 ) -> Result<(Cond, &'t [u8]), CondError>
-    requires fits { whole ≤ 33554432 }
+    requires fits { IsInText whole }
     requires inside { length text.now ≤ whole }
-    ensures found { MatchResult result (λ p. chain whole 38 all (negation_of whole levels) text.now ≡ read (cond_tree_of p.0) p.1.now) (λ e. (e ≡ CondError.OutOfMemory) ⊎ (chain whole 38 all (negation_of whole levels) text.now ≡ fault e)) }
+    ensures found { MatchResult result
+        (λ p.
+        chain whole 38 all (negation_of whole levels) text.now
+        ≡ read (cond_tree_of p.0) p.1.now)
+        (λ e.
+        (e ≡ CondError.OutOfMemory)
+        ⊎ (chain whole 38 all (negation_of whole levels) text.now ≡ fault e)) }
     ensures left { MatchResult result (λ p. length p.1.now ≤ length text.now) (λ _. Unit {0}) }
 {
     let (first, behind) = negation(alloc, whole, levels, text)?;
@@ -162,9 +177,15 @@ fn any_of<'t>(
     levels: u32,
     text: &'t [u8],
 ) -> Result<(Cond, &'t [u8]), CondError>
-    requires fits { whole ≤ 33554432 }
+    requires fits { IsInText whole }
     requires inside { length text.now ≤ whole }
-    ensures found { MatchResult result (λ p. alternatives whole (negation_of whole levels) text.now ≡ read (cond_tree_of p.0) p.1.now) (λ e. (e ≡ CondError.OutOfMemory) ⊎ (alternatives whole (negation_of whole levels) text.now ≡ fault e)) }
+    ensures found { MatchResult result
+        (λ p.
+        alternatives whole (negation_of whole levels) text.now
+        ≡ read (cond_tree_of p.0) p.1.now)
+        (λ e.
+        (e ≡ CondError.OutOfMemory)
+        ⊎ (alternatives whole (negation_of whole levels) text.now ≡ fault e)) }
     ensures left { MatchResult result (λ p. length p.1.now ≤ length text.now) (λ _. Unit {0}) }
 {
     let (first, behind) = all_of(alloc, whole, levels, text)?;
@@ -183,11 +204,13 @@ fn any_of<'t>(
     Ok((chain_of_any(list), rest))
 }
 
-#[tactic(auto, using(crate::proofs::Steps::then_read, crate::proofs::Steps::then_fault, crate::proofs::Steps::then_lost, crate::proofs::Steps::then_later), unfolding(crate::specs::Conditions::reading, crate::specs::Conditions::disjunction))]
 /// What reading from the front to the end finds.
+#[tactic(auto, using(crate::proofs::Steps::then_read, crate::proofs::Steps::then_fault, crate::proofs::Steps::then_lost, crate::proofs::Steps::then_later), unfolding(crate::specs::Conditions::reading, crate::specs::Conditions::disjunction))]
 fn read_whole(alloc: Global, text: &[u8]) -> Result<Cond, CondError>
-    requires { length text.now ≤ 33554432 }
-    ensures { MatchResult result (λ c. reading text.now ≡ read (cond_tree_of c) []) (λ e. (e ≡ CondError.OutOfMemory) ⊎ (reading text.now ≡ fault e)) }
+    requires { IsReadable text.now }
+    ensures { MatchResult result
+        (λ c. reading text.now ≡ read (cond_tree_of c) [])
+        (λ e. (e ≡ CondError.OutOfMemory) ⊎ (reading text.now ≡ fault e)) }
 {
     let (cond, behind) = any_of(alloc, text.len(), 64, text)?;
     let rest = skip_blanks(behind);
@@ -200,13 +223,16 @@ fn read_whole(alloc: Global, text: &[u8]) -> Result<Cond, CondError>
 
 /// Reads the condition of a text of at most 33,554,432 bytes, with brackets and `!` at most 64 deep. It is read once.
 pub fn parse_cond(alloc: Global, text: &[u8]) -> Result<Cond, CondError>
-    requires { length text.now ≤ 33554432 }
+    requires { IsReadable text.now }
     // What is read is what the text spells,
     ensures spelled { IfOk result (λ c. Spells text.now (cond_tree_of c)) }
     // what the text spells is read, and there is no other condition,
-    ensures only { (t : CondTree) → Spells text.now t → MatchResult result (λ c. cond_tree_of c ≡ t) (λ e. e ≡ CondError.OutOfMemory) }
+    ensures only { (t : CondTree) → Spells text.now t
+        → MatchResult result (λ c. cond_tree_of c ≡ t) (λ e. e ≡ CondError.OutOfMemory) }
     // and a text that is refused is refused for its first fault, at its place; unless memory runs out.
-    ensures exact { MatchResult result (λ c. reading text.now ≡ read (cond_tree_of c) []) (λ e. (e ≡ CondError.OutOfMemory) ⊎ (reading text.now ≡ fault e)) }
+    ensures exact { MatchResult result
+        (λ c. reading text.now ≡ read (cond_tree_of c) [])
+        (λ e. (e ≡ CondError.OutOfMemory) ⊎ (reading text.now ≡ fault e)) }
 {
     read_whole(alloc, text)
 }

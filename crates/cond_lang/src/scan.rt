@@ -4,6 +4,7 @@ ghost use Rattle.std.specs.Prelude.{◌≡◌, ◌≤◌, ◌+◌, ◌⊎◌, le
 ghost use Rattle.std.specs.Prelude.{true, false, IsUtf8};
 ghost use Rattle.std.specs.Str.{is_utf8};
 ghost use Rattle.std.specs.Str.Lossy.{utf8_valid_len};
+ghost use Rattle.plain_types.specs.Limits.{IsInText};
 ghost use Rattle.cond_lang.specs.Found.{read, fault, place as place_of, stuck, byte as byte_of};
 ghost use Rattle.cond_lang.specs.Signs.{is_blank as is_blank_byte, after_blanks, is_in_name as is_in_name_byte, is_letter as is_letter_byte, front_name, after_name, begins_name as begins_name_text, name as name_of, front_text, after_text, side as side_of, quoted as quoted_of, word_of};
 
@@ -14,14 +15,14 @@ use std::alloc::Global;
 
 /// What a name means behind a side and a dot.
 #[derive(Clone, Copy)]
-pub enum Word {
+pub(crate) enum Word {
     Property(Prop),
     Function(Func),
     Unknown,
 }
 
 /// What this name means there.
-pub fn meaning(name: &[u8]) -> Word
+pub(crate) fn meaning(name: &[u8]) -> Word
     ensures { result ≡ word_of name.now }
 {
     if name == b"Type".as_slice() {
@@ -52,8 +53,8 @@ pub fn meaning(name: &[u8]) -> Word
 }
 
 /// The place of what is left of a text of this length.
-pub fn place(whole: usize, text: &[u8]) -> u32
-    requires fits { whole ≤ 33554432 }
+pub(crate) fn place(whole: usize, text: &[u8]) -> u32
+    requires fits { IsInText whole }
     requires inside { length text.now ≤ whole }
     ensures { result ≡ place_of whole text.now }
 {
@@ -61,8 +62,8 @@ pub fn place(whole: usize, text: &[u8]) -> u32
 }
 
 /// Nothing goes on here.
-pub fn stuck(whole: usize, text: &[u8]) -> CondError
-    requires fits { whole ≤ 33554432 }
+pub(crate) fn stuck(whole: usize, text: &[u8]) -> CondError
+    requires fits { IsInText whole }
     requires inside { length text.now ≤ whole }
     ensures { result ≡ CondError.Bad (place_of whole text.now) }
 {
@@ -72,10 +73,12 @@ pub fn stuck(whole: usize, text: &[u8]) -> CondError
 }
 
 /// What is left behind this byte.
-pub fn byte<'t>(whole: usize, wanted: u8, text: &'t [u8]) -> Result<&'t [u8], CondError>
-    requires fits { whole ≤ 33554432 }
+pub(crate) fn byte<'t>(whole: usize, wanted: u8, text: &'t [u8]) -> Result<&'t [u8], CondError>
+    requires fits { IsInText whole }
     requires inside { length text.now ≤ whole }
-    ensures found { MatchResult result (λ rest. byte_of whole wanted text.now ≡ read tt rest.now) (λ e. byte_of whole wanted text.now ≡ fault e) }
+    ensures found { MatchResult result
+        (λ rest. byte_of whole wanted text.now ≡ read tt rest.now)
+        (λ e. byte_of whole wanted text.now ≡ fault e) }
     ensures left { MatchResult result (λ rest. length rest.now ≤ length text.now) (λ _. Unit {0}) }
 {
     match text {
@@ -91,7 +94,7 @@ fn is_blank(b: u8) -> bool
 }
 
 /// What is left behind the space at the front.
-pub fn skip_blanks(text: &[u8]) -> &[u8]
+pub(crate) fn skip_blanks(text: &[u8]) -> &[u8]
     ensures value { result.now ≡ after_blanks text.now }
     ensures left { length result.now ≤ length text.now }
 {
@@ -137,10 +140,12 @@ fn begins_name(text: &[u8]) -> bool
 }
 
 /// A name, and what is left behind it.
-pub fn name<'t>(whole: usize, text: &'t [u8]) -> Result<(&'t [u8], &'t [u8]), CondError>
-    requires fits { whole ≤ 33554432 }
+pub(crate) fn name<'t>(whole: usize, text: &'t [u8]) -> Result<(&'t [u8], &'t [u8]), CondError>
+    requires fits { IsInText whole }
     requires inside { length text.now ≤ whole }
-    ensures found { MatchResult result (λ p. name_of whole text.now ≡ read p.0.now p.1.now) (λ e. name_of whole text.now ≡ fault e) }
+    ensures found { MatchResult result
+        (λ p. name_of whole text.now ≡ read p.0.now p.1.now)
+        (λ e. name_of whole text.now ≡ fault e) }
     ensures left { MatchResult result (λ p. length p.1.now ≤ length text.now) (λ _. Unit {0}) }
 {
     if begins_name(text) {
@@ -152,10 +157,12 @@ pub fn name<'t>(whole: usize, text: &'t [u8]) -> Result<(&'t [u8], &'t [u8]), Co
 
 /// A side, and what is left behind it.
 #[tactic(auto, using(crate::proofs::Steps::then_read, crate::proofs::Steps::then_fault), unfolding(crate::specs::Signs::side))]
-pub fn side<'t>(whole: usize, text: &'t [u8]) -> Result<(Side, &'t [u8]), CondError>
-    requires fits { whole ≤ 33554432 }
+pub(crate) fn side<'t>(whole: usize, text: &'t [u8]) -> Result<(Side, &'t [u8]), CondError>
+    requires fits { IsInText whole }
     requires inside { length text.now ≤ whole }
-    ensures found { MatchResult result (λ p. side_of whole text.now ≡ read p.0 p.1.now) (λ e. side_of whole text.now ≡ fault e) }
+    ensures found { MatchResult result
+        (λ p. side_of whole text.now ≡ read p.0 p.1.now)
+        (λ e. side_of whole text.now ≡ fault e) }
     ensures left { MatchResult result (λ p. length p.1.now ≤ length text.now) (λ _. Unit {0}) }
 {
     let (word, rest) = name(whole, text)?;
@@ -188,7 +195,9 @@ fn split_text(text: &[u8]) -> (&[u8], &[u8])
 /// How many bytes stand before the first that is no UTF-8, if there is one.
 #[tactic(auto, using(crate::proofs::Utf8::passes, crate::proofs::Utf8::fails))]
 fn ill_formed(bytes: &[u8]) -> Option<usize>
-    ensures value { MatchOption result (is_utf8 bytes.now ≡ true) (λ k. (is_utf8 bytes.now ≡ false) × (k ≡ utf8_valid_len bytes.now)) }
+    ensures value { MatchOption result
+        (is_utf8 bytes.now ≡ true)
+        (λ k. (is_utf8 bytes.now ≡ false) × (k ≡ utf8_valid_len bytes.now)) }
     ensures inside { MatchOption result (IsUtf8 bytes.now) (λ k. k ≤ length bytes.now) }
 {
     match std::str::from_utf8(bytes) {
@@ -199,14 +208,16 @@ fn ill_formed(bytes: &[u8]) -> Option<usize>
 
 /// The text behind its first quote, and what is left behind the other quote.
 #[tactic(auto, using(crate::proofs::Steps::then_read, crate::proofs::Steps::then_fault), unfolding(crate::specs::Signs::quoted))]
-pub fn quoted<'t>(
+pub(crate) fn quoted<'t>(
     alloc: Global,
     whole: usize,
     text: &'t [u8],
 ) -> Result<(Name, &'t [u8]), CondError>
-    requires fits { whole ≤ 33554432 }
+    requires fits { IsInText whole }
     requires inside { length text.now ≤ whole }
-    ensures found { MatchResult result (λ p. quoted_of whole text.now ≡ read p.0 p.1.now) (λ e. (e ≡ CondError.OutOfMemory) ⊎ (quoted_of whole text.now ≡ fault e)) }
+    ensures found { MatchResult result
+        (λ p. quoted_of whole text.now ≡ read p.0 p.1.now)
+        (λ e. (e ≡ CondError.OutOfMemory) ⊎ (quoted_of whole text.now ≡ fault e)) }
     ensures left { MatchResult result (λ p. length p.1.now ≤ length text.now) (λ _. Unit {0}) }
 {
     let (signs, quote) = split_text(text);

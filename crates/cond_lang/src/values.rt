@@ -1,6 +1,7 @@
 //! Values, calls and comparisons.
 
 ghost use Rattle.std.specs.Prelude.{◌≡◌, ◌≤◌, ◌⊎◌, length, MatchResult};
+ghost use Rattle.plain_types.specs.Limits.{IsInText};
 ghost use Rattle.cond_lang.specs.Found.{read, fault};
 ghost use Rattle.cond_lang.specs.Trees.{cond_tree_of};
 ghost use Rattle.cond_lang.specs.Values.{selected as selected_of, member as member_of, begins_number as begins_number_byte, head as head_of, argument as argument_of, opened as opened_of, called as called_of, with_equals as with_equals_of, operator as operator_of, is_text_prop as is_text_prop_of, is_text as is_text_term, is_order as is_order_op, clash as clash_of, comparison as comparison_of, compared as compared_of, atom as atom_of_text};
@@ -15,7 +16,7 @@ use std::alloc::Global;
 
 /// What a comparison or a call begins with: a value, or a function and its side.
 #[derive(Drop)]
-pub enum Head {
+pub(crate) enum Head {
     Value(Term),
     Asked(Side, Func),
 }
@@ -28,9 +29,11 @@ fn selected<'t>(
     side: Side,
     text: &'t [u8],
 ) -> Result<(Head, &'t [u8]), CondError>
-    requires fits { whole ≤ 33554432 }
+    requires fits { IsInText whole }
     requires inside { length text.now ≤ whole }
-    ensures found { MatchResult result (λ p. selected_of whole calls side text.now ≡ read p.0 p.1.now) (λ e. selected_of whole calls side text.now ≡ fault e) }
+    ensures found { MatchResult result
+        (λ p. selected_of whole calls side text.now ≡ read p.0 p.1.now)
+        (λ e. selected_of whole calls side text.now ≡ fault e) }
     ensures left { MatchResult result (λ p. length p.1.now ≤ length text.now) (λ _. Unit {0}) }
 {
     let (word, rest) = name(whole, text)?;
@@ -46,9 +49,11 @@ fn selected<'t>(
 /// What a side, a dot and a name stand for, and what is left behind them.
 #[tactic(auto, using(crate::proofs::Steps::then_read, crate::proofs::Steps::then_fault), unfolding(crate::specs::Values::member))]
 fn member<'t>(whole: usize, calls: bool, text: &'t [u8]) -> Result<(Head, &'t [u8]), CondError>
-    requires fits { whole ≤ 33554432 }
+    requires fits { IsInText whole }
     requires inside { length text.now ≤ whole }
-    ensures found { MatchResult result (λ p. member_of whole calls text.now ≡ read p.0 p.1.now) (λ e. member_of whole calls text.now ≡ fault e) }
+    ensures found { MatchResult result
+        (λ p. member_of whole calls text.now ≡ read p.0 p.1.now)
+        (λ e. member_of whole calls text.now ≡ fault e) }
     ensures left { MatchResult result (λ p. length p.1.now ≤ length text.now) (λ _. Unit {0}) }
 {
     let (which, rest) = side(whole, text)?;
@@ -70,9 +75,11 @@ fn front<'t>(
     calls: bool,
     text: &'t [u8],
 ) -> Result<(Head, &'t [u8]), CondError>
-    requires fits { whole ≤ 33554432 }
+    requires fits { IsInText whole }
     requires inside { length text.now ≤ whole }
-    ensures found { MatchResult result (λ p. head_of whole calls text.now ≡ read p.0 p.1.now) (λ e. (e ≡ CondError.OutOfMemory) ⊎ (head_of whole calls text.now ≡ fault e)) }
+    ensures found { MatchResult result
+        (λ p. head_of whole calls text.now ≡ read p.0 p.1.now)
+        (λ e. (e ≡ CondError.OutOfMemory) ⊎ (head_of whole calls text.now ≡ fault e)) }
     ensures left { MatchResult result (λ p. length p.1.now ≤ length text.now) (λ _. Unit {0}) }
 {
     match text {
@@ -99,9 +106,11 @@ fn argument<'t>(
     func: Func,
     text: &'t [u8],
 ) -> Result<(Name, &'t [u8]), CondError>
-    requires fits { whole ≤ 33554432 }
+    requires fits { IsInText whole }
     requires inside { length text.now ≤ whole }
-    ensures found { MatchResult result (λ p. argument_of whole func text.now ≡ read p.0 p.1.now) (λ e. (e ≡ CondError.OutOfMemory) ⊎ (argument_of whole func text.now ≡ fault e)) }
+    ensures found { MatchResult result
+        (λ p. argument_of whole func text.now ≡ read p.0 p.1.now)
+        (λ e. (e ≡ CondError.OutOfMemory) ⊎ (argument_of whole func text.now ≡ fault e)) }
     ensures left { MatchResult result (λ p. length p.1.now ≤ length text.now) (λ _. Unit {0}) }
 {
     match func {
@@ -115,9 +124,11 @@ fn argument<'t>(
 
 /// What is left behind an opening bracket, which takes a level.
 fn opened<'t>(whole: usize, levels: u32, text: &'t [u8]) -> Result<&'t [u8], CondError>
-    requires fits { whole ≤ 33554432 }
+    requires fits { IsInText whole }
     requires inside { length text.now ≤ whole }
-    ensures found { MatchResult result (λ rest. opened_of whole levels text.now ≡ read tt rest.now) (λ e. opened_of whole levels text.now ≡ fault e) }
+    ensures found { MatchResult result
+        (λ rest. opened_of whole levels text.now ≡ read tt rest.now)
+        (λ e. opened_of whole levels text.now ≡ fault e) }
     ensures left { MatchResult result (λ rest. length rest.now ≤ length text.now) (λ _. Unit {0}) }
 {
     match text {
@@ -143,9 +154,12 @@ fn called<'t>(
     func: Func,
     text: &'t [u8],
 ) -> Result<(Cond, &'t [u8]), CondError>
-    requires fits { whole ≤ 33554432 }
+    requires fits { IsInText whole }
     requires inside { length text.now ≤ whole }
-    ensures found { MatchResult result (λ p. called_of whole levels side func text.now ≡ read (cond_tree_of p.0) p.1.now) (λ e. (e ≡ CondError.OutOfMemory) ⊎ (called_of whole levels side func text.now ≡ fault e)) }
+    ensures found { MatchResult result
+        (λ p. called_of whole levels side func text.now ≡ read (cond_tree_of p.0) p.1.now)
+        (λ e.
+        (e ≡ CondError.OutOfMemory) ⊎ (called_of whole levels side func text.now ≡ fault e)) }
     ensures left { MatchResult result (λ p. length p.1.now ≤ length text.now) (λ _. Unit {0}) }
 {
     let rest = opened(whole, levels, skip_blanks(text))?;
@@ -168,9 +182,11 @@ fn with_equals(short: Op, long: Op, text: &[u8]) -> (Op, &[u8])
 /// An operator, and what is left behind it.
 #[tactic(auto, using(crate::proofs::Steps::then_read, crate::proofs::Steps::then_fault), unfolding(crate::specs::Values::operator))]
 fn operator<'t>(whole: usize, text: &'t [u8]) -> Result<(Op, &'t [u8]), CondError>
-    requires fits { whole ≤ 33554432 }
+    requires fits { IsInText whole }
     requires inside { length text.now ≤ whole }
-    ensures found { MatchResult result (λ p. operator_of whole text.now ≡ read p.0 p.1.now) (λ e. operator_of whole text.now ≡ fault e) }
+    ensures found { MatchResult result
+        (λ p. operator_of whole text.now ≡ read p.0 p.1.now)
+        (λ e. operator_of whole text.now ≡ fault e) }
     ensures left { MatchResult result (λ p. length p.1.now ≤ length text.now) (λ _. Unit {0}) }
 {
     match text {
@@ -243,10 +259,12 @@ fn compared<'t>(
     right: Head,
     rest: &'t [u8],
 ) -> Result<(Cond, &'t [u8]), CondError>
-    requires fits { whole ≤ 33554432 }
+    requires fits { IsInText whole }
     requires inside { length at.now ≤ whole }
     requires behind { length rest.now ≤ whole }
-    ensures found { MatchResult result (λ p. compared_of whole at.now left op right rest.now ≡ read (cond_tree_of p.0) p.1.now) (λ e. compared_of whole at.now left op right rest.now ≡ fault e) }
+    ensures found { MatchResult result
+        (λ p. compared_of whole at.now left op right rest.now ≡ read (cond_tree_of p.0) p.1.now)
+        (λ e. compared_of whole at.now left op right rest.now ≡ fault e) }
     ensures left { MatchResult result (λ p. length p.1.now ≤ length rest.now) (λ _. Unit {0}) }
 {
     match right {
@@ -270,9 +288,11 @@ fn comparison<'t>(
     left: Term,
     text: &'t [u8],
 ) -> Result<(Cond, &'t [u8]), CondError>
-    requires fits { whole ≤ 33554432 }
+    requires fits { IsInText whole }
     requires inside { length text.now ≤ whole }
-    ensures found { MatchResult result (λ p. comparison_of whole left text.now ≡ read (cond_tree_of p.0) p.1.now) (λ e. (e ≡ CondError.OutOfMemory) ⊎ (comparison_of whole left text.now ≡ fault e)) }
+    ensures found { MatchResult result
+        (λ p. comparison_of whole left text.now ≡ read (cond_tree_of p.0) p.1.now)
+        (λ e. (e ≡ CondError.OutOfMemory) ⊎ (comparison_of whole left text.now ≡ fault e)) }
     ensures left { MatchResult result (λ p. length p.1.now ≤ length text.now) (λ _. Unit {0}) }
 {
     let at = skip_blanks(text);
@@ -283,15 +303,17 @@ fn comparison<'t>(
 
 /// A call or a comparison, and what is left behind it.
 #[tactic(auto, using(crate::proofs::Steps::then_read, crate::proofs::Steps::then_fault, crate::proofs::Steps::then_lost, crate::proofs::Steps::then_later), unfolding(crate::specs::Values::atom))]
-pub fn atom<'t>(
+pub(crate) fn atom<'t>(
     alloc: Global,
     whole: usize,
     levels: u32,
     text: &'t [u8],
 ) -> Result<(Cond, &'t [u8]), CondError>
-    requires fits { whole ≤ 33554432 }
+    requires fits { IsInText whole }
     requires inside { length text.now ≤ whole }
-    ensures found { MatchResult result (λ p. atom_of_text whole levels text.now ≡ read (cond_tree_of p.0) p.1.now) (λ e. (e ≡ CondError.OutOfMemory) ⊎ (atom_of_text whole levels text.now ≡ fault e)) }
+    ensures found { MatchResult result
+        (λ p. atom_of_text whole levels text.now ≡ read (cond_tree_of p.0) p.1.now)
+        (λ e. (e ≡ CondError.OutOfMemory) ⊎ (atom_of_text whole levels text.now ≡ fault e)) }
     ensures left { MatchResult result (λ p. length p.1.now ≤ length text.now) (λ _. Unit {0}) }
 {
     let (begin, rest) = front(alloc, whole, true, text)?;

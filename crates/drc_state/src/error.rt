@@ -1,8 +1,8 @@
 //! Why a command is not carried out.
 
 use board_edits::Refusal;
-use board_errors::{InTwo, ReasonInTwo};
 use board_items::BoardError;
+use plain_types::{HasReason, NewReason};
 use rule_text::RuleError;
 use std::alloc::AllocError;
 use std::error::Error;
@@ -28,59 +28,24 @@ pub enum EditError {
     OutOfMemory,
 }
 
-impl EditError {
-    ghost use Rattle.std.specs.Prelude.{◌≡◌, ◌++◌};
-    ghost use Rattle.board_errors.specs.Reasons.{reason_in_one};
-    ghost use Rattle.drc_state.specs.Reasons.{edit_reason_in, edit_name_of, edit_code_of, edit_place_of, edit_inner_place_of};
+impl HasReason for EditError {
+    ghost use Rattle.drc_state.specs.Reasons.{edit_reason};
 
-    /// Its name, its number and its place.
-    pub fn reason(&self) -> ReasonInTwo
-        ensures { reason_in_one result ≡ edit_reason_in self.now }
-    {
+    ghost reason_of = { edit_reason };
+
+    ghost depth = { 3 };
+
+    /// What it is called, its number and its byte of the text that it came from. A unit that is not found has no place.
+    /// Want of memory has no number, which is written 0, and no place.
+    fn reason(&self) -> NewReason {
         match self {
-            EditError::NoSuchItem => ReasonInTwo::alone("NoSuchItem", "1"),
-            EditError::SharedName => ReasonInTwo::alone("SharedName", "2"),
-            EditError::PartOfFootprint => ReasonInTwo::alone("PartOfFootprint", "3"),
-            EditError::Item(error) => ReasonInTwo::behind("Item.", "4.", error.reason()),
-            EditError::Rules(error) => ReasonInTwo::behind("Rules.", "5.", error.reason()),
-            EditError::Stopped => ReasonInTwo::alone("Stopped", "6"),
-            EditError::OutOfMemory => ReasonInTwo::alone("OutOfMemory", "0"),
-        }
-    }
-
-    /// Its name; that of a refusal of an added list or of rules stands behind a point.
-    pub fn name(&self) -> InTwo
-        ensures { result.front.now ++ result.rest.now ≡ edit_name_of self.now }
-    {
-        self.reason().name
-    }
-
-    /// Its number; that of a refusal of an added list or of rules stands behind a point. Want of memory has none, which is written 0.
-    pub fn code(&self) -> InTwo
-        ensures { result.front.now ++ result.rest.now ≡ edit_code_of self.now }
-    {
-        self.reason().code
-    }
-
-    /// Its byte of the text that it came from. A unit that is not found has none, nor has want of memory.
-    pub fn place(&self) -> Option<u32>
-        ensures { result ≡ edit_place_of self.now }
-    {
-        self.reason().place
-    }
-
-    /// The byte in what the text of a rule's condition stands for. Others have none.
-    pub fn inner_place(&self) -> Option<u32>
-        ensures { result ≡ edit_inner_place_of self.now }
-    {
-        match self {
-            EditError::Rules(error) => error.inner_place(),
-            EditError::NoSuchItem
-            | EditError::SharedName
-            | EditError::PartOfFootprint
-            | EditError::Item(_)
-            | EditError::Stopped
-            | EditError::OutOfMemory => None,
+            EditError::NoSuchItem => NewReason::new("NoSuchItem", 1, None),
+            EditError::SharedName => NewReason::new("SharedName", 2, None),
+            EditError::PartOfFootprint => NewReason::new("PartOfFootprint", 3, None),
+            EditError::Item(error) => error.reason().behind("Item", 4),
+            EditError::Rules(error) => error.reason().behind("Rules", 5),
+            EditError::Stopped => NewReason::new("Stopped", 6, None),
+            EditError::OutOfMemory => NewReason::new("OutOfMemory", 0, None),
         }
     }
 }
@@ -115,14 +80,13 @@ impl From<AllocError> for EditError {
 
 impl fmt::Display for EditError {
     ghost use Rattle.std.specs.Prelude.{Some};
-    ghost use Rattle.drc_state.specs.Reasons.{edit_reason_of};
+    ghost use Rattle.plain_types.specs.NewReasons.{written};
+    ghost use Rattle.drc_state.specs.Reasons.{edit_reason};
 
-    ghost output = { λ e. Some (edit_reason_of e) };
+    ghost output = { λ e. Some (written (edit_reason e)) };
 
     fn fmt<W: fmt::Write>(&self, f: &mut fmt::Formatter<W>) -> fmt::Result {
-        let name = self.name();
-        let code = self.code();
-        write!(f, "{name} ({code})")
+        write!(f, "{}", self.reason())
     }
 }
 

@@ -6,7 +6,6 @@ mod error;
 pub mod laws;
 mod planning;
 
-pub use board_errors::{InTwo, ReasonInTwo};
 pub use change::{Change, Edit, change_of, edit_in};
 pub use error::EditError;
 use plain_types::crosses_threads;
@@ -14,5 +13,4 @@ pub use planning::edit_of;
 
 fn all_cross() {
     crosses_threads::<EditError>();
-    crosses_threads::<InTwo>();
 }

@@ -2,11 +2,11 @@
 use Rattle.std.specs.Prelude.{ℤ, map, Option, Some, None, Result, Ok, Err}
 use Rattle.std.specs.Option.{option_map}
 use Rattle.list_read.specs.Nodes.{GivesUnless}
+use Rattle.plain_types.specs.declared.lengths.Length.{Length}
 use Rattle.cond_lang.specs.Rules.{plain_rule, plain_constraint}
 use Rattle.cond_lang.specs.Trees.{cond_tree_of}
 use Rattle.rule_text.specs.declared.error.RuleError.{RuleError}
 use Rattle.rule_text.specs.declared.error.RuleError.TheVariants.{OutOfMemory}
-use Rattle.rule_text.specs.declared.limits.Length.{Length}
 use Rattle.rule_text.specs.declared.limits.Limits.{Limits}
 use Rattle.rule_text.specs.declared.draft.Draft.{Draft}
 use Rattle.rule_text.specs.declared.rules.Rules.{Rules}

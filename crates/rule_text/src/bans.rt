@@ -1,4 +1,4 @@
-//! The words of what is banned.
+//! What a constraint bans, word by word.
 
 ghost use Rattle.std.specs.Prelude.{◌≡◌};
 ghost use Rattle.sexpr_read.specs.Views.{tree_of};

@@ -1,6 +1,7 @@
-//! The texts of conditions.
+//! Conditions, read from the atoms of a rule file that stand for their texts.
 
-ghost use Rattle.std.specs.Prelude.{◌≡◌, ◌≤◌, length};
+ghost use Rattle.std.specs.Prelude.{◌≡◌};
+ghost use Rattle.plain_types.specs.Limits.{IsReadable};
 ghost use Rattle.sexpr_read.specs.Views.{tree_of};
 ghost use Rattle.cond_lang.specs.Conditions.{reading};
 ghost use Rattle.cond_lang.specs.Trees.{cond_tree_of};
@@ -20,7 +21,7 @@ use std::alloc::Global;
 
 /// The condition of this text, which stands at `at`.
 fn parsed(alloc: Global, at: u32, text: &[u8]) -> Result<Cond, RuleError>
-    requires { length text.now ≤ 33554432 }
+    requires { IsReadable text.now }
     ensures { Gives cond_tree_of result (cond_from at (reading text.now)) }
 {
     match parse_cond(alloc, text) {
@@ -42,7 +43,7 @@ pub(crate) fn cond_in(alloc: Global, atom: Node<'_, '_>) -> Result<Cond, RuleErr
     }
 }
 
-/// The same, with escapes read.
+/// The condition that an atom with escapes stands for, by what its escapes stand for.
 #[tactic(auto, using(crate::proofs::Shortness::short_text), unfolding(crate::specs::Limits::cond_in))]
 fn cond_decoded(alloc: Global, atom: Node<'_, '_>) -> Result<Cond, RuleError>
     requires { IsShort (tree_of atom) }

@@ -1,4 +1,4 @@
-//! The constraints of a rule.
+//! The constraints of a rule, each of one kind, and whether the condition of their rule is asked.
 
 ghost use Rattle.std.specs.Prelude.{◌≡◌, false, true, map};
 ghost use Rattle.sexpr_read.specs.Views.{tree_of};

@@ -1,7 +1,7 @@
 //! Why a rule file is refused.
 
 use cond_lang::CondError;
-use plain_types::Reason;
+use plain_types::{HasReason, NewReason};
 use sexpr_read::TextError;
 use std::alloc::{AllocError, AllocFailed};
 use std::error::Error;
@@ -25,61 +25,23 @@ pub enum RuleError {
     OutOfMemory,
 }
 
-impl RuleError {
-    ghost use Rattle.std.specs.Prelude.{◌≡◌};
-    ghost use Rattle.plain_types.specs.Reasons.{plain_reason};
-    ghost use Rattle.rule_text.specs.Reasons.{rules_reason_in, name_of, code_of, rules_place_of, rules_inner_place_of};
+impl HasReason for RuleError {
+    ghost use Rattle.rule_text.specs.Reasons.{rules_reason};
 
-    /// Its name, its number and its place.
-    pub fn reason(&self) -> Reason
-        ensures { plain_reason result ≡ rules_reason_in self.now }
-    {
+    ghost reason_of = { rules_reason };
+
+    ghost depth = { 2 };
+
+    /// What it is called, its number and its byte of the text: for a condition that where its text begins, and its inner
+    /// place is counted in what that text stands for. Want of memory has no number, which is written 0, and no place.
+    fn reason(&self) -> NewReason {
         match self {
-            RuleError::Text(error) => error.carried_reason(),
-            RuleError::Version { at } => Reason::new("Version", "2", Some(*at)),
-            RuleError::Bad { at } => Reason::new("Bad", "3", Some(*at)),
-            RuleError::Cond { at, inner } => {
-                let carried = inner.carried_reason();
-                Reason::new(carried.name, carried.code, Some(*at))
-            }
-            RuleError::BadNumber { at } => Reason::new("BadNumber", "5", Some(*at)),
-            RuleError::OutOfMemory => Reason::new("OutOfMemory", "0", None),
-        }
-    }
-
-    /// Its name; behind `Text.` that of the text's refusal, and behind `Cond.` that of the condition's.
-    pub fn name(&self) -> &'static str
-        ensures { result.now ≡ name_of self.now }
-    {
-        self.reason().name
-    }
-
-    /// Its number; behind `1.` that of the text's refusal, and behind `4.` that of the condition's. Want of memory has
-    /// none, which is written 0.
-    pub fn code(&self) -> &'static str
-        ensures { result.now ≡ code_of self.now }
-    {
-        self.reason().code
-    }
-
-    /// Its byte of the text, for a condition where that begins. Want of memory has no place.
-    pub fn place(&self) -> Option<u32>
-        ensures { result ≡ rules_place_of self.now }
-    {
-        self.reason().place
-    }
-
-    /// The byte in what the text of a condition stands for. Others have none.
-    pub fn inner_place(&self) -> Option<u32>
-        ensures { result ≡ rules_inner_place_of self.now }
-    {
-        match self {
-            RuleError::Cond { inner, .. } => inner.place(),
-            RuleError::Text(_)
-            | RuleError::Version { .. }
-            | RuleError::Bad { .. }
-            | RuleError::BadNumber { .. }
-            | RuleError::OutOfMemory => None,
+            RuleError::Text(error) => error.reason().behind("Text", 1),
+            RuleError::Version { at } => NewReason::new("Version", 2, Some(*at)),
+            RuleError::Bad { at } => NewReason::new("Bad", 3, Some(*at)),
+            RuleError::Cond { at, inner } => inner.reason().behind("Cond", 4).inside(*at),
+            RuleError::BadNumber { at } => NewReason::new("BadNumber", 5, Some(*at)),
+            RuleError::OutOfMemory => NewReason::new("OutOfMemory", 0, None),
         }
     }
 }
@@ -108,14 +70,13 @@ impl<T: Drop> From<AllocFailed<T>> for RuleError {
 
 impl fmt::Display for RuleError {
     ghost use Rattle.std.specs.Prelude.{Some};
-    ghost use Rattle.rule_text.specs.Reasons.{rules_reason_of};
+    ghost use Rattle.plain_types.specs.NewReasons.{written};
+    ghost use Rattle.rule_text.specs.Reasons.{rules_reason};
 
-    ghost output = { λ e. Some (rules_reason_of e) };
+    ghost output = { λ e. Some (written (rules_reason e)) };
 
     fn fmt<W: fmt::Write>(&self, f: &mut fmt::Formatter<W>) -> fmt::Result {
-        let name = self.name();
-        let code = self.code();
-        write!(f, "{name} ({code})")
+        write!(f, "{}", self.reason())
     }
 }
 

@@ -10,12 +10,13 @@ use sexpr_read::laws::one_tree;
 
 /// No text says two things.
 pub fn one_reading()
-    ensures { (text : List ℕ) (a b : Result PlainRules RuleError) → RulesSays text a → RulesSays text b → a ≡ b }
+    ensures { (text : List ℕ) (a b : Result PlainRules RuleError) → RulesSays text a → RulesSays text b
+        → a ≡ b }
 {
     one_tree();
 }
 
-/// The same of a list of rules, by its own places.
+/// No list of rules says two things, by the places of its own text.
 fn one_reading_here()
     ensures { (text : List ℕ) (a b : Result PlainRules RuleError) → Here text a → Here text b → a ≡ b }
 {
@@ -24,7 +25,8 @@ fn one_reading_here()
 
 /// No list of rules says two things.
 pub fn one_list_reading()
-    ensures { (text : List ℕ) (by : ℕ) (a b : Result PlainRules RuleError) → SaysList text by a → SaysList text by b → a ≡ b }
+    ensures { (text : List ℕ) (by : ℕ) (a b : Result PlainRules RuleError) → SaysList text by a
+        → SaysList text by b → a ≡ b }
 {
     one_reading_here();
 }

@@ -1,4 +1,4 @@
-//! The lengths of a constraint.
+//! The lengths of a constraint: the least, the greatest, and one between that has no effect.
 
 ghost use Rattle.std.specs.Prelude.{◌≡◌};
 ghost use Rattle.plain_types.specs.Lengths.{IsLengthIfSome};
@@ -10,10 +10,10 @@ ghost use Rattle.rule_text.specs.Views.{nm_in, nm_if, plain_limits, Gives};
 
 use crate::error::RuleError;
 use crate::forms::{atom_at, bad, clauses};
-use crate::limits::{Length, Limits};
+use crate::limits::Limits;
 use exact_dec::{Nm, with_unit};
 use list_read::{has_head, place};
-use plain_types::is_length;
+use plain_types::{Length, is_length};
 use sexpr_read::Node;
 
 /// BadNumber, at this atom.

@@ -4,7 +4,8 @@
 //! are whole nanometres here, to the nearest. What a file says is defined in `specs/RulesOf`.
 #![tactic(auto)]
 
-ghost use Rattle.std.specs.Prelude.{◌≡◌, ◌≤◌, ◌⊎◌, length, IfErr, MatchResult, Result, Ok, Err};
+ghost use Rattle.std.specs.Prelude.{◌≡◌, ◌⊎◌, IfErr, MatchResult, Result, Ok, Err};
+ghost use Rattle.plain_types.specs.Limits.{IsInText, IsReadable};
 ghost use Rattle.rule_text.specs.declared.error.RuleError.{RuleError};
 ghost use Rattle.rule_text.specs.ListText.{Here, SaysList};
 ghost use Rattle.rule_text.specs.Near.{IsNear};
@@ -43,9 +44,14 @@ use std::alloc::Global;
 /// place. The reasons are those of [`RuleError`], exactly where `specs/RuleText` has them; want of memory alone is free.
 #[tactic(auto, using(crate::proofs::Shortness::forms_short, crate::proofs::Shortness::forms_few), unfolding(crate::specs::RulesOf::file_of))]
 pub fn read_rules(alloc: Global, text: &[u8]) -> Result<Rules, RuleError>
-    requires { length text.now ≤ 33_554_432 }
-    ensures says { MatchResult result (λ rules. RulesSays text.now (Ok (plain_rules rules))) (λ e. (e ≡ RuleError.OutOfMemory) ⊎ RulesSays text.now (Err e)) }
-    ensures only { (answer : Result PlainRules RuleError) → RulesSays text.now answer → MatchResult result (λ rules. answer ≡ Ok (plain_rules rules)) (λ e. (e ≡ RuleError.OutOfMemory) ⊎ (answer ≡ Err e)) }
+    requires { IsReadable text.now }
+    ensures says { MatchResult result
+        (λ rules. RulesSays text.now (Ok (plain_rules rules)))
+        (λ e. (e ≡ RuleError.OutOfMemory) ⊎ RulesSays text.now (Err e)) }
+    ensures only { (answer : Result PlainRules RuleError) → RulesSays text.now answer
+        → MatchResult result
+        (λ rules. answer ≡ Ok (plain_rules rules))
+        (λ e. (e ≡ RuleError.OutOfMemory) ⊎ (answer ≡ Err e)) }
 {
     one_reading();
     spans_in_order();
@@ -66,10 +72,15 @@ pub fn read_rules(alloc: Global, text: &[u8]) -> Result<Rules, RuleError>
 /// 33,554,432; it is added to each place. Beside the reasons of a file, a text whose first form is no such list, as
 /// `("rules" (version 1))`, is Bad at its start, and one with a second form is Bad there.
 pub fn read_rule_list(alloc: Global, text: &[u8], at: u32) -> Result<Rules, RuleError>
-    requires text { length text.now ≤ 33_554_432 }
-    requires at { at ≤ 33_554_432 }
-    ensures says { MatchResult result (λ rules. SaysList text.now at (Ok (plain_rules rules))) (λ e. (e ≡ RuleError.OutOfMemory) ⊎ SaysList text.now at (Err e)) }
-    ensures only { (answer : Result PlainRules RuleError) → SaysList text.now at answer → MatchResult result (λ rules. answer ≡ Ok (plain_rules rules)) (λ e. (e ≡ RuleError.OutOfMemory) ⊎ (answer ≡ Err e)) }
+    requires text { IsReadable text.now }
+    requires at { IsInText at }
+    ensures says { MatchResult result
+        (λ rules. SaysList text.now at (Ok (plain_rules rules)))
+        (λ e. (e ≡ RuleError.OutOfMemory) ⊎ SaysList text.now at (Err e)) }
+    ensures only { (answer : Result PlainRules RuleError) → SaysList text.now at answer
+        → MatchResult result
+        (λ rules. answer ≡ Ok (plain_rules rules))
+        (λ e. (e ≡ RuleError.OutOfMemory) ⊎ (answer ≡ Err e)) }
 {
     one_list_reading();
     match list_here(alloc, text) {
@@ -78,11 +89,13 @@ pub fn read_rule_list(alloc: Global, text: &[u8], at: u32) -> Result<Rules, Rule
     }
 }
 
-/// The same, by the places of the list's own text.
+/// The rules of a list `(rules (version 1) (rule ..) ..)` that stands in another text, by the places of the list's own text.
 #[tactic(auto, using(crate::proofs::Shortness::forms_short, crate::proofs::Places::near_answer, list_read::proofs::TextPlaces::near_text))]
 fn list_here(alloc: Global, text: &[u8]) -> Result<Rules, RuleError>
-    requires { length text.now ≤ 33_554_432 }
-    ensures says { MatchResult result (λ rules. Here text.now (Ok (plain_rules rules))) (λ e. (e ≡ RuleError.OutOfMemory) ⊎ Here text.now (Err e)) }
+    requires { IsReadable text.now }
+    ensures says { MatchResult result
+        (λ rules. Here text.now (Ok (plain_rules rules)))
+        (λ e. (e ≡ RuleError.OutOfMemory) ⊎ Here text.now (Err e)) }
     ensures near { IfErr result IsNear }
 {
     spans_in_order();

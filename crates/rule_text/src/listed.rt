@@ -1,6 +1,7 @@
 //! A list of rules that stands in another text.
 
-ghost use Rattle.std.specs.Prelude.{◌≡◌, ◌≤◌};
+ghost use Rattle.std.specs.Prelude.{◌≡◌};
+ghost use Rattle.plain_types.specs.Limits.{IsInText};
 ghost use Rattle.sexpr_read.specs.Tree.{parts};
 ghost use Rattle.sexpr_read.specs.Views.{tree_of};
 ghost use Rattle.list_read.specs.Near.{IsNearText};
@@ -40,7 +41,7 @@ pub(crate) fn list_of(alloc: Global, size: u32, root: Node<'_, '_>) -> Result<Ru
 }
 
 fn moved_text(by: u32, error: TextError) -> TextError
-    requires by { by ≤ 33554432 }
+    requires by { IsInText by }
     requires near { IsNearText error }
     ensures { result ≡ moved_text by error }
 {
@@ -57,7 +58,7 @@ fn moved_text(by: u32, error: TextError) -> TextError
 
 /// The refusal, by the places of the text in which the list begins at `by`.
 pub(crate) fn moved(by: u32, error: RuleError) -> RuleError
-    requires by { by ≤ 33554432 }
+    requires by { IsInText by }
     requires near { IsNear error }
     ensures { result ≡ moved_error by error }
 {

@@ -1,6 +1,7 @@
 //! The rules of a file, form by form.
 
-ghost use Rattle.std.specs.Prelude.{◌≡◌, ◌<◌, ◌≤◌, ◌+◌, length, IfOk, Ok};
+ghost use Rattle.std.specs.Prelude.{◌≡◌, ◌<◌, ◌+◌, length, IfOk, Ok};
+ghost use Rattle.plain_types.specs.Limits.{most_text, IsInText};
 ghost use Rattle.sexpr_read.specs.Views.{tree_of, trees_left};
 ghost use Rattle.cond_lang.specs.Rules.{plain_rule, plain_constraint};
 ghost use Rattle.list_read.specs.Heads.{place};
@@ -128,7 +129,8 @@ fn with_note(alloc: Global, draft: Draft, name: Node<'_, '_>) -> Result<Draft, R
 
 /// Adds a constraint.
 fn with_more(draft: Draft, constraint: Constraint) -> Result<Draft, RuleError>
-    ensures { Gives plain_draft result (Ok (constrained (plain_draft draft) (plain_constraint constraint))) }
+    ensures { Gives plain_draft result
+        (Ok (constrained (plain_draft draft) (plain_constraint constraint))) }
 {
     let mut draft = draft;
     draft.constraints.push(constraint)?;
@@ -190,7 +192,11 @@ fn with_clause(
 #[tactic(auto, using(crate::proofs::Shortness::clauses_short, crate::proofs::Shortness::first_short, crate::proofs::Shortness::rest_short), unfolding(crate::specs::Walk::with_clauses))]
 fn with_clauses(alloc: Global, draft: Draft, form: Node<'_, '_>) -> Result<Draft, RuleError>
     requires { IsShort (tree_of form) }
-    ensures { Gives plain_draft result (with_clauses (is_asked (clauses (tree_of form.entry))) (plain_draft draft) (clauses (tree_of form.entry))) }
+    ensures { Gives plain_draft result
+        (with_clauses
+        (is_asked (clauses (tree_of form.entry)))
+        (plain_draft draft)
+        (clauses (tree_of form.entry))) }
 {
     let asked = is_asked(form);
     let mut draft = draft;
@@ -223,7 +229,7 @@ fn rule_by(name: Name, draft: Draft) -> (Rule, Vec<RuleNote>)
 #[tactic(auto, unfolding(crate::specs::Walk::with_rule))]
 fn with_rule(alloc: Global, lists: Lists, form: Node<'_, '_>) -> Result<Lists, RuleError>
     requires short { IsShort (tree_of form) }
-    requires few { length lists.rules.items < 33554432 }
+    requires few { length lists.rules.items < most_text }
     ensures read { Gives plain_lists result (with_rule (plain_lists lists) (tree_of form.entry)) }
     ensures grown { IfOk result (λ more. length more.rules.items ≡ length lists.rules.items + 1) }
 {
@@ -250,7 +256,7 @@ fn with_rule(alloc: Global, lists: Lists, form: Node<'_, '_>) -> Result<Lists, R
 #[tactic(auto, using(crate::proofs::Shortness::first_short, crate::proofs::Shortness::rest_short), unfolding(crate::specs::Walk::with_rules))]
 fn with_rules(alloc: Global, forms: Children<'_, '_>) -> Result<Lists, RuleError>
     requires short { AllShort (trees_left forms) }
-    requires few { length (trees_left forms) ≤ 33554432 }
+    requires few { IsInText (length (trees_left forms)) }
     ensures { Gives plain_lists result (with_rules no_rules (trees_left forms.entry)) }
 {
     let mut lists = Lists {
@@ -285,7 +291,7 @@ pub(crate) fn rules_of(
     forms: Children<'_, '_>,
 ) -> Result<Rules, RuleError>
     requires short { AllShort (trees_left forms) }
-    requires few { length (trees_left forms) ≤ 33554432 }
+    requires few { IsInText (length (trees_left forms)) }
     ensures { Gives plain_rules result (rules_of none (trees_left forms.entry)) }
 {
     let mut forms = forms;

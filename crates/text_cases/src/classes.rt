@@ -7,6 +7,7 @@ use crate::files::name_of;
 use case_lines::{Fault, first_word, refused, text_of, told};
 use drc_io::Name;
 use net_class::{Classes, Mins, ProjectError, read_project, wild};
+use plain_types::HasReason;
 use std::alloc::Global;
 
 fn classes(alloc: Global, text: &[u8]) -> Result<Classes, ProjectError>
@@ -50,7 +51,7 @@ pub fn answer(alloc: Global, call: &str, written: &str) -> Result<Vec<u8>, Fault
     let net = name_of(alloc, net)?;
     match classes(alloc, &text_of(alloc, text)?) {
         Ok(classes) => said(alloc, call, &net, &classes.copy()?),
-        Err(error) => refused(alloc, &error, error.place()),
+        Err(error) => refused(alloc, &error, error.reason().place()),
     }
 }
 

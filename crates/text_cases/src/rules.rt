@@ -5,6 +5,7 @@ ghost use Rattle.std.specs.Prelude.{◌≤◌, length};
 use crate::files::name_of;
 use case_lines::{Fault, add, first_word, number, refused, small, text_of};
 use cond_lang::{Cond, Constraints, Rule, RuleLayer, Severity, parse_cond};
+use plain_types::HasReason;
 use rule_text::{RuleError, RuleNotes, Rules, read_rule_list, read_rules};
 use std::alloc::Global;
 
@@ -55,13 +56,14 @@ fn under(alloc: Global, text: &[u8]) -> Result<Vec<u8>, Fault>
 {
     match parse_cond(alloc, text) {
         Ok(cond) => Ok(shown(alloc, &rule_under(alloc, cond)?.copy()?)?.into_bytes()),
-        Err(error) => refused(alloc, &error, error.place()),
+        Err(error) => refused(alloc, &error, error.reason().place()),
     }
 }
 
 /// A refusal with its place, and with the place in its condition where that is what was refused.
 fn refusal(alloc: Global, error: RuleError) -> Result<Vec<u8>, Fault> {
-    match (error.place(), error.inner_place()) {
+    let why = error.reason();
+    match (why.place(), why.inner_place()) {
         (Some(at), Some(inner)) => Ok(format!(in alloc; "{error} at {at} + {inner}")?.into_bytes()),
         (place, _) => refused(alloc, &error, place),
     }

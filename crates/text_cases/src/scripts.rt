@@ -6,6 +6,7 @@ ghost use Rattle.std.specs.Prelude.{◌≤◌, length};
 
 use case_lines::{Fault, add, quoted, refused, text_of};
 use edit_script::{Command, Step, read_script, read_steps};
+use plain_types::HasReason;
 use std::alloc::Global;
 
 /// A word and a text between quotes.
@@ -63,7 +64,7 @@ fn commands(alloc: Global, text: &[u8]) -> Result<Vec<u8>, Fault>
 {
     let commands = match read_script(alloc, text) {
         Ok(commands) => commands,
-        Err(error) => return refused(alloc, &error, error.place()),
+        Err(error) => return refused(alloc, &error, error.reason().place()),
     };
     let mut out = Vec::new(alloc);
     for one in &commands {
@@ -78,7 +79,7 @@ fn steps(alloc: Global, text: &[u8]) -> Result<Vec<u8>, Fault>
 {
     let steps = match read_steps(alloc, text) {
         Ok(steps) => steps,
-        Err(error) => return refused(alloc, &error, error.place()),
+        Err(error) => return refused(alloc, &error, error.reason().place()),
     };
     let mut out = Vec::new(alloc);
     for one in &steps {

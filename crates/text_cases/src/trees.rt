@@ -6,6 +6,7 @@
 ghost use Rattle.std.specs.Prelude.{◌≤◌, length};
 
 use case_lines::{Fault, add, first_word, quoted, refused, text_of, told};
+use plain_types::HasReason;
 use sexpr_read::{Doc, Node, parse_all, parse_one};
 use std::alloc::Global;
 
@@ -28,7 +29,7 @@ fn shown(alloc: Global, name: &str, text: &[u8]) -> Result<Vec<u8>, Fault>
     };
     match answer {
         Ok(doc) => tree(alloc, text.len(), &doc),
-        Err(error) => refused(alloc, &error, error.place()),
+        Err(error) => refused(alloc, &error, error.reason().place()),
     }
 }
 
@@ -82,7 +83,7 @@ fn asked(alloc: Global, name: &str, written: &str) -> Result<Vec<u8>, Fault> {
     let text = text_of(alloc, list)?;
     match parse_one(alloc, &text) {
         Ok(doc) => first_part(alloc, name, given, &doc),
-        Err(error) => refused(alloc, &error, error.place()),
+        Err(error) => refused(alloc, &error, error.reason().place()),
     }
 }
 

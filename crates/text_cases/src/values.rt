@@ -5,6 +5,7 @@
 
 use case_lines::{Fault, add, crosses_threads, first_word, quoted, refused, text_of};
 use json_exact::{Json, Value, parse};
+use plain_types::HasReason;
 use std::alloc::Global;
 
 /// The answer of the call of this name.
@@ -18,7 +19,7 @@ pub fn answer(alloc: Global, name: &str, written: &str) -> Result<Vec<u8>, Fault
     let text = text_of(alloc, text)?;
     match parse(alloc, &text) {
         Ok(json) => said(alloc, name, given, text.len(), &json),
-        Err(error) => refused(alloc, &error, error.place()),
+        Err(error) => refused(alloc, &error, error.reason().place()),
     }
 }
 

@@ -8,5 +8,5 @@ mod keeping;
 pub mod laws;
 mod stepping;
 
-pub use error::{HistoryError, InThree};
+pub use error::HistoryError;
 pub use history::History;

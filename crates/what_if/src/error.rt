@@ -1,7 +1,7 @@
 //! Why there is no trial.
 
 use drc_state::EditError;
-use plain_types::Reason;
+use plain_types::{HasReason, NewReason};
 use std::alloc::AllocError;
 use std::error::Error;
 use std::fmt;
@@ -15,33 +15,20 @@ pub enum TrialError {
     OutOfMemory,
 }
 
-impl TrialError {
-    ghost use Rattle.std.specs.Prelude.{◌≡◌};
-    ghost use Rattle.plain_types.specs.Reasons.{plain_reason};
-    ghost use Rattle.what_if.specs.Reasons.{reason_in, name_of, code_of};
+impl HasReason for TrialError {
+    ghost use Rattle.what_if.specs.Reasons.{trial_reason};
 
-    /// Its reason, which has no place: a command is told by its step.
-    fn reason(&self) -> Reason
-        ensures { plain_reason result ≡ reason_in self.now }
-    {
+    ghost reason_of = { trial_reason };
+
+    ghost depth = { 1 };
+
+    /// What it is called and its number. It has no place: a command is told by its step. Want of memory has no number, which
+    /// is written 0.
+    fn reason(&self) -> NewReason {
         match self {
-            TrialError::Refused { .. } => Reason::new("Refused", "31", None),
-            TrialError::OutOfMemory => Reason::new("OutOfMemory", "0", None),
+            TrialError::Refused { .. } => NewReason::new("Refused", 31, None),
+            TrialError::OutOfMemory => NewReason::new("OutOfMemory", 0, None),
         }
-    }
-
-    /// Its name.
-    pub fn name(&self) -> &'static str
-        ensures { result.now ≡ name_of self.now }
-    {
-        self.reason().name
-    }
-
-    /// Its number. Want of memory has none, which is written 0.
-    pub fn code(&self) -> &'static str
-        ensures { result.now ≡ code_of self.now }
-    {
-        self.reason().code
     }
 }
 
@@ -58,14 +45,13 @@ impl From<AllocError> for TrialError {
 
 impl fmt::Display for TrialError {
     ghost use Rattle.std.specs.Prelude.{Some};
-    ghost use Rattle.what_if.specs.Reasons.{reason_of};
+    ghost use Rattle.plain_types.specs.NewReasons.{written};
+    ghost use Rattle.what_if.specs.Reasons.{trial_reason};
 
-    ghost output = { λ e. Some (reason_of e) };
+    ghost output = { λ e. Some (written (trial_reason e)) };
 
     fn fmt<W: fmt::Write>(&self, f: &mut fmt::Formatter<W>) -> fmt::Result {
-        let name = self.name();
-        let code = self.code();
-        write!(f, "{name} ({code})")
+        write!(f, "{}", self.reason())
     }
 }
 
