@@ -1,6 +1,6 @@
 //! Why a script is refused.
 
-use plain_types::{HasReason, NewReason};
+use plain_types::{HasReason, Reason};
 use sexpr_read::TextError;
 use std::alloc::{AllocError, AllocFailed};
 use std::error::Error;
@@ -27,11 +27,11 @@ impl HasReason for ScriptError {
 
     /// What it is called, its number and its byte of the text; behind `Text` and 1 those of the text's refusal. Want of
     /// memory has no number, which is written 0, and no place.
-    fn reason(&self) -> NewReason {
+    fn reason(&self) -> Reason {
         match self {
             ScriptError::Text(error) => error.reason().behind("Text", 1),
-            ScriptError::Bad { at } => NewReason::new("Bad", 2, Some(*at)),
-            ScriptError::OutOfMemory => NewReason::new("OutOfMemory", 0, None),
+            ScriptError::Bad { at } => Reason::new("Bad", 2, Some(*at)),
+            ScriptError::OutOfMemory => Reason::new("OutOfMemory", 0, None),
         }
     }
 }
@@ -60,7 +60,7 @@ impl<T: Drop> From<AllocFailed<T>> for ScriptError {
 
 impl fmt::Display for ScriptError {
     ghost use Rattle.std.specs.Prelude.{Some};
-    ghost use Rattle.plain_types.specs.NewReasons.{written};
+    ghost use Rattle.plain_types.specs.Reasons.{written};
     ghost use Rattle.edit_script.specs.Reasons.{script_reason};
 
     ghost output = { λ e. Some (written (script_reason e)) };

@@ -1,7 +1,7 @@
 //! Why a project is refused.
 
 use json_exact::JsonError;
-use plain_types::{HasReason, NewReason};
+use plain_types::{HasReason, Reason};
 use std::alloc::{AllocError, AllocFailed};
 use std::error::Error;
 use std::fmt;
@@ -29,12 +29,12 @@ impl HasReason for ProjectError {
 
     /// What it is called, its number and its byte of the text; behind `Json` and 1 those of the text's refusal. Want of
     /// memory has no number, which is written 0, and no place.
-    fn reason(&self) -> NewReason {
+    fn reason(&self) -> Reason {
         match self {
             ProjectError::Json(error) => error.reason().behind("Json", 1),
-            ProjectError::Shape { at } => NewReason::new("Shape", 2, Some(*at)),
-            ProjectError::BadNumber { at } => NewReason::new("BadNumber", 3, Some(*at)),
-            ProjectError::OutOfMemory => NewReason::new("OutOfMemory", 0, None),
+            ProjectError::Shape { at } => Reason::new("Shape", 2, Some(*at)),
+            ProjectError::BadNumber { at } => Reason::new("BadNumber", 3, Some(*at)),
+            ProjectError::OutOfMemory => Reason::new("OutOfMemory", 0, None),
         }
     }
 }
@@ -63,7 +63,7 @@ impl<T: Drop> From<AllocFailed<T>> for ProjectError {
 
 impl fmt::Display for ProjectError {
     ghost use Rattle.std.specs.Prelude.{Some};
-    ghost use Rattle.plain_types.specs.NewReasons.{written};
+    ghost use Rattle.plain_types.specs.Reasons.{written};
     ghost use Rattle.net_class.specs.Reasons.{class_reason};
 
     ghost output = { λ e. Some (written (class_reason e)) };
