@@ -173,8 +173,9 @@ fn is_long(text: &[u8], parts: &DecimalParts<'_>) -> bool
 
 /// The number with its sign, unless it is too far from 0.
 fn bounded(negative: bool, whole: u64) -> Result<Nm, DecError>
-    ensures { result ≡ (if nat_lt 1000000000000 whole then Err DecError.TooWide else Ok
-        (signed negative whole)) }
+    ensures { result
+        ≡ (if nat_lt 1000000000000 whole then Err DecError.TooWide
+        else Ok (signed negative whole)) }
 {
     if whole > FARTHEST {
         return Err(DecError::TooWide);

@@ -8,20 +8,21 @@ ghost use Rattle.exact_dec.specs.Spelled.{spelled, HasDigits};
 
 /// What a decimal spells. A part that is not there has no digits.
 #[derive(Clone, Copy)]
-pub struct DecimalParts<'t> {
+pub(crate) struct DecimalParts<'t> {
     /// The sign is a minus.
-    pub negative: bool,
+    pub(crate) negative: bool,
     /// The digits before the point.
-    pub whole: &'t [u8],
+    pub(crate) whole: &'t [u8],
     /// The digits after the point.
-    pub fraction: &'t [u8],
+    pub(crate) fraction: &'t [u8],
     /// The sign of the exponent is a minus.
-    pub lowers: bool,
+    pub(crate) lowers: bool,
     /// The digits of the exponent.
-    pub exponent: &'t [u8],
+    pub(crate) exponent: &'t [u8],
 }
 
-pub fn begins_with_minus(text: &[u8]) -> bool
+/// Whether the first byte is a minus.
+pub(crate) fn begins_with_minus(text: &[u8]) -> bool
     ensures { result ≡ has_minus text.now }
 {
     match text {
@@ -30,7 +31,8 @@ pub fn begins_with_minus(text: &[u8]) -> bool
     }
 }
 
-pub fn skip_sign(text: &[u8]) -> &[u8]
+/// What stands behind a sign at the front.
+pub(crate) fn skip_sign(text: &[u8]) -> &[u8]
     ensures { result.now ≡ after_sign text.now }
 {
     match text {
@@ -63,7 +65,7 @@ fn split_point(text: &[u8]) -> (&[u8], &[u8])
 }
 
 /// Whether a text is one digit or more, and nothing else.
-pub fn is_all_digits(text: &[u8]) -> bool
+pub(crate) fn is_all_digits(text: &[u8]) -> bool
     ensures { result ≡ is_digits text.now }
 {
     for byte in text {
@@ -93,7 +95,7 @@ fn power(text: &[u8]) -> Option<(bool, &[u8])>
 }
 
 /// The parts of a text, or None where it is no decimal.
-pub fn take_apart(text: &[u8]) -> Option<DecimalParts<'_>>
+pub(crate) fn take_apart(text: &[u8]) -> Option<DecimalParts<'_>>
     ensures parts { MatchOption result (parts_of text.now ≡ None)
         (λ found. parts_of text.now ≡ Some (spelled found)) }
     ensures digits { IfSome result (λ found. HasDigits (spelled found)) }
@@ -114,7 +116,7 @@ pub fn take_apart(text: &[u8]) -> Option<DecimalParts<'_>>
 }
 
 /// Whether all digits are 0.
-pub fn is_zero(parts: &DecimalParts<'_>) -> bool
+pub(crate) fn is_zero(parts: &DecimalParts<'_>) -> bool
     requires { HasDigits (spelled parts.now) }
     ensures { MatchBool result
         (number (parts.now.whole.now ++ parts.now.fraction.now) ≡ 0)
@@ -123,6 +125,7 @@ pub fn is_zero(parts: &DecimalParts<'_>) -> bool
     are_zeros(parts.whole) && are_zeros(parts.fraction)
 }
 
+/// Whether each digit is 0.
 fn are_zeros(digits: &[u8]) -> bool
     requires { all_ascii_digits digits.now ≡ true }
     ensures { MatchBool result (number digits.now ≡ 0) (0 < number digits.now) }

@@ -12,9 +12,9 @@ const MOST_WHOLE: u64 = 100_000_000;
 
 /// The whole part of a quotient, and whether nothing is left over.
 #[derive(Clone, Copy)]
-pub struct Quotient {
-    pub whole: u64,
-    pub exact: bool,
+pub(crate) struct Quotient {
+    pub(crate) whole: u64,
+    pub(crate) exact: bool,
 }
 
 /// Nothing stands behind the last digit.
@@ -84,7 +84,7 @@ fn digits_behind(digits: &[u8], unit: u64, behind: Quotient) -> Quotient
     ensures below { result.whole ≤ unit }
     ensures divides { (n s : ℕ) → IsQuotient n (10 ^ s) behind.whole behind.exact →
         IsQuotient (unit * number digits.now * 10 ^ s + n)
-            (10 ^ (length digits.now + s)) result.whole result.exact }
+        (10 ^ (length digits.now + s)) result.whole result.exact }
 {
     let mut quotient = behind;
     let mut at = digits.len();
@@ -95,7 +95,7 @@ fn digits_behind(digits: &[u8], unit: u64, behind: Quotient) -> Quotient
     quotient
 }
 
-/// The same for so many zeros.
+/// What follows the point, with so many zeros put in front of it.
 fn zeros_behind(count: usize, unit: u64, behind: Quotient) -> Quotient
     requires unit { unit ≤ 1000000000 }
     requires below { behind.whole ≤ unit }
@@ -169,7 +169,7 @@ fn scaled_down(parts: &DecimalParts<'_>, by: usize, unit: u64) -> Option<Quotien
 
 /// The decimal, without its sign, times the unit: its whole part and whether nothing is left over. None
 /// where the decimal is above the most.
-pub fn scaled(parts: &DecimalParts<'_>, unit: u64) -> Option<Quotient>
+pub(crate) fn scaled(parts: &DecimalParts<'_>, unit: u64) -> Option<Quotient>
     requires unit { unit ≤ 1000000000 }
     requires digits { HasDigits (spelled parts.now) }
     requires short { length parts.now.exponent.now ≤ 3 }

@@ -9,9 +9,9 @@ use crate::parts::{begins_with_minus, skip_sign};
 
 /// A number of millimetres in whole nanometres, without its sign.
 #[derive(Clone, Copy)]
-pub struct Usual {
-    pub negative: bool,
-    pub nanometres: u64,
+pub(crate) struct Usual {
+    pub(crate) negative: bool,
+    pub(crate) nanometres: u64,
 }
 
 /// The digits at the front of a text, as a number.
@@ -78,7 +78,7 @@ fn fraction(text: &[u8]) -> Option<Run>
 }
 
 /// The number of a text of the usual spelling. Every other text is left to the general way.
-pub fn short(text: &[u8]) -> Option<Usual>
+pub(crate) fn short(text: &[u8]) -> Option<Usual>
     ensures { IfSome result (λ s. IsShort text.now s.negative s.nanometres) }
 {
     if text.len() > 64 {

@@ -4,7 +4,7 @@ ghost use Rattle.std.specs.Prelude.{◌≡◌};
 ghost use Rattle.exact_dec.specs.Computed.{before_unit, unit_of};
 
 /// Nanometres in a millimetre.
-pub const MILLIMETRE: u64 = 1_000_000;
+pub(crate) const MILLIMETRE: u64 = 1_000_000;
 
 /// Nanometres in a thousandth of an inch.
 const MIL: u64 = 25_400;
@@ -13,7 +13,7 @@ const MIL: u64 = 25_400;
 const INCH: u64 = 25_400_000;
 
 /// The text before a unit at its end, and how many nanometres the unit counts, 0 where there is none.
-pub fn split_unit(text: &[u8]) -> (&[u8], u64)
+pub(crate) fn split_unit(text: &[u8]) -> (&[u8], u64)
     ensures before { result.0.now ≡ before_unit text.now }
     ensures unit { result.1 ≡ unit_of text.now }
 {

@@ -1,10 +1,10 @@
-//! Pieces of a written number.
+//! Pieces of a length that is written: its sign, its last six digits, and how they are put together.
 
 ghost use Rattle.std.specs.Prelude.{◌≡◌, ◌+◌, ◌%◌, ◌≤◌, ◌++◌, ℕ, length, take, drop};
 ghost use Rattle.exact_dec.specs.Written.{minus_sign, six_digits};
 
 /// Writes a piece at a place, and gives the place behind it.
-pub fn put(out: &mut [u8], at: usize, piece: &[u8]) -> usize
+pub(crate) fn put(out: &mut [u8], at: usize, piece: &[u8]) -> usize
     requires { at + length piece.now ≤ length out.old }
     ensures end { result ≡ at + length piece.now }
     ensures front { take result out.new ≡ take at out.old ++ piece.now }
@@ -16,14 +16,14 @@ pub fn put(out: &mut [u8], at: usize, piece: &[u8]) -> usize
 }
 
 /// A minus before a number below 0.
-pub fn sign(nm: i64) -> &'static [u8]
+pub(crate) fn sign(nm: i64) -> &'static [u8]
     ensures { result.now ≡ minus_sign nm }
 {
     if nm < 0 { b"-" } else { b"" }
 }
 
 /// The last six decimal digits of a number.
-pub fn last_six(n: u64) -> [u8; 6]
+pub(crate) fn last_six(n: u64) -> [u8; 6]
     ensures { result ≡ six_digits n }
 {
     [

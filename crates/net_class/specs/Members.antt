@@ -86,10 +86,11 @@ length_at v = do
   n ← nanometres_at v
   if is_length n then Ok n else Err (BadNumber (begins_at v))
 
+-- the length of a member
 unfoldable pub length_in : List ℕ → Option Json → Result (Option ℤ) ProjectError
 length_in name v = read_if length_at (member_in name v)
 
--- the same, where a negative number counts as not there
+-- a length from 0 to 500 mm, or none for a number below 0
 unfoldable pub length_or_none_at : Json → Result (Option ℤ) ProjectError
 length_or_none_at v = do
   n ← nanometres_at v

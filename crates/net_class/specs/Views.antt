@@ -14,7 +14,7 @@ use Rattle.net_class.specs.declared.lengths.Draft.{Draft}
 use Rattle.net_class.specs.declared.lengths.Pattern.{Pattern}
 use Rattle.net_class.specs.Classes.{PlainClass, PlainMins, PlainPattern}
 use Rattle.net_class.specs.ClassesOf.{Written, is_named, Distances as PlainDistances, Sizes as PlainSizes}
-use Rattle.net_class.specs.declared.lengths.Length.{Length}
+use Rattle.plain_types.specs.declared.lengths.Length.{Length}
 use Rattle.net_class.specs.declared.mins.Distances.{Distances}
 use Rattle.net_class.specs.declared.mins.Sizes.{Sizes}
 
@@ -61,7 +61,7 @@ abbrev pub Leaves : {A T : Type 0} → Result T ProjectError → A → Result A 
 Leaves (Ok _) new answer = answer ≡ Ok new
 Leaves (Err e) new answer = (e ≡ OutOfMemory) ⊎ (answer ≡ Err e)
 
--- the same of a list of patterns
+-- the call gives patterns that stand for this answer, unless memory ran out
 abbrev pub GivesPatterns : Result (Vec Pattern Global) ProjectError → Result (List PlainPattern) ProjectError → Type 0
 GivesPatterns (Ok v) answer = answer ≡ Ok (map plain_pattern v.items)
 GivesPatterns (Err e) answer = (e ≡ OutOfMemory) ⊎ (answer ≡ Err e)

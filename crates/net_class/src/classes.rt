@@ -10,13 +10,14 @@ ghost use Rattle.net_class.specs.Views.{plain_class, plain_pattern, mins_of, jso
 
 use crate::drafts::Drafts;
 use crate::error::ProjectError;
-use crate::lengths::{Class, Length, Mins, Nm, Pattern};
+use crate::lengths::{Class, Mins, Nm, Pattern};
 use crate::members::object_in;
 use crate::mins::{PLAIN, rules_in};
 use crate::patterns::wild;
 use crate::reading::{patterns_in, written_in};
 use drc_io::Name;
 use json_exact::Value;
+use plain_types::Length;
 use std::alloc::{AllocError, Global};
 use std::marker::Model;
 
@@ -36,7 +37,12 @@ impl Model for Classes {
 
     ghost Value = { PlainClasses };
 
-    ghost view = { λ c. record { default = plain_class c.default; named = map plain_class c.named.items; patterns = map plain_pattern c.patterns.items; mins = mins_of c.mins } };
+    ghost view = { λ c. record {
+      default = plain_class c.default;
+      named = map plain_class c.named.items;
+      patterns = map plain_pattern c.patterns.items;
+      mins = mins_of c.mins;
+    } };
 }
 
 /// The class of this name, or the other.
@@ -107,6 +113,7 @@ fn copy_class(class: &Class) -> Result<Class, AllocError>
     })
 }
 
+/// Equal classes, in their order.
 fn copy_named(alloc: Global, named: &[Class]) -> Result<Vec<Class>, AllocError>
     ensures { IfOk result (λ copy. map plain_class copy.items ≡ map plain_class named.now) }
 {
@@ -127,6 +134,7 @@ fn copy_pattern(pattern: &Pattern) -> Result<Pattern, AllocError>
     })
 }
 
+/// Equal patterns, in their order.
 fn copy_patterns(alloc: Global, patterns: &[Pattern]) -> Result<Vec<Pattern>, AllocError>
     ensures { IfOk result (λ copy. map plain_pattern copy.items ≡ map plain_pattern patterns.now) }
 {

@@ -8,8 +8,9 @@ ghost use Rattle.plain_types.specs.Lengths.{IsLengthIfSome};
 ghost use Rattle.std.specs.String.{string_bytes};
 ghost use Rattle.net_class.specs.Views.{written_class, plain_class};
 
-use crate::lengths::{Class, Draft, Length, Nm};
+use crate::lengths::{Class, Draft, Nm};
 use drc_io::Name;
+use plain_types::Length;
 use std::alloc::{AllocError, Global};
 use std::collections::HashSet;
 use std::marker::Model;
@@ -69,6 +70,7 @@ fn default_clearance(drafts: &[Draft]) -> Length
     }
 }
 
+/// A class as it is written, which has this clearance where it says none.
 fn class_from(draft: Draft, default: Length) -> Class
     ensures { plain_class result ≡ class_from default.nm (written_class draft) }
 {
@@ -104,6 +106,7 @@ fn classes_from(
 impl Drafts {
     ghost use Rattle.std.specs.Prelude.{[]};
 
+    /// No class.
     pub(crate) fn new(alloc: Global) -> Drafts
         ensures { result ≡ [] }
     {
@@ -130,6 +133,7 @@ impl Drafts {
         }
     }
 
+    /// Adds a class, if none has its name.
     fn with_named(
         self,
         alloc: Global,

@@ -1,7 +1,7 @@
 //! Why a project is refused.
 
 use json_exact::JsonError;
-use plain_types::Reason;
+use plain_types::{HasReason, Reason};
 use std::alloc::{AllocError, AllocFailed};
 use std::error::Error;
 use std::fmt;
@@ -20,41 +20,22 @@ pub enum ProjectError {
     OutOfMemory,
 }
 
-impl ProjectError {
-    ghost use Rattle.std.specs.Prelude.{◌≡◌};
-    ghost use Rattle.plain_types.specs.Reasons.{plain_reason};
-    ghost use Rattle.net_class.specs.Reasons.{reason_in, name_of, code_of, project_place_of};
+impl HasReason for ProjectError {
+    ghost use Rattle.net_class.specs.Reasons.{class_reason};
 
-    fn reason(&self) -> Reason
-        ensures { plain_reason result ≡ reason_in self.now }
-    {
+    ghost reason_of = { class_reason };
+
+    ghost depth = { 2 };
+
+    /// What it is called, its number and its byte of the text; behind `Json` and 1 those of the text's refusal. Want of
+    /// memory has no number, which is written 0, and no place.
+    fn reason(&self) -> Reason {
         match self {
-            ProjectError::Json(error) => error.carried_reason(),
-            ProjectError::Shape { at } => Reason::new("Shape", "2", Some(*at)),
-            ProjectError::BadNumber { at } => Reason::new("BadNumber", "3", Some(*at)),
-            ProjectError::OutOfMemory => Reason::new("OutOfMemory", "0", None),
+            ProjectError::Json(error) => error.reason().behind("Json", 1),
+            ProjectError::Shape { at } => Reason::new("Shape", 2, Some(*at)),
+            ProjectError::BadNumber { at } => Reason::new("BadNumber", 3, Some(*at)),
+            ProjectError::OutOfMemory => Reason::new("OutOfMemory", 0, None),
         }
-    }
-
-    /// Its name; behind `Json.` that of the JSON text's refusal.
-    pub fn name(&self) -> &'static str
-        ensures { result.now ≡ name_of self.now }
-    {
-        self.reason().name
-    }
-
-    /// Its number; behind `1.` that of the JSON text's refusal. Want of memory has none, which is written 0.
-    pub fn code(&self) -> &'static str
-        ensures { result.now ≡ code_of self.now }
-    {
-        self.reason().code
-    }
-
-    /// Its byte of the text. Want of memory has no place.
-    pub fn place(&self) -> Option<u32>
-        ensures { result ≡ project_place_of self.now }
-    {
-        self.reason().place
     }
 }
 
@@ -82,14 +63,13 @@ impl<T: Drop> From<AllocFailed<T>> for ProjectError {
 
 impl fmt::Display for ProjectError {
     ghost use Rattle.std.specs.Prelude.{Some};
-    ghost use Rattle.net_class.specs.Reasons.{project_reason_of};
+    ghost use Rattle.plain_types.specs.Reasons.{written};
+    ghost use Rattle.net_class.specs.Reasons.{class_reason};
 
-    ghost output = { λ e. Some (project_reason_of e) };
+    ghost output = { λ e. Some (written (class_reason e)) };
 
     fn fmt<W: fmt::Write>(&self, f: &mut fmt::Formatter<W>) -> fmt::Result {
-        let name = self.name();
-        let code = self.code();
-        write!(f, "{name} ({code})")
+        write!(f, "{}", self.reason())
     }
 }
 

@@ -56,10 +56,3 @@ pub(crate) struct Pattern {
     pub(crate) class: Name,
     pub(crate) pattern: Name,
 }
-
-/// A length from 0 to 500 mm.
-#[derive(Clone, Copy, Drop)]
-pub(crate) struct Length {
-    pub(crate) nm: Nm,
-    ghost in_range: { IsLength nm },
-}

@@ -4,7 +4,8 @@
 //! whole nanometres here, to the nearest. What a project says is defined in `specs/ClassesOf`.
 #![tactic(auto)]
 
-ghost use Rattle.std.specs.Prelude.{◌≡◌, ◌≤◌, ◌⊎◌, length, MatchResult, Result, Ok, Err};
+ghost use Rattle.std.specs.Prelude.{◌≡◌, ◌⊎◌, MatchResult, Result, Ok, Err};
+ghost use Rattle.plain_types.specs.Limits.{IsReadable};
 ghost use Rattle.net_class.specs.declared.error.ProjectError.{ProjectError};
 ghost use Rattle.net_class.specs.Classes.{PlainClasses};
 ghost use Rattle.net_class.specs.ProjectText.{ProjectSays, refusal_of};
@@ -31,7 +32,7 @@ use std::alloc::Global;
 /// place. The reasons are those of [`ProjectError`], exactly where `specs/ProjectText` has them; want of memory alone is
 /// free.
 pub fn read_project(alloc: Global, text: &[u8]) -> Result<Classes, ProjectError>
-    requires { length text.now ≤ 33_554_432 }
+    requires { IsReadable text.now }
     ensures says { MatchResult result (λ classes. ProjectSays text.now (Ok classes))
         (λ e. (e ≡ ProjectError.OutOfMemory) ⊎ ProjectSays text.now (Err e)) }
     ensures only { (answer : Result PlainClasses ProjectError) → ProjectSays text.now answer

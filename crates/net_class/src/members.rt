@@ -15,12 +15,14 @@ use json_exact::Value;
 use plain_types::is_length;
 use std::alloc::Global;
 
+/// The value is of no kind that is wanted here.
 fn shape(v: Value<'_, '_>) -> ProjectError
     ensures { result ≡ ProjectError.Shape (begins_at (json_of v.entry)) }
 {
     ProjectError::Shape { at: v.span().at }
 }
 
+/// The number is refused.
 fn bad_number(v: Value<'_, '_>) -> ProjectError
     ensures { result ≡ ProjectError.BadNumber (begins_at (json_of v.entry)) }
 {
@@ -58,6 +60,7 @@ fn object_if<'j, 't>(v: Option<Value<'j, 't>>) -> Result<Option<Value<'j, 't>>, 
     }
 }
 
+/// The object of a member.
 #[tactic(auto, unfolding(crate::specs::Members::object_in))]
 pub(crate) fn object_in<'j, 't>(
     object: Option<Value<'j, 't>>,
@@ -68,6 +71,7 @@ pub(crate) fn object_in<'j, 't>(
     object_if(member_in(object, name))
 }
 
+/// The list of a member.
 #[tactic(auto, unfolding(crate::specs::Members::list_in))]
 pub(crate) fn list_in<'j, 't>(
     object: Option<Value<'j, 't>>,
@@ -179,7 +183,7 @@ fn length_or_none_at(v: Value<'_, '_>) -> Result<Option<Nm>, ProjectError>
     }
 }
 
-/// The same of a member.
+/// The length of a member, or none for a number below 0.
 #[tactic(auto, unfolding(crate::specs::Members::length_or_none_in))]
 pub(crate) fn length_or_none_in(
     object: Option<Value<'_, '_>>,

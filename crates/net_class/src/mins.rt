@@ -6,9 +6,10 @@ ghost use Rattle.net_class.specs.ClassesOf.{or_plain, distances_in, sizes_in, mi
 ghost use Rattle.net_class.specs.Views.{json_if, length_read, distances_read, sizes_read, mins_read};
 
 use crate::error::ProjectError;
-use crate::lengths::{Length, Mins};
+use crate::lengths::Mins;
 use crate::members::{length_in, length_or_none_in, object_in};
 use json_exact::Value;
+use plain_types::Length;
 
 /// Without a project.
 pub(crate) const PLAIN: Mins = Mins {
@@ -50,7 +51,8 @@ fn min_in(rules: Option<Value<'_, '_>>, name: &[u8], plain: Length) -> Result<Le
     }
 }
 
-/// The same of the distance from the edge: a negative one counts as not there.
+/// The distance from the edge that a member says, or the plain one where it is not there. A negative one counts as not
+/// there.
 fn edge_in(rules: Option<Value<'_, '_>>, name: &[u8], plain: Length) -> Result<Length, ProjectError>
     ensures { length_read result
         ≡ or_plain (length_or_none_in name.now (json_if rules.entry)) plain.nm }
@@ -61,6 +63,7 @@ fn edge_in(rules: Option<Value<'_, '_>>, name: &[u8], plain: Length) -> Result<L
     }
 }
 
+/// The least distances of the rules.
 #[tactic(auto, unfolding(crate::specs::ClassesOf::distances_in))]
 fn distances_in(rules: Option<Value<'_, '_>>) -> Result<Distances, ProjectError>
     ensures { distances_read result ≡ distances_in (json_if rules.entry) }
@@ -77,6 +80,7 @@ fn distances_in(rules: Option<Value<'_, '_>>) -> Result<Distances, ProjectError>
     })
 }
 
+/// The least sizes of the rules.
 #[tactic(auto, unfolding(crate::specs::ClassesOf::sizes_in))]
 fn sizes_in(rules: Option<Value<'_, '_>>) -> Result<Sizes, ProjectError>
     ensures { sizes_read result ≡ sizes_in (json_if rules.entry) }
@@ -93,6 +97,7 @@ fn sizes_in(rules: Option<Value<'_, '_>>) -> Result<Sizes, ProjectError>
     })
 }
 
+/// The least distances and sizes of the rules.
 #[tactic(auto, unfolding(crate::specs::ClassesOf::mins_in))]
 fn mins_in(rules: Option<Value<'_, '_>>) -> Result<Mins, ProjectError>
     ensures { mins_read result ≡ mins_in (json_if rules.entry) }

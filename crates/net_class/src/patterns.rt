@@ -1,4 +1,4 @@
-//! Patterns of names.
+//! Which names a pattern with `*` and `?` matches.
 
 ghost use Rattle.std.specs.Prelude.{◌≡◌, ◌↔◌, ◌<◌, ◌≤◌, IsTrue, IfSome, MatchOption, None, Some, false, length, slice_index};
 ghost use Rattle.net_class.specs.Wild.{Matches, matches, sign_of, is_same, continues, next_character};
@@ -30,6 +30,7 @@ fn next_character(text: &[u8]) -> &[u8]
     &text[text.len()..]
 }
 
+/// Whether two bytes are the same; with `fold`, also the same letter of ASCII in two cases.
 fn is_same(fold: bool, a: u8, b: u8) -> bool
     ensures { result ≡ is_same fold a b }
 {
@@ -84,7 +85,7 @@ fn run<'p, 'n>(pattern: &'p [u8], name: &'n [u8], fold: bool) -> Option<Rests<'p
     })
 }
 
-/// The same, where it goes up to a `*` or to the end of both.
+/// Matches the pattern up to its next `*`, or to the end of both.
 fn whole_run<'p, 'n>(pattern: &'p [u8], name: &'n [u8], fold: bool) -> Option<Rests<'p, 'n>>
     ensures found { MatchOption result (matches fold pattern.now name.now ≡ false)
         (λ r. matches_an_end fold pattern.now name.now ≡ matches fold r.pattern.now r.name.now) }

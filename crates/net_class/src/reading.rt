@@ -1,4 +1,4 @@
-//! The members of a project, read in their order.
+//! The classes and the patterns of a project, read in their order.
 
 ghost use Rattle.std.specs.Prelude.{◌≡◌, [], map, OnOk};
 ghost use Rattle.json_exact.specs.Json.{items};
@@ -29,6 +29,7 @@ fn with_class(alloc: Global, drafts: Drafts, v: Value<'_, '_>) -> Result<Drafts,
     Ok(drafts)
 }
 
+/// The entries of the list of classes.
 fn read_classes(alloc: Global, list: Value<'_, '_>) -> Result<Drafts, ProjectError>
     ensures { Gives result (with_classes [] (items (json_of list.entry))) }
 {
@@ -92,6 +93,7 @@ fn read_pattern(
     Ok(())
 }
 
+/// The entries of the list of patterns.
 fn read_patterns(alloc: Global, list: Value<'_, '_>) -> Result<Vec<Pattern>, ProjectError>
     ensures { GivesPatterns result (with_patterns [] (items (json_of list.entry))) }
 {
