@@ -1,7 +1,7 @@
 -- Why items and boards are refused: what each refusal is called, its number, and its place in the text. A refusal of the text
 -- is the first of those of a board, and stands behind it.
 use Rattle.std.specs.Prelude.{codes}
-use Rattle.plain_types.specs.NewReasons.{NewPlainReason, refused_at, refused_nowhere, carried}
+use Rattle.plain_types.specs.Reasons.{PlainReason, refused_at, refused_nowhere, carried}
 use Rattle.sexpr_read.specs.Reasons.{text_reason}
 use Rattle.board_errors.specs.declared.errors.ItemError.{ItemError}
 use Rattle.board_errors.specs.declared.errors.ItemError.TheVariants.{OutOfBoard as ItemOutOfBoard, UnknownNet as ItemUnknownNet, UnknownLayer as ItemUnknownLayer, TooMany as ItemTooMany, OutOfMemory as ItemOutOfMemory}
@@ -9,7 +9,7 @@ use Rattle.board_errors.specs.declared.errors.BoardError.{BoardError}
 use Rattle.board_errors.specs.declared.errors.BoardError.TheVariants.{Text, NotABoard, Version, Missing, BadNumber, OutOfBoard, Arc, Turned, PadShape, Ring, UnknownNet, UnknownLayer, ThickFill, TooMany, OutOfMemory}
 
 -- an item that is not taken stands in no text; want of memory has no number, which is written 0
-abbrev pub item_reason : ItemError → NewPlainReason
+abbrev pub item_reason : ItemError → PlainReason
 item_reason ItemOutOfBoard = refused_nowhere (codes "OutOfBoard") 1
 item_reason ItemUnknownNet = refused_nowhere (codes "UnknownNet") 2
 item_reason ItemUnknownLayer = refused_nowhere (codes "UnknownLayer") 3
@@ -17,7 +17,7 @@ item_reason ItemTooMany = refused_nowhere (codes "TooMany") 4
 item_reason ItemOutOfMemory = refused_nowhere (codes "OutOfMemory") 0
 
 -- want of memory has no number, which is written 0, and no place
-abbrev pub board_reason : BoardError → NewPlainReason
+abbrev pub board_reason : BoardError → PlainReason
 board_reason (Text e) = carried (codes "Text") 1 (text_reason e)
 board_reason (NotABoard at) = refused_at (codes "NotABoard") 2 at
 board_reason (Version at) = refused_at (codes "Version") 3 at

@@ -1,6 +1,6 @@
 //! Why an item or a board is refused.
 
-use plain_types::{HasReason, NewReason};
+use plain_types::{HasReason, Reason};
 use sexpr_read::TextError;
 use std::alloc::{AllocError, AllocFailed};
 use std::error::Error;
@@ -30,20 +30,20 @@ impl HasReason for ItemError {
 
     /// What it is called and its number. It has no place: an item that is not taken stands in no text. Want of memory has
     /// no number, which is written 0.
-    fn reason(&self) -> NewReason {
+    fn reason(&self) -> Reason {
         match self {
-            ItemError::OutOfBoard => NewReason::new("OutOfBoard", 1, None),
-            ItemError::UnknownNet => NewReason::new("UnknownNet", 2, None),
-            ItemError::UnknownLayer => NewReason::new("UnknownLayer", 3, None),
-            ItemError::TooMany => NewReason::new("TooMany", 4, None),
-            ItemError::OutOfMemory => NewReason::new("OutOfMemory", 0, None),
+            ItemError::OutOfBoard => Reason::new("OutOfBoard", 1, None),
+            ItemError::UnknownNet => Reason::new("UnknownNet", 2, None),
+            ItemError::UnknownLayer => Reason::new("UnknownLayer", 3, None),
+            ItemError::TooMany => Reason::new("TooMany", 4, None),
+            ItemError::OutOfMemory => Reason::new("OutOfMemory", 0, None),
         }
     }
 }
 
 impl fmt::Display for ItemError {
     ghost use Rattle.std.specs.Prelude.{Some};
-    ghost use Rattle.plain_types.specs.NewReasons.{written};
+    ghost use Rattle.plain_types.specs.Reasons.{written};
     ghost use Rattle.board_errors.specs.Reasons.{item_reason};
 
     ghost output = { λ e. Some (written (item_reason e)) };
@@ -122,30 +122,30 @@ impl HasReason for BoardError {
 
     /// What it is called, its number and its byte of the text. Want of memory has no number, which is written 0, and no
     /// place.
-    fn reason(&self) -> NewReason {
+    fn reason(&self) -> Reason {
         match self {
             BoardError::Text(error) => error.reason().behind("Text", 1),
-            BoardError::NotABoard { at } => NewReason::new("NotABoard", 2, Some(*at)),
-            BoardError::Version { at } => NewReason::new("Version", 3, Some(*at)),
-            BoardError::Missing { at } => NewReason::new("Missing", 4, Some(*at)),
-            BoardError::BadNumber { at } => NewReason::new("BadNumber", 5, Some(*at)),
-            BoardError::OutOfBoard { at } => NewReason::new("OutOfBoard", 6, Some(*at)),
-            BoardError::Arc { at } => NewReason::new("Arc", 7, Some(*at)),
-            BoardError::Turned { at } => NewReason::new("Turned", 8, Some(*at)),
-            BoardError::PadShape { at } => NewReason::new("PadShape", 9, Some(*at)),
-            BoardError::Ring { at } => NewReason::new("Ring", 10, Some(*at)),
-            BoardError::UnknownNet { at } => NewReason::new("UnknownNet", 11, Some(*at)),
-            BoardError::UnknownLayer { at } => NewReason::new("UnknownLayer", 12, Some(*at)),
-            BoardError::ThickFill { at } => NewReason::new("ThickFill", 13, Some(*at)),
-            BoardError::TooMany { at } => NewReason::new("TooMany", 14, Some(*at)),
-            BoardError::OutOfMemory => NewReason::new("OutOfMemory", 0, None),
+            BoardError::NotABoard { at } => Reason::new("NotABoard", 2, Some(*at)),
+            BoardError::Version { at } => Reason::new("Version", 3, Some(*at)),
+            BoardError::Missing { at } => Reason::new("Missing", 4, Some(*at)),
+            BoardError::BadNumber { at } => Reason::new("BadNumber", 5, Some(*at)),
+            BoardError::OutOfBoard { at } => Reason::new("OutOfBoard", 6, Some(*at)),
+            BoardError::Arc { at } => Reason::new("Arc", 7, Some(*at)),
+            BoardError::Turned { at } => Reason::new("Turned", 8, Some(*at)),
+            BoardError::PadShape { at } => Reason::new("PadShape", 9, Some(*at)),
+            BoardError::Ring { at } => Reason::new("Ring", 10, Some(*at)),
+            BoardError::UnknownNet { at } => Reason::new("UnknownNet", 11, Some(*at)),
+            BoardError::UnknownLayer { at } => Reason::new("UnknownLayer", 12, Some(*at)),
+            BoardError::ThickFill { at } => Reason::new("ThickFill", 13, Some(*at)),
+            BoardError::TooMany { at } => Reason::new("TooMany", 14, Some(*at)),
+            BoardError::OutOfMemory => Reason::new("OutOfMemory", 0, None),
         }
     }
 }
 
 impl fmt::Display for BoardError {
     ghost use Rattle.std.specs.Prelude.{Some};
-    ghost use Rattle.plain_types.specs.NewReasons.{written};
+    ghost use Rattle.plain_types.specs.Reasons.{written};
     ghost use Rattle.board_errors.specs.Reasons.{board_reason};
 
     ghost output = { λ e. Some (written (board_reason e)) };

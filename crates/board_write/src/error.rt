@@ -2,7 +2,7 @@
 
 use board_items::BoardError;
 use drc_io::Failed;
-use plain_types::{HasReason, NewReason};
+use plain_types::{HasReason, Reason};
 use std::alloc::AllocError;
 use std::error::Error;
 use std::fmt;
@@ -27,11 +27,11 @@ impl HasReason for WriteError {
 
     /// What it is called, its number and the byte of the text at which a board is refused. Want of memory has no number,
     /// which is written 0.
-    fn reason(&self) -> NewReason {
+    fn reason(&self) -> Reason {
         match self {
             WriteError::Board(error) => error.reason().behind("Board", 21),
-            WriteError::Failed => NewReason::new("Failed", 22, None),
-            WriteError::OutOfMemory => NewReason::new("OutOfMemory", 0, None),
+            WriteError::Failed => Reason::new("Failed", 22, None),
+            WriteError::OutOfMemory => Reason::new("OutOfMemory", 0, None),
         }
     }
 }
@@ -74,7 +74,7 @@ impl From<Failed> for WriteError {
 
 impl fmt::Display for WriteError {
     ghost use Rattle.std.specs.Prelude.{Some};
-    ghost use Rattle.plain_types.specs.NewReasons.{written};
+    ghost use Rattle.plain_types.specs.Reasons.{written};
     ghost use Rattle.board_write.specs.Reasons.{write_reason};
 
     ghost output = { λ e. Some (written (write_reason e)) };

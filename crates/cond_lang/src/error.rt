@@ -1,6 +1,6 @@
 //! Why a text is no condition.
 
-use plain_types::{HasReason, NewReason};
+use plain_types::{HasReason, Reason};
 use std::alloc::{AllocError, AllocFailed};
 use std::error::Error;
 use std::fmt;
@@ -29,13 +29,13 @@ impl HasReason for CondError {
 
     /// What it is called, its number and its byte of the text. Want of memory has no number, which is written 0, and no
     /// place.
-    fn reason(&self) -> NewReason {
+    fn reason(&self) -> Reason {
         match self {
-            CondError::Bad { at } => NewReason::new("Bad", 1, Some(*at)),
-            CondError::UnknownName { at } => NewReason::new("UnknownName", 2, Some(*at)),
-            CondError::TypeClash { at } => NewReason::new("TypeClash", 3, Some(*at)),
-            CondError::TooDeep { at } => NewReason::new("TooDeep", 4, Some(*at)),
-            CondError::OutOfMemory => NewReason::new("OutOfMemory", 0, None),
+            CondError::Bad { at } => Reason::new("Bad", 1, Some(*at)),
+            CondError::UnknownName { at } => Reason::new("UnknownName", 2, Some(*at)),
+            CondError::TypeClash { at } => Reason::new("TypeClash", 3, Some(*at)),
+            CondError::TooDeep { at } => Reason::new("TooDeep", 4, Some(*at)),
+            CondError::OutOfMemory => Reason::new("OutOfMemory", 0, None),
         }
     }
 }
@@ -64,7 +64,7 @@ impl<T: Drop> From<AllocFailed<T>> for CondError {
 
 impl fmt::Display for CondError {
     ghost use Rattle.std.specs.Prelude.{Some};
-    ghost use Rattle.plain_types.specs.NewReasons.{written};
+    ghost use Rattle.plain_types.specs.Reasons.{written};
     ghost use Rattle.cond_lang.specs.Reasons.{cond_reason};
 
     ghost output = { λ e. Some (written (cond_reason e)) };

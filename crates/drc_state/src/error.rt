@@ -2,7 +2,7 @@
 
 use board_edits::Refusal;
 use board_items::BoardError;
-use plain_types::{HasReason, NewReason};
+use plain_types::{HasReason, Reason};
 use rule_text::RuleError;
 use std::alloc::AllocError;
 use std::error::Error;
@@ -37,15 +37,15 @@ impl HasReason for EditError {
 
     /// What it is called, its number and its byte of the text that it came from. A unit that is not found has no place.
     /// Want of memory has no number, which is written 0, and no place.
-    fn reason(&self) -> NewReason {
+    fn reason(&self) -> Reason {
         match self {
-            EditError::NoSuchItem => NewReason::new("NoSuchItem", 1, None),
-            EditError::SharedName => NewReason::new("SharedName", 2, None),
-            EditError::PartOfFootprint => NewReason::new("PartOfFootprint", 3, None),
+            EditError::NoSuchItem => Reason::new("NoSuchItem", 1, None),
+            EditError::SharedName => Reason::new("SharedName", 2, None),
+            EditError::PartOfFootprint => Reason::new("PartOfFootprint", 3, None),
             EditError::Item(error) => error.reason().behind("Item", 4),
             EditError::Rules(error) => error.reason().behind("Rules", 5),
-            EditError::Stopped => NewReason::new("Stopped", 6, None),
-            EditError::OutOfMemory => NewReason::new("OutOfMemory", 0, None),
+            EditError::Stopped => Reason::new("Stopped", 6, None),
+            EditError::OutOfMemory => Reason::new("OutOfMemory", 0, None),
         }
     }
 }
@@ -80,7 +80,7 @@ impl From<AllocError> for EditError {
 
 impl fmt::Display for EditError {
     ghost use Rattle.std.specs.Prelude.{Some};
-    ghost use Rattle.plain_types.specs.NewReasons.{written};
+    ghost use Rattle.plain_types.specs.Reasons.{written};
     ghost use Rattle.drc_state.specs.Reasons.{edit_reason};
 
     ghost output = { λ e. Some (written (edit_reason e)) };

@@ -1,6 +1,6 @@
 //! Why a text was refused.
 
-use plain_types::{HasReason, NewReason};
+use plain_types::{HasReason, Reason};
 use std::alloc::{AllocError, AllocFailed};
 use std::fmt;
 
@@ -26,11 +26,11 @@ impl HasReason for JsonError {
 
     /// What it is called, its number and its byte of the text. Want of memory has no number, which is written 0, and
     /// no place.
-    fn reason(&self) -> NewReason {
+    fn reason(&self) -> Reason {
         match self {
-            JsonError::Bad { at } => NewReason::new("Bad", 1, Some(*at)),
-            JsonError::TooDeep { at } => NewReason::new("TooDeep", 2, Some(*at)),
-            JsonError::OutOfMemory => NewReason::new("OutOfMemory", 0, None),
+            JsonError::Bad { at } => Reason::new("Bad", 1, Some(*at)),
+            JsonError::TooDeep { at } => Reason::new("TooDeep", 2, Some(*at)),
+            JsonError::OutOfMemory => Reason::new("OutOfMemory", 0, None),
         }
     }
 }
@@ -59,7 +59,7 @@ impl<T: Drop> From<AllocFailed<T>> for JsonError {
 
 impl fmt::Display for JsonError {
     ghost use Rattle.std.specs.Prelude.{Some};
-    ghost use Rattle.plain_types.specs.NewReasons.{written};
+    ghost use Rattle.plain_types.specs.Reasons.{written};
     ghost use Rattle.json_exact.specs.Reasons.{json_reason};
 
     ghost output = { λ e. Some (written (json_reason e)) };

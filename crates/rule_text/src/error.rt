@@ -1,7 +1,7 @@
 //! Why a rule file is refused.
 
 use cond_lang::CondError;
-use plain_types::{HasReason, NewReason};
+use plain_types::{HasReason, Reason};
 use sexpr_read::TextError;
 use std::alloc::{AllocError, AllocFailed};
 use std::error::Error;
@@ -34,14 +34,14 @@ impl HasReason for RuleError {
 
     /// What it is called, its number and its byte of the text: for a condition that where its text begins, and its inner
     /// place is counted in what that text stands for. Want of memory has no number, which is written 0, and no place.
-    fn reason(&self) -> NewReason {
+    fn reason(&self) -> Reason {
         match self {
             RuleError::Text(error) => error.reason().behind("Text", 1),
-            RuleError::Version { at } => NewReason::new("Version", 2, Some(*at)),
-            RuleError::Bad { at } => NewReason::new("Bad", 3, Some(*at)),
+            RuleError::Version { at } => Reason::new("Version", 2, Some(*at)),
+            RuleError::Bad { at } => Reason::new("Bad", 3, Some(*at)),
             RuleError::Cond { at, inner } => inner.reason().behind("Cond", 4).inside(*at),
-            RuleError::BadNumber { at } => NewReason::new("BadNumber", 5, Some(*at)),
-            RuleError::OutOfMemory => NewReason::new("OutOfMemory", 0, None),
+            RuleError::BadNumber { at } => Reason::new("BadNumber", 5, Some(*at)),
+            RuleError::OutOfMemory => Reason::new("OutOfMemory", 0, None),
         }
     }
 }
@@ -70,7 +70,7 @@ impl<T: Drop> From<AllocFailed<T>> for RuleError {
 
 impl fmt::Display for RuleError {
     ghost use Rattle.std.specs.Prelude.{Some};
-    ghost use Rattle.plain_types.specs.NewReasons.{written};
+    ghost use Rattle.plain_types.specs.Reasons.{written};
     ghost use Rattle.rule_text.specs.Reasons.{rules_reason};
 
     ghost output = { λ e. Some (written (rules_reason e)) };

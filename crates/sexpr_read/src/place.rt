@@ -1,6 +1,6 @@
 //! Places in a text, and why one is refused.
 
-use plain_types::{HasReason, NewReason};
+use plain_types::{HasReason, Reason};
 use std::alloc::AllocError;
 use std::error::Error;
 use std::fmt;
@@ -41,22 +41,22 @@ impl HasReason for TextError {
 
     /// What it is called, its number and its byte of the text. Want of memory has no number, which is written 0, and
     /// no place. An empty text is refused at 0.
-    fn reason(&self) -> NewReason {
+    fn reason(&self) -> Reason {
         match self {
-            TextError::NotUtf8 { at } => NewReason::new("NotUtf8", 1, Some(*at)),
-            TextError::CloseWithoutOpen { at } => NewReason::new("CloseWithoutOpen", 2, Some(*at)),
-            TextError::EndInside { at } => NewReason::new("EndInside", 3, Some(*at)),
-            TextError::TooDeep { at } => NewReason::new("TooDeep", 4, Some(*at)),
-            TextError::ExtraText { at } => NewReason::new("ExtraText", 5, Some(*at)),
-            TextError::EmptyText => NewReason::new("EmptyText", 6, Some(0)),
-            TextError::OutOfMemory => NewReason::new("OutOfMemory", 0, None),
+            TextError::NotUtf8 { at } => Reason::new("NotUtf8", 1, Some(*at)),
+            TextError::CloseWithoutOpen { at } => Reason::new("CloseWithoutOpen", 2, Some(*at)),
+            TextError::EndInside { at } => Reason::new("EndInside", 3, Some(*at)),
+            TextError::TooDeep { at } => Reason::new("TooDeep", 4, Some(*at)),
+            TextError::ExtraText { at } => Reason::new("ExtraText", 5, Some(*at)),
+            TextError::EmptyText => Reason::new("EmptyText", 6, Some(0)),
+            TextError::OutOfMemory => Reason::new("OutOfMemory", 0, None),
         }
     }
 }
 
 impl fmt::Display for TextError {
     ghost use Rattle.std.specs.Prelude.{Some};
-    ghost use Rattle.plain_types.specs.NewReasons.{written};
+    ghost use Rattle.plain_types.specs.Reasons.{written};
     ghost use Rattle.sexpr_read.specs.Reasons.{text_reason};
 
     ghost output = { λ e. Some (written (text_reason e)) };

@@ -1,7 +1,7 @@
 //! Why a step of a history is not taken.
 
 use drc_state::EditError;
-use plain_types::{HasReason, NewReason};
+use plain_types::{HasReason, Reason};
 use std::alloc::AllocError;
 use std::error::Error;
 use std::fmt;
@@ -31,13 +31,13 @@ impl HasReason for HistoryError {
 
     /// What it is called, its number and the byte of the text that a refused command came from, where its refusal has one.
     /// Want of memory has no number, which is written 0.
-    fn reason(&self) -> NewReason {
+    fn reason(&self) -> Reason {
         match self {
             HistoryError::Edit(error) => error.reason().behind("Edit", 10),
-            HistoryError::NothingToUndo => NewReason::new("NothingToUndo", 11, None),
-            HistoryError::NothingToRedo => NewReason::new("NothingToRedo", 12, None),
-            HistoryError::Stopped => NewReason::new("Stopped", 13, None),
-            HistoryError::OutOfMemory => NewReason::new("OutOfMemory", 0, None),
+            HistoryError::NothingToUndo => Reason::new("NothingToUndo", 11, None),
+            HistoryError::NothingToRedo => Reason::new("NothingToRedo", 12, None),
+            HistoryError::Stopped => Reason::new("Stopped", 13, None),
+            HistoryError::OutOfMemory => Reason::new("OutOfMemory", 0, None),
         }
     }
 }
@@ -55,7 +55,7 @@ impl From<AllocError> for HistoryError {
 
 impl fmt::Display for HistoryError {
     ghost use Rattle.std.specs.Prelude.{Some};
-    ghost use Rattle.plain_types.specs.NewReasons.{written};
+    ghost use Rattle.plain_types.specs.Reasons.{written};
     ghost use Rattle.undo_log.specs.Reasons.{step_reason};
 
     ghost output = { λ e. Some (written (step_reason e)) };

@@ -1,7 +1,7 @@
 //! Why there is no trial.
 
 use drc_state::EditError;
-use plain_types::{HasReason, NewReason};
+use plain_types::{HasReason, Reason};
 use std::alloc::AllocError;
 use std::error::Error;
 use std::fmt;
@@ -24,10 +24,10 @@ impl HasReason for TrialError {
 
     /// What it is called and its number. It has no place: a command is told by its step. Want of memory has no number, which
     /// is written 0.
-    fn reason(&self) -> NewReason {
+    fn reason(&self) -> Reason {
         match self {
-            TrialError::Refused { .. } => NewReason::new("Refused", 31, None),
-            TrialError::OutOfMemory => NewReason::new("OutOfMemory", 0, None),
+            TrialError::Refused { .. } => Reason::new("Refused", 31, None),
+            TrialError::OutOfMemory => Reason::new("OutOfMemory", 0, None),
         }
     }
 }
@@ -45,7 +45,7 @@ impl From<AllocError> for TrialError {
 
 impl fmt::Display for TrialError {
     ghost use Rattle.std.specs.Prelude.{Some};
-    ghost use Rattle.plain_types.specs.NewReasons.{written};
+    ghost use Rattle.plain_types.specs.Reasons.{written};
     ghost use Rattle.what_if.specs.Reasons.{trial_reason};
 
     ghost output = { λ e. Some (written (trial_reason e)) };
