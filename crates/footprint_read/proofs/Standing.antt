@@ -18,7 +18,7 @@ use Rattle.list_read.specs.Answers.{◌>>=◌}
 use Rattle.list_read.specs.Heads.{place}
 use Rattle.part_read.specs.Elements.{name_in}
 use Rattle.part_read.specs.OnBoard.{fits_board}
-use Rattle.part_read.specs.Stances.{IsWithin}
+use Rattle.part_read.specs.Stances.{IsReadSpot, IsStanceSpot}
 use Rattle.part_read.specs.Ready.{IsReady, AreReady}
 use Rattle.part_read.specs.Room.{has_room_after}
 use Rattle.part_read.proofs.Layering.{none_within}
@@ -100,7 +100,7 @@ all_ready board unit head tree given front back net fits hf hb h =
 pub none_ready : (board : PlainBoard) (unit : ℕ) → All (IsReady board unit) (items_of [])
 none_ready board unit = All-nil (IsReady board unit)
 
-pub wider : (s : Spot) → IsWithin 1000000000000 s → IsWithin 3000000000000 s
+pub wider : (s : Spot) → IsReadSpot s → IsStanceSpot s
 wider s h =
     let x = h.x in
     let y = h.y in

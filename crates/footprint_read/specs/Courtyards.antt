@@ -36,6 +36,7 @@ use Rattle.footprint_read.specs.declared.courts.Court.TheVariants.{Unchecked, Pa
 
 -- ---- what a list on the layer of a courtyard gives its side
 
+-- a side of which nothing was read
 abbrev pub empty_side : CourtSide
 empty_side = record { curved = false; drawings = []; lines = [] }
 
@@ -43,6 +44,7 @@ empty_side = record { curved = false; drawings = []; lines = [] }
 abbrev pub side_then : CourtSide → CourtSide → CourtSide
 side_then first more = record { curved = first.curved || more.curved; drawings = first.drawings ++ more.drawings; lines = first.lines ++ more.lines }
 
+-- a curve alone
 abbrev pub curve_side : CourtSide
 curve_side = record empty_side { curved = true }
 
@@ -57,24 +59,28 @@ line_side stance tree = do
   end ← spot_of (codes "end") tree
   Ok (record empty_side { lines = record { a = stood stance start; b = stood stance end } ∷ [] })
 
+-- a rectangle
 unfoldable pub rect_side : Tree → Result CourtSide BoardError
 rect_side tree = do
   start ← spot_of (codes "start") tree
   end ← spot_of (codes "end") tree
   Ok (figure_side (RectFigure start end))
 
+-- a circle around its centre through its end
 unfoldable pub circle_side : Tree → Result CourtSide BoardError
 circle_side tree = do
   center ← spot_of (codes "center") tree
   end ← spot_of (codes "end") tree
   Ok (figure_side (CircleFigure center (radius_between center end)))
 
+-- an outline of these spots, three at least; with an arc among them the side has a curve
 abbrev pub spots_side : Tree → Bool → List Spot → Result CourtSide BoardError
 spots_side list curved spots =
     if curved then Ok curve_side
     else if nat_le 3 (length spots) then Ok (figure_side (OutlineFigure spots))
     else Err (Missing (place list))
 
+-- an arc stands among the spots
 abbrev pub has_arc : Tree → Bool
 has_arc list = list_any (has_head (codes "arc")) (parts list)
 
@@ -85,6 +91,7 @@ outline_side tree = do
   spots ← spots_among true (parts list)
   spots_side list (has_arc list) spots
 
+-- what a graphic of this kind gives its side
 abbrev pub graphic_side : Stance → GraphicKind → Tree → Result CourtSide BoardError
 graphic_side stance Line tree = line_side stance tree
 graphic_side stance Rect tree = rect_side tree
@@ -93,6 +100,7 @@ graphic_side stance Outline tree = outline_side tree
 
 -- ---- loose lines; a place is a spot as a pair of numbers
 
+-- the place of a spot
 abbrev pub at : Spot → ℤ × ℤ
 at spot = (spot.x, spot.y)
 
@@ -104,6 +112,7 @@ is_long line = not (is_same (at line.a) (at line.b))
 abbrev pub ends_at : ℤ × ℤ → Course → ℕ
 ends_at k line = cond (is_long line) (cond (is_same (at line.a) k) 1 0 + cond (is_same (at line.b) k) 1 0) 0
 
+-- how many ends of the lines stand at a place
 abbrev pub many_at : ℤ × ℤ → List Course → ℕ
 many_at k [] = 0
 many_at k (line ∷ lines) = ends_at k line + many_at k lines
@@ -118,6 +127,7 @@ is_closed lines = list_all (is_met lines) lines
 
 -- ---- the parts of a side
 
+-- the line between two points
 abbrev pub line_to : Point → Point → Seg
 line_to a b = record { a = a; b = b }
 
@@ -134,6 +144,7 @@ segs_of (line ∷ lines) = if is_long line then both (λ seg segs. seg ∷ segs)
 abbrev pub figure_parts : Stance → List Drawing → Option (List Part)
 figure_parts stance drawings = all_drawn (record { bits = 0 }) stance drawings
 
+-- what a closed outline encloses
 abbrev pub outline_part : List Point → Part
 outline_part points = record { layers = record { bits = 0 }; shape = around no_radius (Area points) }
 
@@ -149,18 +160,22 @@ pub record HasParts (stance : Stance) (side : CourtSide) (parts : List Part) : T
   pub chained : AreChained segs polys
   pub all : parts ≡ drawn ++ map outline_part polys
 
+-- the side is checked: it has no curve and no loose line
 abbrev pub IsChecked : CourtSide → Type 0
 IsChecked side = (side.curved ≡ false) × (is_closed side.lines ≡ true)
 
+-- this is the courtyard of the side of a footprint that stands so
 abbrev pub IsCourt : Stance → CourtSide → Court → Type 0
 IsCourt stance side Unchecked = (side.curved ≡ true) ⊎ (is_closed side.lines ≡ false)
 IsCourt stance side (Parts parts) = IsChecked side × HasParts stance side parts
 IsCourt stance side Off = IsChecked side × ((figure_parts stance side.drawings ≡ None) ⊎ (segs_of side.lines ≡ None))
 
+-- the parts of a courtyard, none where it is not checked
 abbrev pub parts_in : Court → List Part
 parts_in (Parts parts) = parts
 parts_in court = []
 
+-- the courtyard does not leave the board
 abbrev pub lies_on_board : Court → Bool
 lies_on_board Off = false
 lies_on_board court = true

@@ -15,6 +15,7 @@ use Rattle.pad_read.specs.Postures.{posture_of, quarters_of, clearance_of}
 
 -- ---- the side
 
+-- the side that this layer is: the front or the back; an inner layer is refused
 abbrev pub side_by : Tree → ℕ → Result Bool BoardError
 side_by atom layer = if layer == 0 then Ok false else if layer == 31 then Ok true else Err (UnknownLayer (place atom))
 
@@ -28,17 +29,20 @@ side_of copper tree = do
 
 -- ---- the reference
 
+-- there is an atom, and it is this word
 abbrev pub is_word : List ℕ → Option Tree → Bool
 is_word word None = false
 is_word word (Some t) = is_text t word
 
--- (HEAD WORD ..)
+-- the list is (HEAD WORD ..)
 abbrev pub says : List ℕ → List ℕ → Tree → Bool
 says head word tree = has_head head tree && is_word word (slice_get (parts tree) 1)
 
+-- the text at place 2 of a list
 abbrev pub second_text : Tree → Result (List ℕ) BoardError
 second_text tree = atom_of 2 tree >>= λ atom. Ok (text_of atom)
 
+-- the reference in this text of the footprint, else in this property, or the empty one
 abbrev pub reference_by : Option Tree → Option Tree → Result (List ℕ) BoardError
 reference_by (Some text) property = second_text text
 reference_by None (Some property) = second_text property
@@ -50,6 +54,7 @@ reference_of tree = reference_by (find (says (codes "fp_text") (codes "reference
 
 -- ---- the whole head
 
+-- the head of a footprint: its elements are looked at in this order
 unfoldable pub head_of : LayerSet → Tree → Result Head BoardError
 head_of copper tree = do
   on_back ← side_of copper tree

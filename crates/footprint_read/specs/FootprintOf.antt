@@ -33,6 +33,7 @@ use Rattle.footprint_read.specs.Courtyards.{IsCourt, empty_side, side_then, curv
 
 -- ---- what each child gives
 
+-- nothing is given
 abbrev pub empty : Contents
 empty = record { given = []; front = empty_side; back = empty_side }
 
@@ -40,15 +41,19 @@ empty = record { given = []; front = empty_side; back = empty_side }
 abbrev pub given_at : ℕ → List Item → List Given
 given_at place items = map (λ item. record { place = place; item = item }) items
 
+-- the items that this list gives, and nothing to a side
 abbrev pub giving : Tree → Result (List Item) BoardError → Result Contents BoardError
 giving tree answer = answer >>= λ items. Ok (record empty { given = given_at (place tree) items })
 
+-- what is given to the courtyard of the front
 abbrev pub at_front : Result CourtSide BoardError → Result Contents BoardError
 at_front answer = answer >>= λ side. Ok (record empty { front = side })
 
+-- what is given to the courtyard of the back
 abbrev pub at_back : Result CourtSide BoardError → Result Contents BoardError
 at_back answer = answer >>= λ side. Ok (record empty { back = side })
 
+-- what a graphic gives that lies here
 abbrev pub drawn_gives : PlainBoard → ℕ → Head → GraphicKind → Tree → Ground → Result Contents BoardError
 drawn_gives board unit head kind tree Front = at_front (graphic_side head.stance kind tree)
 drawn_gives board unit head kind tree Back = at_back (graphic_side head.stance kind tree)
@@ -60,6 +65,7 @@ arc_gives tree Front = at_front (Ok curve_side)
 arc_gives tree Back = at_back (Ok curve_side)
 arc_gives tree lies = giving tree (curve_by tree lies)
 
+-- what a graphic of a footprint is, by its head
 abbrev pub drawn_kind : Tree → Option GraphicKind
 drawn_kind t =
     if has_head (codes "fp_line") t then Some Line
@@ -68,6 +74,7 @@ drawn_kind t =
     else if has_head (codes "fp_poly") t then Some Outline
     else None
 
+-- the list is an arc or a curve
 abbrev pub is_curve : Tree → Bool
 is_curve t = has_head (codes "fp_arc") t || has_head (codes "fp_curve") t
 
@@ -75,6 +82,7 @@ is_curve t = has_head (codes "fp_arc") t || has_head (codes "fp_curve") t
 abbrev pub is_writing : Tree → Bool
 is_writing t = has_head (codes "fp_text") t || has_head (codes "fp_text_box") t || has_head (codes "property") t
 
+-- what a child gives that is neither a pad nor a graphic
 abbrev pub other_gives : PlainBoard → ℕ → Tree → Result Contents BoardError
 other_gives board unit t =
     if is_curve t then (ground_of board.copper t >>= arc_gives t)
@@ -82,10 +90,12 @@ other_gives board unit t =
     else if has_head (codes "zone") t then giving t (Ok (note_of (name_in t) unit FootZone [] ∷ []))
     else Ok empty
 
+-- what a child gives that is no pad, by the graphic that it is
 abbrev pub kind_gives : PlainBoard → ℕ → Head → Tree → Option GraphicKind → Result Contents BoardError
 kind_gives board unit head t (Some kind) = ground_of board.copper t >>= drawn_gives board unit head kind t
 kind_gives board unit head t None = other_gives board unit t
 
+-- what a child of the footprint gives
 unfoldable pub child_gives : PlainBoard → ℕ → Head → Tree → Result Contents BoardError
 child_gives board unit head t =
     if has_head (codes "pad") t then giving t (pad_of board unit head t >>= λ pad. Ok (pad ∷ []))
@@ -97,6 +107,7 @@ child_gives board unit head t =
 abbrev pub contents_then : Contents → Contents → Contents
 contents_then first more = record { given = first.given ++ more.given; front = side_then first.front more.front; back = side_then first.back more.back }
 
+-- what these children give
 abbrev pub children_give : PlainBoard → ℕ → Head → List Tree → Result Contents BoardError
 children_give board unit head [] = Ok empty
 children_give board unit head (t ∷ ts) = do
@@ -106,10 +117,12 @@ children_give board unit head (t ∷ ts) = do
 
 -- ---- body and notes of courtyards
 
+-- the body of a footprint, with its reference and its courtyards
 abbrev pub body_of : ℕ → Head → Tree → Court → Court → Item
 body_of unit head tree front back =
     plain_item (name_in tree) unit 0 head.stance.at [] (Body head.reference (parts_in front) (parts_in back) head.on_back) refl
 
+-- the note of a courtyard that is not checked
 abbrev pub court_notes : ℕ → Tree → List ℕ → Court → List Item
 court_notes unit tree layer Unchecked = note_of (name_in tree) unit Courtyard layer ∷ []
 court_notes unit tree layer court = []
@@ -123,6 +136,7 @@ all_given unit head tree given front back =
 
 -- ---- room
 
+-- the items alone
 abbrev pub items_of : List Given → List Item
 items_of given = map (λ g. g.item) given
 
@@ -132,6 +146,7 @@ with_room board unit before [] = Ok tt
 with_room board unit before (g ∷ gs) =
     if has_room_after before board unit then with_room board unit (suc before) gs else Err (TooMany g.place)
 
+-- the items, if the board has room for them all
 abbrev pub in_room : PlainBoard → ℕ → List Given → Result (List Item) BoardError
 in_room board unit given = with_room board unit 0 given >>= λ room. Ok (items_of given)
 
@@ -139,6 +154,7 @@ in_room board unit given = with_room board unit 0 given >>= λ room. Ok (items_o
 abbrev pub is_placed : Head → Court → Court → Bool
 is_placed head front back = fits_board head.stance.at && (lies_on_board front && lies_on_board back)
 
+-- the items of a footprint with these courtyards, if it lies on the board and there is room
 unfoldable pub finished : PlainBoard → ℕ → Head → Tree → List Given → Court → Court → Result (List Item) BoardError
 finished board unit head tree given front back = do
   on_board ← check (OutOfBoard (place tree)) (is_placed head front back)
@@ -146,6 +162,7 @@ finished board unit head tree given front back = do
 
 -- ---- the whole: it gives these items, or this refusal
 
+-- what all children of a footprint give
 abbrev pub contents_of : PlainBoard → ℕ → Head → Tree → Result Contents BoardError
 contents_of board unit head tree = children_give board unit head (parts tree)
 
@@ -157,14 +174,17 @@ pub record SaysOf (board : PlainBoard) (unit : ℕ) (head : Head) (tree : Tree) 
   pub of_back : IsCourt head.stance contents.back back
   pub same : answer ≡ finished board unit head tree contents.given front back
 
+-- the answer of a footprint whose children gave this, or were refused so
 abbrev pub SaysInside : PlainBoard → ℕ → Head → Tree → Result Contents BoardError → Result (List Item) BoardError → Type 0
 SaysInside board unit head tree (Err e) answer = answer ≡ Err e
 SaysInside board unit head tree (Ok contents) answer = SaysOf board unit head tree contents answer
 
+-- the answer of a footprint whose head was read as this, or was refused so
 abbrev pub SaysWithHead : PlainBoard → ℕ → Tree → Result Head BoardError → Result (List Item) BoardError → Type 0
 SaysWithHead board unit tree (Err e) answer = answer ≡ Err e
 SaysWithHead board unit tree (Ok head) answer = SaysInside board unit head tree (contents_of board unit head tree) answer
 
+-- the answer of this list as a footprint on this board
 abbrev pub FootprintSays : PlainBoard → ℕ → Tree → Result (List Item) BoardError → Type 0
 FootprintSays board unit tree answer = SaysWithHead board unit tree (head_of board.copper tree) answer
 

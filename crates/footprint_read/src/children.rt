@@ -1,4 +1,5 @@
-//! The children of a footprint, in the order of the text.
+//! The children of a footprint, in the order of the text: what each adds to its items and to its
+//! sides.
 
 ghost use Rattle.std.specs.Prelude.{◌≡◌, ◌<◌, ◌∷◌, [], ℕ, Ok, IfOk, OnOk, All};
 ghost use Rattle.sexpr_read.specs.Views.{tree_of};
@@ -8,7 +9,7 @@ ghost use Rattle.part_read.specs.Elements.{name_in};
 ghost use Rattle.part_read.specs.Graphics.{note_of};
 ghost use Rattle.part_read.specs.Nodes.{Gives, Leaves};
 ghost use Rattle.part_read.specs.Grounds.{IsOn};
-ghost use Rattle.part_read.specs.Stances.{IsWithin};
+ghost use Rattle.part_read.specs.Stances.{IsReadSpot, IsStanceSpot};
 ghost use Rattle.part_read.specs.Ready.{IsReady};
 ghost use Rattle.footprint_read.specs.FootprintOf.{items_of, giving, drawn_gives, arc_gives, drawn_kind, is_curve, is_writing, other_gives, child_gives, contents_of};
 ghost use Rattle.footprint_read.specs.Appending.{onto};
@@ -31,6 +32,7 @@ struct Drawn {
     lies: Ground,
 }
 
+/// What a graphic of a footprint is, by its head.
 fn drawn_kind(node: Node<'_, '_>) -> Option<GraphicKind>
     ensures { result ≡ drawn_kind (tree_of node.entry) }
 {
@@ -49,6 +51,7 @@ fn drawn_kind(node: Node<'_, '_>) -> Option<GraphicKind>
     None
 }
 
+/// Whether it is an arc or a curve.
 fn is_curve(node: Node<'_, '_>) -> bool
     ensures { result ≡ is_curve (tree_of node.entry) }
 {
@@ -68,8 +71,11 @@ fn add_items(
     node: Node<'_, '_>,
     items: Vec<Item>,
 ) -> Result<(), AllocError>
-    ensures with { OnOk result (onto contents.old (giving (tree_of node.entry) (Ok items.items)) ≡ Ok contents.new) }
-    ensures ready { (board : PlainBoard) (unit : ℕ) → All (IsReady board unit) (items_of contents.old.given) → All (IsReady board unit) items.items → OnOk result (All (IsReady board unit) (items_of contents.new.given)) }
+    ensures with { OnOk result
+        (onto contents.old (giving (tree_of node.entry) (Ok items.items)) ≡ Ok contents.new) }
+    ensures ready { (board : PlainBoard) (unit : ℕ)
+        → All (IsReady board unit) (items_of contents.old.given) → All (IsReady board unit) items.items
+        → OnOk result (All (IsReady board unit) (items_of contents.new.given)) }
 {
     contents.given.append(place(node), items)
 }
@@ -86,10 +92,11 @@ fn add_drawn(
     drawn: Drawn,
 ) -> Result<(), BoardError>
     requires quarter { head.now.stance.quarter < 4 }
-    requires at { IsWithin 3000000000000 head.now.stance.at }
+    requires at { IsStanceSpot head.now.stance.at }
     requires on { IsOn board.now.copper drawn.lies }
     requires ready { All (IsReady board.now unit) (items_of contents.old.given) }
-    ensures read { Leaves result contents.new (onto contents.old (drawn_gives board.now unit head.now drawn.kind (tree_of node.entry) drawn.lies)) }
+    ensures read { Leaves result contents.new (onto contents.old
+        (drawn_gives board.now unit head.now drawn.kind (tree_of node.entry) drawn.lies)) }
     ensures ready { OnOk result (All (IsReady board.now unit) (items_of contents.new.given)) }
 {
     match drawn.lies {
@@ -102,7 +109,8 @@ fn add_drawn(
     }
 }
 
-/// Adds a curve: it is refused on copper and on Edge.Cuts, and in a courtyard it leaves the side unchecked.
+/// Adds a curve: it is refused on copper and on Edge.Cuts, and in a courtyard it leaves the side
+/// unchecked.
 #[tactic(auto, using(crate::proofs::Appending::front_onto, crate::proofs::Appending::back_onto))]
 fn add_arc(
     alloc: Global,
@@ -110,7 +118,8 @@ fn add_arc(
     node: Node<'_, '_>,
     lies: Ground,
 ) -> Result<(), BoardError>
-    ensures read { Leaves result contents.new (onto contents.old (arc_gives (tree_of node.entry) lies)) }
+    ensures read { Leaves result contents.new
+        (onto contents.old (arc_gives (tree_of node.entry) lies)) }
     ensures same { OnOk result (items_of contents.new.given ≡ items_of contents.old.given) }
 {
     match lies {
@@ -136,7 +145,8 @@ fn zone_notes(
     unit: u32,
     node: Node<'_, '_>,
 ) -> Result<Vec<Item>, AllocError>
-    ensures notes { IfOk result (λ notes. notes.items ≡ note_of (name_in (tree_of node.entry)) unit FootZone [] ∷ []) }
+    ensures notes { IfOk result (λ notes.
+        notes.items ≡ note_of (name_in (tree_of node.entry)) unit FootZone [] ∷ []) }
     ensures ready { IfOk result (λ notes. All (IsReady board.now unit) notes.items) }
 {
     board.soundness();
@@ -154,7 +164,8 @@ fn add_other(
     node: Node<'_, '_>,
 ) -> Result<(), BoardError>
     requires ready { All (IsReady board.now unit) (items_of contents.old.given) }
-    ensures read { Leaves result contents.new (onto contents.old (other_gives board.now unit (tree_of node.entry))) }
+    ensures read { Leaves result contents.new
+        (onto contents.old (other_gives board.now unit (tree_of node.entry))) }
     ensures ready { OnOk result (All (IsReady board.now unit) (items_of contents.new.given)) }
 {
     if is_curve(node) {
@@ -184,9 +195,10 @@ fn add_child(
     node: Node<'_, '_>,
 ) -> Result<(), BoardError>
     requires quarter { head.now.stance.quarter < 4 }
-    requires at { IsWithin 1000000000000 head.now.stance.at }
+    requires at { IsReadSpot head.now.stance.at }
     requires ready { All (IsReady board.now unit) (items_of contents.old.given) }
-    ensures read { Leaves result contents.new (onto contents.old (child_gives board.now unit head.now (tree_of node.entry))) }
+    ensures read { Leaves result contents.new
+        (onto contents.old (child_gives board.now unit head.now (tree_of node.entry))) }
     ensures ready { OnOk result (All (IsReady board.now unit) (items_of contents.new.given)) }
 {
     if has_head(node, b"pad") {
@@ -203,7 +215,7 @@ fn add_child(
 
 /// What all children give, in the order of the text.
 #[tactic(auto, using(crate::proofs::Standing::none_ready, crate::proofs::Appending::then_nothing, crate::proofs::Appending::onto_both))]
-pub fn contents_of(
+pub(crate) fn contents_of(
     alloc: Global,
     board: &Board,
     unit: u32,
@@ -211,7 +223,7 @@ pub fn contents_of(
     node: Node<'_, '_>,
 ) -> Result<Contents, BoardError>
     requires quarter { head.now.stance.quarter < 4 }
-    requires at { IsWithin 1000000000000 head.now.stance.at }
+    requires at { IsReadSpot head.now.stance.at }
     ensures read { Gives result (contents_of board.now unit head.now (tree_of node.entry)) }
     ensures ready { IfOk result (λ all. All (IsReady board.now unit) (items_of all.given)) }
 {

@@ -1,4 +1,5 @@
-//! Whether an end of lines is loose. Their spots may lie off the board.
+//! The test that lines are closed: how many ends stand at each place, counted in a map, and whether
+//! each end equals exactly one other. The ends may lie off the board.
 
 ghost use Rattle.std.specs.Prelude.{◌≡◌, ◌+◌, ℕ, suc, ℤ, cond, ◌==◌, Some, OnOk, IfOk};
 ghost use Rattle.std.specs.BTreeMap as tree;
@@ -34,7 +35,7 @@ pub(crate) fn is_long(line: Course) -> bool
     !(line.a.x == line.b.x && line.a.y == line.b.y)
 }
 
-/// One more.
+/// The count with one end more.
 fn more(found: Option<Count>) -> Count
     ensures { (n : ℕ) → found ≡ tally n → Some result ≡ tally (suc n) }
 {
@@ -47,7 +48,8 @@ fn more(found: Option<Count>) -> Count
 
 /// Enters an end at its place.
 fn enter(counts: &mut BTreeMap<(i64, i64), Count>, spot: Spot) -> Result<(), AllocError>
-    ensures { OnOk result ((k : ℤ × ℤ) (n : ℕ) → tree.get place_cmp counts.old k ≡ tally n → tree.get place_cmp counts.new k ≡ tally (n + cond (is_same (at spot) k) 1 0)) }
+    ensures { OnOk result ((k : ℤ × ℤ) (n : ℕ) → tree.get place_cmp counts.old k ≡ tally n
+        → tree.get place_cmp counts.new k ≡ tally (n + cond (is_same (at spot) k) 1 0)) }
 {
     let key = key_of(spot);
     let found = counts.get(&key).copied();
@@ -57,7 +59,8 @@ fn enter(counts: &mut BTreeMap<(i64, i64), Count>, spot: Spot) -> Result<(), All
 
 /// Enters both ends of a line that has a length.
 fn enter_line(counts: &mut BTreeMap<(i64, i64), Count>, line: Course) -> Result<(), AllocError>
-    ensures { OnOk result ((k : ℤ × ℤ) (n : ℕ) → tree.get place_cmp counts.old k ≡ tally n → tree.get place_cmp counts.new k ≡ tally (n + ends_at k line)) }
+    ensures { OnOk result ((k : ℤ × ℤ) (n : ℕ) → tree.get place_cmp counts.old k ≡ tally n
+        → tree.get place_cmp counts.new k ≡ tally (n + ends_at k line)) }
 {
     if !is_long(line) {
         return Ok(());
@@ -86,6 +89,7 @@ fn has_two(lines: &[Course], counts: &BTreeMap<(i64, i64), Count>, spot: Spot) -
     is_two(counts.get(&key).copied())
 }
 
+/// Whether exactly two ends were counted.
 fn is_two(found: Option<Count>) -> bool
     ensures { (n : ℕ) → found ≡ tally n → result ≡ n == 2 }
 {
@@ -100,6 +104,7 @@ fn is_met(lines: &[Course], counts: &BTreeMap<(i64, i64), Count>, line: Course) 
     !is_long(line) || (has_two(lines, counts, line.a) && has_two(lines, counts, line.b))
 }
 
+/// Whether each end of each line equals exactly one other.
 fn all_met(lines: &[Course], counts: &BTreeMap<(i64, i64), Count>) -> bool
     requires { AreCounts lines.now counts.now }
     ensures { result ≡ is_closed lines.now }
@@ -112,8 +117,9 @@ fn all_met(lines: &[Course], counts: &BTreeMap<(i64, i64), Count>) -> bool
     true
 }
 
-/// Whether no end of the lines is loose: each equals exactly one other. Lines of no length are passed over.
-pub fn is_closed(alloc: Global, lines: &[Course]) -> Result<bool, AllocError>
+/// Whether no end of the lines is loose: each equals exactly one other. Lines of no length are
+/// passed over.
+pub(crate) fn is_closed(alloc: Global, lines: &[Course]) -> Result<bool, AllocError>
     ensures { IfOk result (λ closed. closed ≡ is_closed lines.now) }
 {
     let counts = counts_of(alloc, lines)?;

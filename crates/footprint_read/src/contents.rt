@@ -1,4 +1,5 @@
-//! What the children of a footprint give.
+//! The contents of a footprint: the items that its children give, each with the place of its list,
+//! and what they give the courtyards of both sides.
 
 ghost use Rattle.std.specs.Prelude.{◌≡◌, ◌++◌, [], OnOk};
 ghost use Rattle.footprint_read.specs.FootprintOf.{empty, given_at};
@@ -15,7 +16,7 @@ pub struct Given {
     pub item: Item,
 }
 
-/// Contracts see the list.
+/// Items with the places of the lists that give them. Contracts see the list.
 #[derive(Drop)]
 pub struct AllGiven {
     list: Vec<Given>,
@@ -30,6 +31,7 @@ impl Model for AllGiven {
     ghost view = { λ g. g.list.items };
 }
 
+/// Puts the items of the list at this place behind the others.
 fn append_items(list: &mut Vec<Given>, place: u32, items: Vec<Item>) -> Result<(), AllocError>
     ensures { OnOk result (list.new.items ≡ list.old.items ++ given_at place items.items) }
 {
@@ -39,6 +41,7 @@ fn append_items(list: &mut Vec<Given>, place: u32, items: Vec<Item>) -> Result<(
     Ok(())
 }
 
+/// Puts these behind the others.
 fn append_given(list: &mut Vec<Given>, more: Vec<Given>) -> Result<(), AllocError>
     ensures { OnOk result (list.new.items ≡ list.old.items ++ more.items) }
 {
@@ -49,7 +52,8 @@ fn append_given(list: &mut Vec<Given>, more: Vec<Given>) -> Result<(), AllocErro
 }
 
 impl AllGiven {
-    pub fn new(alloc: Global) -> AllGiven
+    /// No item.
+    pub(crate) fn new(alloc: Global) -> AllGiven
         ensures { result ≡ [] }
     {
         AllGiven {
@@ -57,21 +61,22 @@ impl AllGiven {
         }
     }
 
-    /// The items of the list at this place, behind the others.
-    pub fn append(&mut self, place: u32, items: Vec<Item>) -> Result<(), AllocError>
+    /// Puts the items of the list at this place behind the others.
+    pub(crate) fn append(&mut self, place: u32, items: Vec<Item>) -> Result<(), AllocError>
         ensures { OnOk result (self.new ≡ self.old ++ given_at place items.items) }
     {
         append_items(&mut self.list, place, items)
     }
 
-    /// These behind the others.
-    pub fn append_all(&mut self, more: AllGiven) -> Result<(), AllocError>
+    /// Puts these behind the others.
+    pub(crate) fn append_all(&mut self, more: AllGiven) -> Result<(), AllocError>
         ensures { OnOk result (self.new ≡ self.old ++ more) }
     {
         append_given(&mut self.list, more.list)
     }
 
-    pub fn into_list(self) -> Vec<Given>
+    /// The list alone.
+    pub(crate) fn into_list(self) -> Vec<Given>
         ensures { result.items ≡ self }
     {
         self.list
@@ -87,7 +92,8 @@ pub struct Contents {
 }
 
 impl Contents {
-    pub fn new(alloc: Global) -> Contents
+    /// Nothing is given yet.
+    pub(crate) fn new(alloc: Global) -> Contents
         ensures { result ≡ empty }
     {
         Contents {

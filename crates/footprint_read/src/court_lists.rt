@@ -1,4 +1,5 @@
-//! What the lists of courtyards add to their sides.
+//! The graphics on the layer of a courtyard: lines, rectangles, circles and outlines, read from
+//! their lists and added to the side.
 
 ghost use Rattle.std.specs.Prelude.{◌≡◌, ◌<◌, ◌∷◌, [], IfOk, OnOk};
 ghost use Rattle.sexpr_read.specs.Views.{tree_of};
@@ -7,7 +8,7 @@ ghost use Rattle.list_read.specs.Elements.{element};
 ghost use Rattle.part_read.specs.Elements.{in_needed};
 ghost use Rattle.part_read.specs.Nodes.{Leaves};
 ghost use Rattle.part_read.specs.Numbers.{spot_at};
-ghost use Rattle.part_read.specs.Stances.{IsWithin};
+ghost use Rattle.part_read.specs.Stances.{IsReadSpot, IsStanceSpot};
 ghost use Rattle.part_read.specs.Figures.{HasReach};
 ghost use Rattle.footprint_read.specs.Courtyards.{empty_side, side_then, figure_side, line_side, rect_side, circle_side, has_arc, outline_side, graphic_side};
 ghost use Rattle.footprint_read.specs.Appending.{onto_side};
@@ -24,8 +25,9 @@ use std::alloc::{AllocError, Global};
 
 /// The spot of an element which must be there.
 fn spot_needed(node: Node<'_, '_>, head: &[u8]) -> Result<Spot, BoardError>
-    ensures spot { result ≡ in_needed spot_at (tree_of node.entry) (element head.now (tree_of node.entry)) }
-    ensures within { IfOk result (IsWithin 1000000000000) }
+    ensures spot { result
+        ≡ in_needed spot_at (tree_of node.entry) (element head.now (tree_of node.entry)) }
+    ensures within { IfOk result IsReadSpot }
 {
     match element(node, head) {
         None => Err(missing(node)),
@@ -46,8 +48,10 @@ fn add_figure(side: &mut CourtSide, figure: Figure) -> Result<(), AllocError>
     side.drawings.push(drawing)
 }
 
+/// Adds a line that was read.
 fn add_course(side: &mut CourtSide, course: Course) -> Result<(), AllocError>
-    ensures { OnOk result (side.new ≡ side_then side.old (record empty_side { lines = course ∷ [] })) }
+    ensures { OnOk result
+        (side.new ≡ side_then side.old (record empty_side { lines = course ∷ [] })) }
 {
     side.lines.push(course)
 }
@@ -56,7 +60,7 @@ fn add_course(side: &mut CourtSide, course: Course) -> Result<(), AllocError>
 #[tactic(auto, unfolding(crate::specs::Courtyards::line_side))]
 fn add_line(stance: Stance, side: &mut CourtSide, node: Node<'_, '_>) -> Result<(), BoardError>
     requires quarter { stance.quarter < 4 }
-    requires at { IsWithin 3000000000000 stance.at }
+    requires at { IsStanceSpot stance.at }
     ensures { Leaves result side.new (onto_side side.old (line_side stance (tree_of node.entry))) }
 {
     let start = spot_needed(node, b"start")?;
@@ -121,7 +125,7 @@ fn add_outline(alloc: Global, side: &mut CourtSide, node: Node<'_, '_>) -> Resul
 }
 
 /// Adds a graphic of this kind.
-pub fn add_graphic(
+pub(crate) fn add_graphic(
     alloc: Global,
     stance: Stance,
     kind: GraphicKind,
@@ -129,8 +133,9 @@ pub fn add_graphic(
     node: Node<'_, '_>,
 ) -> Result<(), BoardError>
     requires quarter { stance.quarter < 4 }
-    requires at { IsWithin 3000000000000 stance.at }
-    ensures { Leaves result side.new (onto_side side.old (graphic_side stance kind (tree_of node.entry))) }
+    requires at { IsStanceSpot stance.at }
+    ensures { Leaves result side.new
+        (onto_side side.old (graphic_side stance kind (tree_of node.entry))) }
 {
     match kind {
         GraphicKind::Line => add_line(stance, side, node),

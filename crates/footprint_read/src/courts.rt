@@ -1,7 +1,8 @@
-//! The courtyard of a side.
+//! The courtyard of a side: its figures and the closed outlines of its lines, where it has no curve
+//! and no loose line.
 
 ghost use Rattle.std.specs.Prelude.{◌≡◌, ◌<◌, ◌++◌, map, IfOk, OnOk, All, option_map};
-ghost use Rattle.part_read.specs.Stances.{IsWithin};
+ghost use Rattle.part_read.specs.Stances.{IsStanceSpot};
 ghost use Rattle.part_read.specs.Figures.{IsDrawable};
 ghost use Rattle.footprint_read.specs.Bare.{AreBare};
 ghost use Rattle.footprint_read.specs.Courtyards.{seg_of, segs_of, figure_parts, outline_part, parts_in, IsCourt};
@@ -61,17 +62,18 @@ fn segs_of(alloc: Global, lines: &[Course]) -> Result<Option<Vec<Seg>>, AllocErr
 
 // ---- figures
 
-/// The parts of all figures, unless one leaves the board or its diameter is above 500 mm. An outline keeps the boxes of its
-/// runs of corners.
+/// The parts of all figures, unless one leaves the board or its diameter is above 500 mm. An
+/// outline keeps the boxes of its runs of corners.
 fn figure_parts(
     alloc: Global,
     stance: Stance,
     drawings: &[Drawing],
 ) -> Result<Option<SmallVec<Part, 1>>, AllocError>
     requires quarter { stance.quarter < 4 }
-    requires at { IsWithin 3000000000000 stance.at }
+    requires at { IsStanceSpot stance.at }
     requires drawable { All IsDrawable drawings.now }
-    ensures { IfOk result (λ parts. option_map (λ found. found.items) parts ≡ figure_parts stance drawings.now) }
+    ensures { IfOk result (λ parts.
+        option_map (λ found. found.items) parts ≡ figure_parts stance drawings.now) }
 {
     let layers = LayerSet { bits: 0 };
     let mut parts = SmallVec::new(alloc);
@@ -85,6 +87,7 @@ fn figure_parts(
 
 // ---- the whole side
 
+/// What a closed outline encloses.
 fn outline_part(poly: Poly) -> Part
     ensures { result ≡ outline_part poly }
 {
@@ -94,6 +97,7 @@ fn outline_part(poly: Poly) -> Part
     }
 }
 
+/// Puts what these outlines enclose behind the others.
 fn append_outlines(parts: &mut SmallVec<Part, 1>, polys: Vec<Poly>) -> Result<(), AllocError>
     ensures { OnOk result (parts.new.items ≡ parts.old.items ++ map outline_part polys.items) }
 {
@@ -103,11 +107,12 @@ fn append_outlines(parts: &mut SmallVec<Part, 1>, polys: Vec<Poly>) -> Result<()
     Ok(())
 }
 
-/// The courtyard of a side, in the footprint that stands so: its figures, and then the closed outlines of its lines.
+/// The courtyard of a side, in the footprint that stands so: its figures, and then the closed
+/// outlines of its lines.
 #[tactic(auto, using(crate::proofs::Bared::court_bare))]
-pub fn court_of(alloc: Global, stance: Stance, side: &CourtSide) -> Result<Court, AllocError>
+pub(crate) fn court_of(alloc: Global, stance: Stance, side: &CourtSide) -> Result<Court, AllocError>
     requires quarter { stance.quarter < 4 }
-    requires at { IsWithin 3000000000000 stance.at }
+    requires at { IsStanceSpot stance.at }
     ensures court { IfOk result (IsCourt stance side.now) }
     ensures bare { IfOk result (λ court. AreBare (parts_in court)) }
 {
@@ -115,9 +120,10 @@ pub fn court_of(alloc: Global, stance: Stance, side: &CourtSide) -> Result<Court
     Ok(court)
 }
 
+/// The courtyard of a side, by its definition alone.
 fn court_by(alloc: Global, stance: Stance, side: &CourtSide) -> Result<Court, AllocError>
     requires quarter { stance.quarter < 4 }
-    requires at { IsWithin 3000000000000 stance.at }
+    requires at { IsStanceSpot stance.at }
     ensures { IfOk result (IsCourt stance side.now) }
 {
     if side.curved {

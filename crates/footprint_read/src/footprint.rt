@@ -1,4 +1,5 @@
-//! Footprints.
+//! The items of a footprint: its body with the courtyards of both sides, what its children give,
+//! and the notes, where it lies on the board and there is room.
 
 ghost use Rattle.std.specs.Prelude.{◌≡◌, ◌<◌, ◌∷◌, ◌++◌, [], codes, true, is_some, IfOk, OnOk, All};
 ghost use Rattle.sexpr_read.specs.Views.{tree_of};
@@ -6,7 +7,7 @@ ghost use Rattle.board_items.specs.Boards.{name_of};
 ghost use Rattle.part_read.specs.Lists.{GivesItems};
 ghost use Rattle.part_read.specs.OnBoard.{fits_board};
 ghost use Rattle.part_read.specs.Ready.{IsReady, AreReady};
-ghost use Rattle.part_read.specs.Stances.{IsWithin};
+ghost use Rattle.part_read.specs.Stances.{IsStanceSpot};
 ghost use Rattle.footprint_read.specs.Courtyards.{IsCourt, parts_in, lies_on_board};
 ghost use Rattle.footprint_read.specs.Bare.{AreBare};
 ghost use Rattle.footprint_read.specs.FootprintOf.{given_at, items_of, body_of, court_notes, all_given, with_room, in_room, is_placed, finished, SaysItems};
@@ -34,6 +35,7 @@ struct Courts {
 
 // ---- body and notes of courtyards
 
+/// The parts of a courtyard, none where it is not checked.
 fn parts_in(alloc: Global, court: Court) -> Parts
     ensures { result ≡ parts_in court }
 {
@@ -43,12 +45,14 @@ fn parts_in(alloc: Global, court: Court) -> Parts
     }
 }
 
+/// Whether a courtyard does not leave the board.
 fn lies_on_board(court: &Court) -> bool
     ensures { result ≡ lies_on_board court.now }
 {
     !matches!(court, Court::Off)
 }
 
+/// The parts of a courtyard, in a box.
 fn boxed_parts(alloc: Global, court: Court) -> Result<Boxed<Parts>, AllocError>
     ensures { IfOk result (λ parts. parts ≡ parts_in court) }
 {
@@ -63,8 +67,10 @@ struct Yards {
     back: Boxed<Parts>,
 }
 
+/// What the body keeps of this reference and these courtyards.
 fn yards_of(alloc: Global, reference: Name, front: Court, back: Court) -> Result<Yards, AllocError>
-    ensures { IfOk result (λ yards. yards ≡ record { reference = reference; front = parts_in front; back = parts_in back }) }
+    ensures { IfOk result (λ yards. yards
+        ≡ record { reference = reference; front = parts_in front; back = parts_in back }) }
 {
     let reference = match Boxed::new(alloc, reference) {
         Ok(reference) => reference,
@@ -141,7 +147,8 @@ fn court_notes(
     layer: &str,
     court: &Court,
 ) -> Result<Vec<Item>, AllocError>
-    ensures { IfOk result (λ notes. notes.items ≡ court_notes unit (tree_of node.entry) layer.now court.now) }
+    ensures { IfOk result (λ notes.
+        notes.items ≡ court_notes unit (tree_of node.entry) layer.now court.now) }
 {
     if matches!(court, Court::Unchecked) {
         return one(alloc, note_on(alloc, unit, About::Courtyard, layer, node)?);
@@ -156,6 +163,7 @@ struct CourtNotes {
     back: Vec<Item>,
 }
 
+/// The notes of the courtyards that are not checked.
 fn notes_of(
     alloc: Global,
     unit: u32,
@@ -163,8 +171,10 @@ fn notes_of(
     front: &Court,
     back: &Court,
 ) -> Result<CourtNotes, AllocError>
-    ensures front { IfOk result (λ notes. notes.front.items ≡ court_notes unit (tree_of node.entry) (codes "F.CrtYd") front.now) }
-    ensures back { IfOk result (λ notes. notes.back.items ≡ court_notes unit (tree_of node.entry) (codes "B.CrtYd") back.now) }
+    ensures front { IfOk result (λ notes. notes.front.items
+        ≡ court_notes unit (tree_of node.entry) (codes "F.CrtYd") front.now) }
+    ensures back { IfOk result (λ notes. notes.back.items
+        ≡ court_notes unit (tree_of node.entry) (codes "B.CrtYd") back.now) }
 {
     let front = court_notes(alloc, unit, node, "F.CrtYd", front)?;
     match court_notes(alloc, unit, node, "B.CrtYd", back) {
@@ -205,8 +215,10 @@ fn with_body(alloc: Global, place: u32, body: Item, given: AllGiven) -> Result<A
     }
 }
 
+/// Adds the notes of the courtyards, the front first.
 fn add_notes(all: &mut AllGiven, place: u32, notes: CourtNotes) -> Result<(), AllocError>
-    ensures { OnOk result (all.new ≡ (all.old ++ given_at place notes.front.items) ++ given_at place notes.back.items) }
+    ensures { OnOk result (all.new
+        ≡ (all.old ++ given_at place notes.front.items) ++ given_at place notes.back.items) }
 {
     let CourtNotes { front, back } = notes;
     match all.append(place, front) {
@@ -266,7 +278,8 @@ fn all_given(
 
 // ---- room
 
-/// Whether the board has room for all of them: the first one without is refused at the list that gives it.
+/// Whether the board has room for all of them: the first one without is refused at the list that
+/// gives it.
 fn check_room(board: &Board, unit: u32, all: &[Given]) -> Result<(), BoardError>
     ensures { result ≡ with_room board.now unit 0 all.now }
 {
@@ -278,6 +291,7 @@ fn check_room(board: &Board, unit: u32, all: &[Given]) -> Result<(), BoardError>
     Ok(())
 }
 
+/// The items alone.
 fn items_of(alloc: Global, all: Vec<Given>) -> Result<Vec<Item>, AllocError>
     ensures { IfOk result (λ items. items.items ≡ items_of all.items) }
 {
@@ -325,7 +339,8 @@ fn finished(
     requires given { All (IsReady board.now unit) (items_of given) }
     requires front { AreBare (parts_in courts.front) }
     requires back { AreBare (parts_in courts.back) }
-    ensures items { GivesItems result (finished board.now unit head (tree_of node.entry) given courts.front courts.back) }
+    ensures items { GivesItems result
+        (finished board.now unit head (tree_of node.entry) given courts.front courts.back) }
     ensures ready { IfOk result (λ items. AreReady board.now unit items.items) }
 {
     if !is_placed(&head, &courts.front, &courts.back) {
@@ -340,9 +355,10 @@ fn finished(
     Ok(items)
 }
 
+/// The courtyards of both sides.
 fn courts_of(alloc: Global, stance: Stance, contents: &Contents) -> Result<Courts, AllocError>
     requires quarter { stance.quarter < 4 }
-    requires at { IsWithin 3000000000000 stance.at }
+    requires at { IsStanceSpot stance.at }
     ensures front { IfOk result (λ courts. IsCourt stance contents.now.front courts.front) }
     ensures back { IfOk result (λ courts. IsCourt stance contents.now.back courts.back) }
     ensures front_bare { IfOk result (λ courts. AreBare (parts_in courts.front)) }
@@ -358,11 +374,12 @@ fn courts_of(alloc: Global, stance: Stance, contents: &Contents) -> Result<Court
     }
 }
 
-/// The items of a footprint: its body, then its pads, graphics, edges and notes in the order of the text, then a note for
-/// each side whose courtyard is not checked, the front first. The board takes them, one after another.
+/// The items of a footprint: its body, then its pads, graphics, edges and notes in the order of the
+/// text, then a note for each side whose courtyard is not checked, the front first. The board takes
+/// them, one after another.
 ///
-/// Its refusals are those of [`BoardError`], exactly where the items of a footprint (`specs/FootprintOf`) have them, with
-/// their places; want of memory alone is free.
+/// Its refusals are those of [`BoardError`], exactly where the items of a footprint
+/// (`specs/FootprintOf`) have them, with their places; want of memory alone is free.
 #[tactic(auto, using(crate::proofs::Standing::wider))]
 pub fn read_footprint(
     alloc: Global,

@@ -1,10 +1,11 @@
-//! The head of a footprint.
+//! The head of a footprint: its side, where it stands and how it is turned, its reference and its
+//! clearance.
 
 ghost use Rattle.std.specs.Prelude.{◌≡◌, ◌<◌, find, option_map, IfOk};
 ghost use Rattle.sexpr_read.specs.Tree.{parts};
 ghost use Rattle.sexpr_read.specs.Views.{tree_of};
 ghost use Rattle.part_read.specs.Nodes.{Gives};
-ghost use Rattle.part_read.specs.Stances.{IsWithin};
+ghost use Rattle.part_read.specs.Stances.{IsReadSpot};
 ghost use Rattle.footprint_read.specs.FootHead.{side_of, says, second_text, reference_of, head_of};
 
 use board_items::BoardError;
@@ -49,7 +50,8 @@ fn says(node: Node<'_, '_>, head: &[u8], word: &[u8]) -> bool
 
 /// The first part of a list that is `(HEAD WORD ..)`.
 fn find_saying<'d, 't>(node: Node<'d, 't>, head: &[u8], word: &[u8]) -> Option<Node<'d, 't>>
-    ensures { option_map tree_of result ≡ find (says head.now word.now) (parts (tree_of node.entry)) }
+    ensures { option_map tree_of result
+        ≡ find (says head.now word.now) (parts (tree_of node.entry)) }
 {
     for part in node.children() {
         if says(part, head, word) {
@@ -59,6 +61,7 @@ fn find_saying<'d, 't>(node: Node<'d, 't>, head: &[u8], word: &[u8]) -> Option<N
     None
 }
 
+/// The text at place 2 of a list.
 fn second_text(alloc: Global, list: Node<'_, '_>) -> Result<Name, BoardError>
     ensures { Gives result (second_text (tree_of list.entry)) }
 {
@@ -82,9 +85,13 @@ fn reference_of(alloc: Global, node: Node<'_, '_>) -> Result<Name, BoardError>
 
 /// The head of a footprint.
 #[tactic(auto, unfolding(crate::specs::FootHead::head_of))]
-pub fn head_of(alloc: Global, copper: LayerSet, node: Node<'_, '_>) -> Result<Head, BoardError>
+pub(crate) fn head_of(
+    alloc: Global,
+    copper: LayerSet,
+    node: Node<'_, '_>,
+) -> Result<Head, BoardError>
     ensures head { Gives result (head_of copper (tree_of node.entry)) }
-    ensures within { IfOk result (λ head. IsWithin 1000000000000 head.stance.at) }
+    ensures within { IfOk result (λ head. IsReadSpot head.stance.at) }
     ensures below { IfOk result (λ head. head.stance.quarter < 4) }
 {
     let on_back = side_of(copper, node)?;

@@ -9,5 +9,6 @@ ghost use Rattle.footprint_read.specs.FootprintOf.{FootprintSays};
 
 /// A list says one thing: it gives these items, or this refusal.
 pub fn one_answer()
-    ensures { (board : PlainBoard) (unit : ℕ) (tree : Tree) (a b : Result (List Item) BoardError) → FootprintSays board unit tree a → FootprintSays board unit tree b → a ≡ b }
+    ensures { (board : PlainBoard) (unit : ℕ) (tree : Tree) (a b : Result (List Item) BoardError)
+        → FootprintSays board unit tree a → FootprintSays board unit tree b → a ≡ b }
 {}

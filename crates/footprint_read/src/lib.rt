@@ -1,4 +1,5 @@
-//! Footprints, read from their lists: the body with its courtyards, pads, graphics, edges and notes.
+//! Footprints, read from their lists: the body with its courtyards, pads, graphics, edges and
+//! notes.
 #![tactic(auto)]
 
 mod children;

@@ -1,4 +1,4 @@
-//! Notes of what is not checked.
+//! The note of something in a footprint that is not checked.
 
 ghost use Rattle.std.specs.Prelude.{◌≡◌, IfOk};
 ghost use Rattle.sexpr_read.specs.Views.{tree_of};
@@ -12,14 +12,15 @@ use sexpr_read::Node;
 use std::alloc::{AllocError, Global};
 
 /// The note of something on the layer of this name, by the name of the list that gives it.
-pub fn note_on(
+pub(crate) fn note_on(
     alloc: Global,
     unit: u32,
     about: About,
     layer: &str,
     node: Node<'_, '_>,
 ) -> Result<Item, AllocError>
-    ensures { IfOk result (λ note. note ≡ note_of (name_in (tree_of node.entry)) unit about layer.now) }
+    ensures { IfOk result (λ note.
+        note ≡ note_of (name_in (tree_of node.entry)) unit about layer.now) }
 {
     let name = name_of_list(alloc, node)?;
     let layer = Boxed::new(alloc, Name::from_slice(alloc, layer.as_bytes())?)?;

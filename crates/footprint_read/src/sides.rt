@@ -1,4 +1,5 @@
-//! The sides of a footprint, as far as its courtyards go.
+//! A side of a footprint, as far as its courtyard goes: the figures, the lines, and whether a curve
+//! stands among them.
 
 ghost use Rattle.std.specs.Prelude.{◌≡◌, ◌++◌, ◌∷◌, [], OnOk, All};
 ghost use Rattle.part_read.specs.Figures.{IsDrawable};
@@ -33,7 +34,8 @@ impl Model for Drawings {
 }
 
 impl Drawings {
-    pub fn new(alloc: Global) -> Drawings
+    /// No drawing.
+    pub(crate) fn new(alloc: Global) -> Drawings
         ensures { result ≡ [] }
     {
         Drawings {
@@ -41,8 +43,8 @@ impl Drawings {
         }
     }
 
-    /// One more behind the others.
-    pub fn push(&mut self, drawing: Drawing) -> Result<(), AllocError>
+    /// Puts a drawing behind the others.
+    pub(crate) fn push(&mut self, drawing: Drawing) -> Result<(), AllocError>
         requires { IsDrawable drawing }
         ensures { OnOk result (self.new ≡ self.old ++ drawing ∷ []) }
     {
@@ -50,7 +52,8 @@ impl Drawings {
         Ok(())
     }
 
-    pub fn as_slice(&self) -> &[Drawing]
+    /// The drawings in their order.
+    pub(crate) fn as_slice(&self) -> &[Drawing]
         ensures same { result.now ≡ self.now }
         ensures drawable { All IsDrawable result.now }
     {
@@ -74,7 +77,8 @@ impl Model for Courses {
 }
 
 impl Courses {
-    pub fn new(alloc: Global) -> Courses
+    /// No line.
+    pub(crate) fn new(alloc: Global) -> Courses
         ensures { result ≡ [] }
     {
         Courses {
@@ -82,15 +86,16 @@ impl Courses {
         }
     }
 
-    /// One more behind the others.
-    pub fn push(&mut self, course: Course) -> Result<(), AllocError>
+    /// Puts a line behind the others.
+    pub(crate) fn push(&mut self, course: Course) -> Result<(), AllocError>
         ensures { OnOk result (self.new ≡ self.old ++ course ∷ []) }
     {
         self.list.push(course)?;
         Ok(())
     }
 
-    pub fn as_slice(&self) -> &[Course]
+    /// The lines in their order.
+    pub(crate) fn as_slice(&self) -> &[Course]
         ensures { result.now ≡ self.now }
     {
         &self.list
@@ -110,7 +115,8 @@ impl CourtSide {
     ghost use Rattle.std.specs.Prelude.{◌≡◌};
     ghost use Rattle.footprint_read.specs.Courtyards.{empty_side, side_then, curve_side};
 
-    pub fn new(alloc: Global) -> CourtSide
+    /// A side of which nothing was read.
+    pub(crate) fn new(alloc: Global) -> CourtSide
         ensures { result ≡ empty_side }
     {
         CourtSide {
@@ -122,7 +128,7 @@ impl CourtSide {
 
     /// Notes that it has a curve.
     #[tactic(auto, using(crate::proofs::Appending::side_curved))]
-    pub fn note_curve(&mut self)
+    pub(crate) fn note_curve(&mut self)
         ensures { self.new ≡ side_then self.old curve_side }
     {
         self.curved = true;

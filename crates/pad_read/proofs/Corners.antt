@@ -3,7 +3,7 @@ use Rattle.std.proofs.Common.{◌≡◌, ◌∙◌, ap, ℤ, pos, ◌+ℤ◌, �
 use Rattle.std.proofs.lemmas.Int.{ints}
 use Rattle.int_algebra.proofs.Scalars.{passed}
 use Rattle.part_read.specs.declared.numbers.Spot.{Spot}
-use Rattle.part_read.specs.Stances.{IsWithin}
+use Rattle.part_read.specs.Stances.{IsStanceSpot}
 use Rattle.pad_read.specs.declared.sizes.Cushion.{Cushion}
 use Rattle.pad_read.specs.PadShapes.{IsSmall}
 
@@ -16,7 +16,7 @@ less a c h k = omega (arith, ints)
 more : (a c : ℤ) → unsigned_abs a ≤ 3000000000000 → unsigned_abs c ≤ 3000000000000 → passed (passed (pos 2 *ℤ passed a) +ℤ passed c) ≡ (pos 2 *ℤ a) +ℤ c
 more a c h k = omega (arith, ints)
 
-module _ (at : Spot) (cushion : Cushion) (near : IsWithin 3000000000000 at) (small : IsSmall cushion) where
+module _ (at : Spot) (cushion : Cushion) (near : IsStanceSpot at) (small : IsSmall cushion) where
   pub low_is : (let s : Spot = record { x = passed (passed (pos 2 *ℤ passed at.x) -ℤ passed cushion.x); y = passed (passed (pos 2 *ℤ passed at.y) -ℤ passed cushion.y) } in s)
       ≡ record { x = (pos 2 *ℤ at.x) -ℤ cushion.x; y = (pos 2 *ℤ at.y) -ℤ cushion.y }
   low_is = spot_is _ _ _ _ (less at.x cushion.x near.x small.x) (less at.y cushion.y near.y small.y)

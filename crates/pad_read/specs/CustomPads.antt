@@ -20,19 +20,21 @@ use Rattle.pad_read.specs.PadShapes.{circle_cushion, rect_cushion}
 
 -- ---- the anchor: a disc or a rectangle
 
+-- the anchor of this word; another word is refused at the pad
 abbrev pub anchor_by_word : Tree → Sizes → Tree → Result Cushion BoardError
 anchor_by_word pad s atom =
     if is_text atom (codes "circle") then Ok (circle_cushion s)
     else if is_text atom (codes "rect") then Ok (rect_cushion s)
     else Err (PadShape (place pad))
 
--- that of (options (anchor WORD)), a disc where it is missing
+-- the anchor that (options (anchor WORD)) names, a disc where it is missing
 unfoldable pub anchor_of : Sizes → Tree → Result Cushion BoardError
 anchor_of s pad =
     given_or (circle_cushion s) (λ list. atom_of 1 list >>= anchor_by_word pad s) (option_and_then (element (codes "anchor")) (element (codes "options") pad))
 
 -- ---- the primitives
 
+-- what a primitive is, by its head
 abbrev pub primitive_kind : Tree → Option GraphicKind
 primitive_kind t =
     if has_head (codes "gr_line") t then Some Line
@@ -49,6 +51,7 @@ primitive_by pad t (Some kind) = do
   Ok (drawing ∷ [])
 primitive_by pad t None = if has_head (codes "gr_arc") t || has_head (codes "gr_curve") t then Err (Arc (place t)) else Ok []
 
+-- what the primitives among these lists draw, in order; the first refusal counts
 abbrev pub primitives_among : Tree → List Tree → Result (List Drawing) BoardError
 primitives_among pad [] = Ok []
 primitives_among pad (t ∷ ts) = do
@@ -66,5 +69,6 @@ primitives_of pad = given_or [] (λ list. primitives_among pad (parts list)) (el
 abbrev pub primitive_fits : Drawing → Bool
 primitive_fits d = is_length (radius_with d.width d.figure)
 
+-- each primitive is at most that large
 abbrev pub primitives_fit : List Drawing → Bool
 primitives_fit ds = list_all primitive_fits ds

@@ -11,7 +11,7 @@ use Rattle.list_read.specs.Answers.{◌>>=◌, needed, check}
 use Rattle.list_read.specs.Heads.{place, is_text}
 use Rattle.list_read.specs.Elements.{element}
 use Rattle.part_read.specs.Elements.{atom_of}
-use Rattle.part_read.specs.Stances.{IsWithin, stood}
+use Rattle.part_read.specs.Stances.{IsSpotWithin, IsReadSpot, stood}
 use Rattle.pad_read.specs.declared.sizes.Sizes.{Sizes}
 use Rattle.pad_read.specs.declared.sizes.Drilling.{Drilling}
 use Rattle.pad_read.specs.declared.pads.PadType.{PadType}
@@ -24,6 +24,7 @@ use Rattle.pad_read.specs.PadSizes.{AreRead, sizes_of, drilling_of}
 
 -- ---- the words at its front
 
+-- what a pad is made for, by its word
 abbrev pub type_by : Tree → Option PadType
 type_by atom =
     if is_text atom (codes "thru_hole") then Some ThruHole
@@ -32,10 +33,11 @@ type_by atom =
     else if is_text atom (codes "np_thru_hole") then Some NpThruHole
     else None
 
+-- what a pad is made for: its second word
 abbrev pub type_of : Tree → Result PadType BoardError
 type_of tree = atom_of 2 tree >>= λ atom. needed (Missing (place tree)) (type_by atom)
 
--- the shapes that are read; trapezoids are not
+-- the shape of a pad, by its word; trapezoids are not read
 abbrev pub word_by : Tree → Option PadWord
 word_by atom =
     if is_text atom (codes "circle") then Some Circle
@@ -45,6 +47,7 @@ word_by atom =
     else if is_text atom (codes "custom") then Some Custom
     else None
 
+-- there is such an element
 abbrev pub is_there : Option Tree → Bool
 is_there None = false
 is_there (Some t) = true
@@ -59,11 +62,13 @@ word_of tree = do
 
 -- ---- the hole
 
+-- a pad of this type may have a hole
 abbrev pub has_hole : PadType → Bool
 has_hole ThruHole = true
 has_hole NpThruHole = true
 has_hole type = false
 
+-- its hole is plated
 abbrev pub is_plated : PadType → Bool
 is_plated ThruHole = true
 is_plated type = false
@@ -74,27 +79,32 @@ hole_sizes type sizes = if has_hole type then sizes else None
 
 -- ---- how it is turned: by quarter turns, or as it likes where nothing shows it
 
+-- there is no hole, or both sizes of it are one
 abbrev pub is_round_hole : Option Sizes → Bool
 is_round_hole None = true
 is_round_hole (Some s) = int_eq s.w s.h
 
+-- the shape is a circle
 abbrev pub is_circle_word : PadWord → Bool
 is_circle_word Circle = true
 is_circle_word word = false
 
+-- nothing shows how the pad is turned: it is a circle, its copper is not moved, and its hole is round
 abbrev pub is_turning : PadWord → Spot → Option Sizes → Bool
 is_turning word offset hole = is_circle_word word && (int_eq offset.x (pos 0) && int_eq offset.y (pos 0)) && is_round_hole hole
 
+-- the quarter turns that an angle is; where it is none of them, 0 if nothing shows it
 abbrev pub or_unturned : Bool → Option ℕ → Option ℕ
 or_unturned turns (Some quarter) = Some quarter
 or_unturned turns None = if turns then Some 0 else None
 
+-- how many quarter turns the pad is turned, if that can be said
 abbrev pub quarter_of : PadWord → Drilling → PadType → ℤ → Option ℕ
 quarter_of word drilling type angle = or_unturned (is_turning word drilling.offset (hole_sizes type drilling.sizes)) (quarters_of angle)
 
 -- ---- the whole
 
--- its position is relative to that of its footprint, and turned with it
+-- the frame of a pad in a footprint that stands so; its position is relative to that of the footprint, and turned with it
 unfoldable pub frame_of : Stance → Tree → Result Frame BoardError
 frame_of stance tree = do
   type ← type_of tree
@@ -105,10 +115,15 @@ frame_of stance tree = do
   quarter ← needed (Turned (place tree)) (quarter_of word drilling type posture.angle)
   Ok (record { pad_type = type; word = word; at = stood stance posture.at; quarter = quarter; sizes = sizes; drilling = drilling })
 
--- what was read lies within reach of all sums
+-- the position of a pad on the board, or off it: no further from 0 than the sum of two spots that are read, those of its footprint and
+-- its own
+abbrev pub IsPadSpot : Spot → Type 0
+IsPadSpot s = IsSpotWithin 2000000000000 s
+
+-- the frame is made of what was read, so its sums are in range
 pub record IsFramed (f : Frame) : Type 0 where
   pub quarter : f.quarter < 4
-  pub at : IsWithin 2000000000000 f.at
+  pub at : IsPadSpot f.at
   pub sizes : AreRead f.sizes
   pub drilled : IfSome f.drilling.sizes AreRead
-  pub offset : IsWithin 1000000000000 f.drilling.offset
+  pub offset : IsReadSpot f.drilling.offset

@@ -46,9 +46,11 @@ use Rattle.pad_read.specs.PadFrames.{hole_sizes, is_plated, frame_of}
 
 -- ---- its form: what is all within a radius of a box, and what else is drawn
 
+-- the form that is a cushion alone
 abbrev pub without_primitives : Cushion → Form
 without_primitives cushion = record { cushion = cushion; primitives = [] }
 
+-- the form of a pad of this shape and these sizes
 abbrev pub form_of : PadWord → Sizes → Tree → Result Form BoardError
 form_of Circle s tree = Ok (without_primitives (circle_cushion s))
 form_of Rect s tree = Ok (without_primitives (rect_cushion s))
@@ -61,10 +63,12 @@ form_of Custom s tree = do
 
 -- ---- its copper, if it lies on the board
 
+-- the parts of all drawings, in order, if they all lie on the board
 abbrev pub all_drawn : LayerSet → Stance → List Drawing → Option (List Part)
 all_drawn layers stance [] = Some []
 all_drawn layers stance (d ∷ ds) = both (λ ps qs. ps ++ qs) (drawn layers stance d) (all_drawn layers stance ds)
 
+-- the parts behind the one of this shape
 abbrev pub with_part : LayerSet → Shape → List Part → List Part
 with_part layers shape parts = record { layers = layers; shape = shape } ∷ parts
 
@@ -73,6 +77,7 @@ abbrev pub copper_of : LayerSet → Stance → Form → Option (List Part)
 copper_of layers stance form =
     both (with_part layers) (cushion_at stance.at (turned_cushion stance.quarter form.cushion)) (all_drawn layers stance form.primitives)
 
+-- the pad is as large as its hole
 abbrev pub equals_drill : Sizes → Option Sizes → Bool
 equals_drill s None = false
 equals_drill s (Some d) = are_equal s d
@@ -86,51 +91,61 @@ has_copper type layers s drill = not (layers.bits == 0)
 abbrev pub middle_of : Frame → Stance
 middle_of f = record { quarter = f.quarter; at = stood (record { quarter = f.quarter; at = f.at }) f.drilling.offset }
 
+-- the copper of a pad on these layers, if it lies on the board
 abbrev pub frame_copper : LayerSet → Frame → Form → Option (List Part)
 frame_copper layers f form = if has_copper f.pad_type layers f.sizes f.drilling.sizes then copper_of layers (middle_of f) form else Some []
 
 -- ---- its hole, if it lies on the board
 
+-- the hole of these sizes and this shape, whose smaller size is a length
 abbrev pub hole_with : LayerSet → Bool → (s : Sizes) → Shape → is_length (least_of s) ≡ true → Hole
 hole_with layers plated s shape fits = record { shape = shape; layers = layers; plated = plated; least = least_of s; least_in_range = length_in_range (least_of s) fits }
 
+-- the hole of these sizes and this shape, if its smaller size is a length
 abbrev pub hole_by : LayerSet → Bool → Sizes → Shape → Option Hole
 hole_by layers plated s shape = tested (is_length (least_of s)) (hole_with layers plated s shape)
 
--- round or oval, through all copper layers
+-- the hole of these sizes, if there is one: round or oval, through all copper layers
 abbrev pub hole_of : LayerSet → Spot → ℕ → Bool → Option Sizes → Option (Option Hole)
 hole_of copper at quarter plated None = Some None
 hole_of copper at quarter plated (Some s) =
     option_map (λ hole. Some hole) (option_and_then (hole_by copper plated s) (cushion_at at (turned_cushion quarter (oval_cushion s))))
 
--- at the position of the pad, and turned with it
+-- the hole of a pad stands at its position, and is turned with it
 abbrev pub frame_hole : LayerSet → Frame → Option (Option Hole)
 frame_hole copper f = hole_of copper f.at f.quarter (is_plated f.pad_type) (hole_sizes f.pad_type f.drilling.sizes)
 
 -- ---- its clearance: its own, else that of the footprint
 
+-- the number where it is above 0, else the other one
 abbrev pub if_above_0 : ℤ → Option ℤ → Option ℤ
 if_above_0 n otherwise = if int_lt (pos 0) n then Some n else otherwise
 
+-- the clearance of a pad, if it has one: 0 and less count as none
 abbrev pub local_of : ℤ → ℤ → Option ℤ
 local_of own of_footprint = if_above_0 own (if_above_0 of_footprint None)
 
 -- ---- what must lie on the board, and be at most 500 mm
 
+-- both sizes are at most 500 mm
 abbrev pub sizes_fit : Sizes → Bool
 sizes_fit s = is_length s.w && is_length s.h
 
+-- both sizes are at most 500 mm, if there are sizes
 abbrev pub some_fit : Option Sizes → Bool
 some_fit None = true
 some_fit (Some s) = sizes_fit s
 
+-- the position lies on the board, and the pad and its hole are at most 500 mm large
 abbrev pub frame_fits : Frame → Bool
 frame_fits f = fits_board f.at && (sizes_fit f.sizes && some_fit f.drilling.sizes)
 
+-- the clearance is a length, if there is one
 abbrev pub local_fits : Option ℤ → Bool
 local_fits None = true
 local_fits (Some n) = is_length n
 
+-- and then it is in range
 pub local_in_range : (local : Option ℤ) → local_fits local ≡ true → IsLengthIfSome local
 local_in_range None h = λ n e. absurd cc
 local_in_range (Some m) h = λ n e. length_in_range n (subst (λ (z : ℤ). is_length z ≡ true) (same e) h)
@@ -140,6 +155,7 @@ local_in_range (Some m) h = λ n e. length_in_range n (subst (λ (z : ℤ). is_l
 
 -- ---- the item
 
+-- the pad of this label at this spot, with this copper and this hole
 abbrev pub pad_item : (label : Label) → Spot → List Part → Option Hole → local_fits label.local ≡ true → Item
 pad_item label at copper hole fits = record {
   name = label.name;
@@ -155,6 +171,7 @@ pad_item label at copper hole fits = record {
   what_in_range = unmeasured (Pad label.number label.reference) refl;
 }
 
+-- the pad of this label at this spot, if its copper and its hole lie on the board and its clearance is a length
 abbrev pub pad_with : Label → Spot → Option (List Part) → Option (Option Hole) → Option Item
 pad_with label at copper hole =
     option_and_then (λ parts. option_and_then (λ drilled. tested (local_fits label.local) (pad_item label at parts drilled)) hole) copper
@@ -163,6 +180,7 @@ pad_with label at copper hole =
 abbrev pub placed : LayerSet → LayerSet → Label → Frame → Form → Option Item
 placed copper layers label f form = if frame_fits f && primitives_fit form.primitives then pad_with label f.at (frame_copper layers f form) (frame_hole copper f) else None
 
+-- what a pad has besides its form
 abbrev pub label_of : ℕ → ℕ → ℤ → Head → Tree → Tree → Label
 label_of unit net own head number tree =
     record { name = name_in tree; unit = unit; net = net; number = text_of number; reference = head.reference; local = local_of own head.clearance }

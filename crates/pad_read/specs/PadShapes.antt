@@ -14,6 +14,7 @@ use Rattle.list_read.specs.Heads.{place}
 use Rattle.list_read.specs.Elements.{element}
 use Rattle.part_read.specs.Elements.{given_or, atom_of}
 use Rattle.part_read.specs.Numbers.{read_as}
+use Rattle.part_read.specs.Stances.{most_read}
 use Rattle.part_read.specs.There.{both}
 use Rattle.pad_read.specs.Halves.{half_point}
 use Rattle.part_read.specs.Figures.{box_core, radius_of, around}
@@ -37,7 +38,7 @@ oval_cushion s = let least = least_of s in record { x = s.w -ℤ least; y = s.h 
 abbrev pub round_cushion : Sizes → ℤ → Cushion
 round_cushion s r = record { x = s.w -ℤ r; y = s.h -ℤ r; radius = r }
 
--- what was read lies within reach of all sums
+-- its numbers are made of what was read, so sums of them are in range
 pub record IsSmall (c : Cushion) : Type 0 where
   pub x : unsigned_abs c.x ≤ 3000000000000
   pub y : unsigned_abs c.y ≤ 3000000000000
@@ -45,6 +46,15 @@ pub record IsSmall (c : Cushion) : Type 0 where
 
 -- ---- the radius of a rounded rectangle
 
+-- a share of a size, as it is read
+abbrev pub IsShare : ℤ → Type 0
+IsShare n = unsigned_abs n ≤ most_read
+
+-- a radius in half nanometres, as far from 0 as twice a share
+abbrev pub IsTwoShares : ℤ → Type 0
+IsTwoShares n = unsigned_abs n ≤ 2000000000000
+
+-- the smaller number
 abbrev pub least_number : ℤ → ℤ → ℤ
 least_number a b = if int_le a b then a else b
 
@@ -54,6 +64,7 @@ share_of size atom = do
   text ← needed (BadNumber (place atom)) (content atom)
   read_as (BadNumber (place atom)) (ratio_near_answer text (least_number size greatest))
 
+-- twice that share, or the size where it is smaller
 abbrev pub ratio_in : ℤ → Tree → Result ℤ BoardError
 ratio_in least atom = share_of least atom >>= λ share. Ok (least_number (pos 2 *ℤ share) least)
 
@@ -63,14 +74,15 @@ round_radius s tree = given_or (pos 0) (λ list. atom_of 1 list >>= ratio_in (le
 
 -- ---- on the board
 
--- turned by so many quarter turns
+-- the cushion turned by so many quarter turns
 abbrev pub turned_cushion : ℕ → Cushion → Cushion
 turned_cushion quarter c = if quarter % 2 == 0 then c else record { x = c.y; y = c.x; radius = c.radius }
 
--- the two corners of the box around this spot, if they lie on the board
+-- the left and upper corner of the box around this spot, if it lies on the board
 abbrev pub low_point : Spot → Cushion → Option Point
 low_point s c = half_point (record { x = (pos 2 *ℤ s.x) -ℤ c.x; y = (pos 2 *ℤ s.y) -ℤ c.y })
 
+-- the right and lower corner of that box, if it lies on the board
 abbrev pub high_point : Spot → Cushion → Option Point
 high_point s c = half_point (record { x = (pos 2 *ℤ s.x) +ℤ c.x; y = (pos 2 *ℤ s.y) +ℤ c.y })
 

@@ -9,10 +9,11 @@ use Rattle.list_read.specs.Heads.{is_text}
 use Rattle.list_read.specs.Elements.{element}
 use Rattle.part_read.specs.Elements.{in_needed, given_or, atom_of, atom_or}
 use Rattle.part_read.specs.Numbers.{size_in, spot_at}
+use Rattle.part_read.specs.Stances.{greatest_size}
 use Rattle.pad_read.specs.declared.sizes.Sizes.{Sizes}
 use Rattle.pad_read.specs.declared.sizes.Drilling.{Drilling}
 
--- (size W H)
+-- the sizes of (size W H)
 unfoldable pub sizes_at : Tree → Result Sizes BoardError
 sizes_at list = do
   first ← atom_of 1 list
@@ -21,25 +22,28 @@ sizes_at list = do
   h ← size_in second
   Ok (record { w = w; h = h })
 
+-- the sizes of a pad, which must be there
 abbrev pub sizes_of : Tree → Result Sizes BoardError
 sizes_of tree = in_needed sizes_at tree (element (codes "size") tree)
 
+-- the smaller size
 abbrev pub least_of : Sizes → ℤ
 least_of s = if int_le s.w s.h then s.w else s.h
 
+-- both sizes are equal
 abbrev pub are_equal : Sizes → Sizes → Bool
 are_equal s t = int_eq s.w t.w && int_eq s.h t.h
 
--- as they are read: from 0 to 10^12 nanometres
+-- both sizes are as they are read
 pub record AreRead (s : Sizes) : Type 0 where
   pub w_from : pos 0 ≤ℤ s.w
-  pub w_to : s.w ≤ℤ pos 1000000000000
+  pub w_to : s.w ≤ℤ greatest_size
   pub h_from : pos 0 ≤ℤ s.h
-  pub h_to : s.h ≤ℤ pos 1000000000000
+  pub h_to : s.h ≤ℤ greatest_size
 
 -- ---- drills: (drill D), (drill oval W) or (drill oval W H), each perhaps with (offset X Y)
 
--- the second size of an oval one is the first where it is missing
+-- the sizes of an oval hole; the second is the first where it is missing
 unfoldable pub oval_sizes : Tree → Result Sizes BoardError
 oval_sizes list = do
   first ← atom_of 2 list
@@ -47,23 +51,27 @@ oval_sizes list = do
   h ← atom_or w size_in (slice_get (parts list) 3)
   Ok (record { w = w; h = h })
 
+-- the sizes of a round hole by its diameter
 abbrev pub round_sizes : Tree → Result Sizes BoardError
 round_sizes atom = size_in atom >>= λ d. Ok (record { w = d; h = d })
 
--- where the first part is missing or a list, there is no hole
+-- the sizes of the hole of a drill; where its first part is missing or a list, there is no hole
 abbrev pub drilled_by : Tree → Option Tree → Result (Option Sizes) BoardError
 drilled_by list found =
     atom_or None (λ t. (if is_text t (codes "oval") then oval_sizes list else round_sizes t) >>= λ sizes. Ok (Some sizes)) found
 
+-- the copper stands where the pad does
 abbrev pub no_offset : Spot
 no_offset = record { x = pos 0; y = pos 0 }
 
+-- the hole and the offset that this `drill` gives
 unfoldable pub drilling_at : Tree → Result Drilling BoardError
 drilling_at list = do
   sizes ← drilled_by list (slice_get (parts list) 1)
   offset ← given_or no_offset spot_at (element (codes "offset") list)
   Ok (record { sizes = sizes; offset = offset })
 
+-- there is no hole and no offset
 abbrev pub no_drilling : Drilling
 no_drilling = record { sizes = None; offset = no_offset }
 

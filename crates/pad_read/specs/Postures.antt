@@ -23,17 +23,20 @@ posture_at list = do
   angle ← angle_by (slice_get (parts list) 3)
   Ok (record { at = spot; angle = angle })
 
+-- the position and the angle of a list, which must have them
 abbrev pub posture_of : Tree → Result Posture BoardError
 posture_of tree = in_needed posture_at tree (element (codes "at") tree)
 
--- how many quarter turns an angle is, of whole turns none, if it is a multiple of one
+-- how many quarter turns the rest of an angle is, whole turns left out, if it is a multiple of one
 abbrev pub quarters_by : ℕ → Option ℕ
 quarters_by rest = if rest % 90000000 == 0 then Some (rest / 90000000) else None
 
+-- how many quarter turns an angle is, as it is read
 abbrev pub quarters_of : ℤ → Option ℕ
 quarters_of angle = quarters_by (unsigned_abs (int_rem_euclid angle (pos 360000000)))
 
 -- ---- clearances, of which 0 and less count as none
 
+-- the clearance of (clearance C), 0 where it is missing
 unfoldable pub clearance_of : Tree → Result ℤ BoardError
 clearance_of tree = given_or (pos 0) (λ list. atom_of 1 list >>= length_in) (element (codes "clearance") tree)

@@ -1,10 +1,10 @@
-//! The copper of pads.
+//! The copper of a pad: its cushion and the primitives around it, where they lie on the board.
 
 ghost use Rattle.std.specs.Prelude.{◌≡◌, ◌<◌, ◌++◌, All, IfOk, List, Option, Some, None, if◌then◌else◌};
 ghost use Rattle.board_items.specs.declared.parts.Part.{Part};
 ghost use Rattle.part_read.specs.There.{both, after};
 ghost use Rattle.part_read.specs.Figures.{drawn, IsDrawable};
-ghost use Rattle.part_read.specs.Stances.{IsWithin};
+ghost use Rattle.part_read.specs.Stances.{IsStanceSpot};
 ghost use Rattle.pad_read.specs.PadShapes.{IsSmall};
 ghost use Rattle.pad_read.specs.PadFrames.{IsFramed};
 ghost use Rattle.pad_read.specs.PadOf.{all_drawn, copper_of, middle_of, frame_copper};
@@ -19,7 +19,8 @@ use part_read::{Drawing, Stance, draw_into, no_parts, stand};
 use smallvec::SmallVec;
 use std::alloc::{AllocError, Global};
 
-/// Appends the parts that a drawing gives on these layers and answers true, unless it leaves the board.
+/// Appends the parts that a drawing gives on these layers and answers true, unless it leaves the
+/// board.
 fn draw_next(
     alloc: Global,
     layers: LayerSet,
@@ -28,16 +29,19 @@ fn draw_next(
     list: &mut SmallVec<Part, 1>,
 ) -> Result<bool, AllocError>
     requires quarter { stance.quarter < 4 }
-    requires at { IsWithin 3000000000000 stance.at }
+    requires at { IsStanceSpot stance.at }
     requires drawable { IsDrawable drawing.now }
-    ensures { IfOk result (λ drew. (rest : Option (List Part)) → after list.old.items (both (λ ps qs. ps ++ qs) (drawn layers stance drawing.now) rest) ≡ (if drew then after list.new.items rest else None)) }
+    ensures { IfOk result (λ drew. (rest : Option (List Part)) →
+        after list.old.items (both (λ ps qs. ps ++ qs) (drawn layers stance drawing.now) rest)
+        ≡ (if drew then after list.new.items rest else None)) }
 {
     let drew = draw_into(alloc, layers, stance, drawing, list)?;
     Ok(drew)
 }
 
-/// Appends the parts that all drawings give on these layers and answers true, unless one leaves the board.
-pub fn draw_all(
+/// Appends the parts that all drawings give on these layers and answers true, unless one leaves the
+/// board.
+fn draw_all(
     alloc: Global,
     layers: LayerSet,
     stance: Stance,
@@ -45,9 +49,10 @@ pub fn draw_all(
     list: &mut SmallVec<Part, 1>,
 ) -> Result<bool, AllocError>
     requires quarter { stance.quarter < 4 }
-    requires at { IsWithin 3000000000000 stance.at }
+    requires at { IsStanceSpot stance.at }
     requires drawable { All IsDrawable drawings.now }
-    ensures { IfOk result (λ drew. after list.old.items (all_drawn layers stance drawings.now) ≡ (if drew then Some list.new.items else None)) }
+    ensures { IfOk result (λ drew. after list.old.items (all_drawn layers stance drawings.now)
+        ≡ (if drew then Some list.new.items else None)) }
 {
     for drawing in drawings {
         if !draw_next(alloc, layers, stance, drawing, list)? {
@@ -65,7 +70,7 @@ fn copper_of(
     form: &Form,
 ) -> Result<Option<Parts>, AllocError>
     requires quarter { stance.quarter < 4 }
-    requires at { IsWithin 3000000000000 stance.at }
+    requires at { IsStanceSpot stance.at }
     requires small { IsSmall form.now.cushion }
     ensures { IfOk result (λ parts. parts ≡ copper_of layers stance form.now) }
 {
@@ -82,10 +87,10 @@ fn copper_of(
 }
 
 /// The middle of the copper of a pad: its offset is turned with it.
-pub fn middle_of(frame: Frame) -> Stance
+pub(crate) fn middle_of(frame: Frame) -> Stance
     requires { IsFramed frame }
     ensures middle { result ≡ middle_of frame }
-    ensures within { IsWithin 3000000000000 result.at }
+    ensures within { IsStanceSpot result.at }
 {
     let stance = Stance {
         quarter: frame.quarter,
@@ -98,7 +103,7 @@ pub fn middle_of(frame: Frame) -> Stance
 }
 
 /// The copper of a pad on these layers, unless it leaves the board.
-pub fn frame_copper(
+pub(crate) fn frame_copper(
     alloc: Global,
     layers: LayerSet,
     frame: Frame,

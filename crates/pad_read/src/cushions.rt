@@ -1,11 +1,11 @@
-//! The shapes of pads that are all within a radius of a box.
+//! Cushions: the shapes of pads that are all within a radius of a box.
 
-ghost use Rattle.std.specs.Prelude.{◌≡◌, ◌≤◌, ◌≤ℤ◌, ◌+ℤ◌, ◌-ℤ◌, ◌*ℤ◌, pos, unsigned_abs, IfOk};
+ghost use Rattle.std.specs.Prelude.{◌≡◌, ◌≤ℤ◌, ◌+ℤ◌, ◌-ℤ◌, ◌*ℤ◌, pos, IfOk};
 ghost use Rattle.plain_types.specs.Lengths.{greatest};
 ghost use Rattle.sexpr_read.specs.Views.{tree_of};
-ghost use Rattle.part_read.specs.Stances.{IsWithin};
+ghost use Rattle.part_read.specs.Stances.{IsStanceSpot};
 ghost use Rattle.pad_read.specs.PadSizes.{AreRead, least_of};
-ghost use Rattle.pad_read.specs.PadShapes.{circle_cushion, rect_cushion, oval_cushion, round_cushion, least_number, share_of, ratio_in, round_radius, turned_cushion, low_point, high_point, cushion_at, IsSmall};
+ghost use Rattle.pad_read.specs.PadShapes.{circle_cushion, rect_cushion, oval_cushion, round_cushion, least_number, share_of, ratio_in, round_radius, turned_cushion, low_point, high_point, cushion_at, IsSmall, IsShare, IsTwoShares};
 
 use crate::halves::half_point;
 use crate::sizes::{Cushion, Sizes, least_of};
@@ -19,7 +19,7 @@ use sexpr_read::Node;
 use std::alloc::{AllocError, Global};
 
 /// A disc as wide as the first size.
-pub fn circle_cushion(sizes: Sizes) -> Cushion
+pub(crate) fn circle_cushion(sizes: Sizes) -> Cushion
     requires { AreRead sizes }
     ensures cushion { result ≡ circle_cushion sizes }
     ensures small { IsSmall result }
@@ -32,7 +32,7 @@ pub fn circle_cushion(sizes: Sizes) -> Cushion
 }
 
 /// A rectangle.
-pub fn rect_cushion(sizes: Sizes) -> Cushion
+pub(crate) fn rect_cushion(sizes: Sizes) -> Cushion
     requires { AreRead sizes }
     ensures cushion { result ≡ rect_cushion sizes }
     ensures small { IsSmall result }
@@ -45,7 +45,7 @@ pub fn rect_cushion(sizes: Sizes) -> Cushion
 }
 
 /// A line in its middle, drawn as wide as the smaller size.
-pub fn oval_cushion(sizes: Sizes) -> Cushion
+pub(crate) fn oval_cushion(sizes: Sizes) -> Cushion
     requires { AreRead sizes }
     ensures cushion { result ≡ oval_cushion sizes }
     ensures small { IsSmall result }
@@ -59,9 +59,9 @@ pub fn oval_cushion(sizes: Sizes) -> Cushion
 }
 
 /// A box that the radius, in half nanometres, makes as large as the rectangle.
-pub fn round_cushion(sizes: Sizes, radius: i64) -> Cushion
+pub(crate) fn round_cushion(sizes: Sizes, radius: i64) -> Cushion
     requires sizes { AreRead sizes }
-    requires radius { unsigned_abs radius ≤ 2000000000000 }
+    requires radius { IsTwoShares radius }
     ensures cushion { result ≡ round_cushion sizes radius }
     ensures small { IsSmall result }
 {
@@ -72,8 +72,8 @@ pub fn round_cushion(sizes: Sizes, radius: i64) -> Cushion
     }
 }
 
-/// The same, turned by so many quarter turns.
-pub fn turned_cushion(quarter: u32, cushion: Cushion) -> Cushion
+/// A cushion, turned by so many quarter turns.
+pub(crate) fn turned_cushion(quarter: u32, cushion: Cushion) -> Cushion
     requires { IsSmall cushion }
     ensures turned { result ≡ turned_cushion quarter cushion }
     ensures small { IsSmall result }
@@ -120,19 +120,21 @@ fn read_share(sizes: Sizes, atom: Node<'_, '_>) -> Result<Nm, BoardError>
     }
 }
 
+/// The ratio times the smaller size, to the nearest nanometre, with its range.
 fn share_of(sizes: Sizes, atom: Node<'_, '_>) -> Result<Nm, BoardError>
     requires { AreRead sizes }
     ensures share { result ≡ share_of (least_of sizes) (tree_of atom.entry) }
-    ensures near { IfOk result (λ share. unsigned_abs share ≤ 1000000000000) }
+    ensures near { IfOk result IsShare }
 {
     let share = read_share(sizes, atom)?;
     Ok(share)
 }
 
+/// Twice that share, or the smaller size where it is smaller.
 fn ratio_in(sizes: Sizes, atom: Node<'_, '_>) -> Result<i64, BoardError>
     requires { AreRead sizes }
     ensures radius { result ≡ ratio_in (least_of sizes) (tree_of atom.entry) }
-    ensures near { IfOk result (λ radius. unsigned_abs radius ≤ 2000000000000) }
+    ensures near { IfOk result IsTwoShares }
 {
     let share = share_of(sizes, atom)?;
     let least = least_of(sizes);
@@ -144,10 +146,10 @@ fn ratio_in(sizes: Sizes, atom: Node<'_, '_>) -> Result<i64, BoardError>
 
 /// The radius of a rounded rectangle in half nanometres, 0 where its ratio is missing.
 #[tactic(auto, unfolding(crate::specs::PadShapes::round_radius))]
-pub fn round_radius(sizes: Sizes, node: Node<'_, '_>) -> Result<i64, BoardError>
+pub(crate) fn round_radius(sizes: Sizes, node: Node<'_, '_>) -> Result<i64, BoardError>
     requires { AreRead sizes }
     ensures radius { result ≡ round_radius sizes (tree_of node.entry) }
-    ensures near { IfOk result (λ radius. unsigned_abs radius ≤ 2000000000000) }
+    ensures near { IfOk result IsTwoShares }
 {
     match element(node, b"roundrect_rratio") {
         None => Ok(0),
@@ -157,10 +159,12 @@ pub fn round_radius(sizes: Sizes, node: Node<'_, '_>) -> Result<i64, BoardError>
 
 // ---- on the board
 
+/// The left and upper corner of the box around a spot, in half nanometres.
 fn low_corner(at: Spot, cushion: Cushion) -> Spot
-    requires at { IsWithin 3000000000000 at }
+    requires at { IsStanceSpot at }
     requires small { IsSmall cushion }
-    ensures { result ≡ record { x = (pos 2 *ℤ at.x) -ℤ cushion.x; y = (pos 2 *ℤ at.y) -ℤ cushion.y } }
+    ensures { result
+        ≡ record { x = (pos 2 *ℤ at.x) -ℤ cushion.x; y = (pos 2 *ℤ at.y) -ℤ cushion.y } }
 {
     Spot {
         x: 2 * at.x - cushion.x,
@@ -168,10 +172,12 @@ fn low_corner(at: Spot, cushion: Cushion) -> Spot
     }
 }
 
+/// The right and lower corner of the box around a spot, in half nanometres.
 fn high_corner(at: Spot, cushion: Cushion) -> Spot
-    requires at { IsWithin 3000000000000 at }
+    requires at { IsStanceSpot at }
     requires small { IsSmall cushion }
-    ensures { result ≡ record { x = (pos 2 *ℤ at.x) +ℤ cushion.x; y = (pos 2 *ℤ at.y) +ℤ cushion.y } }
+    ensures { result
+        ≡ record { x = (pos 2 *ℤ at.x) +ℤ cushion.x; y = (pos 2 *ℤ at.y) +ℤ cushion.y } }
 {
     Spot {
         x: 2 * at.x + cushion.x,
@@ -179,16 +185,18 @@ fn high_corner(at: Spot, cushion: Cushion) -> Spot
     }
 }
 
+/// The left and upper corner of the box around a spot, unless it lies off the board.
 fn low_point(at: Spot, cushion: Cushion) -> Option<Point>
-    requires at { IsWithin 3000000000000 at }
+    requires at { IsStanceSpot at }
     requires small { IsSmall cushion }
     ensures { result ≡ low_point at cushion }
 {
     half_point(low_corner(at, cushion))
 }
 
+/// The right and lower corner of the box around a spot, unless it lies off the board.
 fn high_point(at: Spot, cushion: Cushion) -> Option<Point>
-    requires at { IsWithin 3000000000000 at }
+    requires at { IsStanceSpot at }
     requires small { IsSmall cushion }
     ensures { result ≡ high_point at cushion }
 {
@@ -196,8 +204,12 @@ fn high_point(at: Spot, cushion: Cushion) -> Option<Point>
 }
 
 /// The shape around this spot, unless it leaves the board.
-pub fn cushion_at(alloc: Global, at: Spot, cushion: Cushion) -> Result<Option<Shape>, AllocError>
-    requires at { IsWithin 3000000000000 at }
+pub(crate) fn cushion_at(
+    alloc: Global,
+    at: Spot,
+    cushion: Cushion,
+) -> Result<Option<Shape>, AllocError>
+    requires at { IsStanceSpot at }
     requires small { IsSmall cushion }
     ensures { IfOk result (λ shape. shape ≡ cushion_at at cushion) }
 {

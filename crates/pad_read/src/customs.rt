@@ -1,4 +1,4 @@
-//! Custom pads.
+//! Custom pads: the anchor in the middle, and the primitives around it.
 
 ghost use Rattle.std.specs.Prelude.{◌≡◌, ◌++◌, OnOk, IfOk, All};
 ghost use Rattle.sexpr_read.specs.Tree.{parts};
@@ -21,6 +21,7 @@ use plain_types::one;
 use sexpr_read::Node;
 use std::alloc::{AllocError, Global};
 
+/// What a primitive is, by its head.
 fn primitive_kind(node: Node<'_, '_>) -> Option<GraphicKind>
     ensures { result ≡ primitive_kind (tree_of node.entry) }
 {
@@ -46,7 +47,8 @@ fn primitive_by(
     node: Node<'_, '_>,
     kind: Option<GraphicKind>,
 ) -> Result<Vec<Drawing>, BoardError>
-    ensures drawings { GivesItems result (primitive_by (tree_of pad.entry) (tree_of node.entry) kind) }
+    ensures drawings { GivesItems result
+        (primitive_by (tree_of pad.entry) (tree_of node.entry) kind) }
     ensures drawable { IfOk result (λ drawings. All IsDrawable drawings.items) }
 {
     let Some(kind) = kind else {
@@ -62,6 +64,7 @@ fn primitive_by(
     Ok(one(alloc, drawing)?)
 }
 
+/// The anchor of this word; another word is refused at the pad.
 fn anchor_by_word(
     pad: Node<'_, '_>,
     sizes: Sizes,
@@ -82,7 +85,7 @@ fn anchor_by_word(
 
 /// The anchor of a custom pad, a disc where it is missing.
 #[tactic(auto, unfolding(crate::specs::CustomPads::anchor_of))]
-pub fn anchor_of(sizes: Sizes, pad: Node<'_, '_>) -> Result<Cushion, BoardError>
+pub(crate) fn anchor_of(sizes: Sizes, pad: Node<'_, '_>) -> Result<Cushion, BoardError>
     requires { AreRead sizes }
     ensures anchor { result ≡ anchor_of sizes (tree_of pad.entry) }
     ensures small { IfOk result IsSmall }
@@ -96,6 +99,7 @@ pub fn anchor_of(sizes: Sizes, pad: Node<'_, '_>) -> Result<Cushion, BoardError>
     }
 }
 
+/// Puts drawings behind the others.
 fn append_all(drawings: &mut Vec<Drawing>, more: Vec<Drawing>) -> Result<(), AllocError>
     ensures { OnOk result (drawings.new.items ≡ drawings.old.items ++ more.items) }
 {
@@ -113,7 +117,8 @@ fn take_primitive(
     drawings: &mut Vec<Drawing>,
 ) -> Result<(), BoardError>
     requires { All IsDrawable drawings.old.items }
-    ensures taken { TakesPrimitive result (tree_of pad.entry) (tree_of part.entry) drawings.old.items drawings.new.items }
+    ensures taken { TakesPrimitive result (tree_of pad.entry) (tree_of part.entry)
+        drawings.old.items drawings.new.items }
     ensures drawable { OnOk result (All IsDrawable drawings.new.items) }
 {
     let more = primitive_by(alloc, pad, part, primitive_kind(part))?;
@@ -121,12 +126,14 @@ fn take_primitive(
     Ok(())
 }
 
+/// What the parts of this list draw, in order.
 fn primitives_in(
     alloc: Global,
     pad: Node<'_, '_>,
     list: Node<'_, '_>,
 ) -> Result<Vec<Drawing>, BoardError>
-    ensures drawings { GivesItems result (primitives_among (tree_of pad.entry) (parts (tree_of list.entry))) }
+    ensures drawings { GivesItems result
+        (primitives_among (tree_of pad.entry) (parts (tree_of list.entry))) }
     ensures drawable { IfOk result (λ drawings. All IsDrawable drawings.items) }
 {
     let mut drawings = Vec::new(alloc);
@@ -138,7 +145,7 @@ fn primitives_in(
 
 /// What `(primitives ..)` draws.
 #[tactic(auto, unfolding(crate::specs::CustomPads::primitives_of))]
-pub fn primitives_of(alloc: Global, pad: Node<'_, '_>) -> Result<Primitives, BoardError>
+pub(crate) fn primitives_of(alloc: Global, pad: Node<'_, '_>) -> Result<Primitives, BoardError>
     ensures { Gives result (primitives_of (tree_of pad.entry)) }
 {
     match element(pad, b"primitives") {

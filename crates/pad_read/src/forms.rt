@@ -1,4 +1,4 @@
-//! The forms of pads.
+//! The form of a pad: a cushion by its shape and its sizes, and the primitives of a custom pad.
 
 ghost use Rattle.std.specs.Prelude.{◌≡◌, IfOk};
 ghost use Rattle.sexpr_read.specs.Views.{tree_of};
@@ -23,6 +23,7 @@ pub struct Form {
     pub primitives: Primitives,
 }
 
+/// The form that is a cushion alone.
 fn without_primitives(alloc: Global, cushion: Cushion) -> Form
     ensures { result ≡ without_primitives cushion }
 {
@@ -33,7 +34,7 @@ fn without_primitives(alloc: Global, cushion: Cushion) -> Form
 }
 
 /// The form of a pad of this shape.
-pub fn form_of(
+pub(crate) fn form_of(
     alloc: Global,
     word: PadWord,
     sizes: Sizes,

@@ -1,9 +1,10 @@
-//! How pads are made, where they stand and how they are turned.
+//! The frame of a pad, read from the front of its list: what it is made for, its shape, where it
+//! stands on the board, its quarter turns, its sizes and its drill.
 
 ghost use Rattle.std.specs.Prelude.{◌≡◌, ◌<◌, IfOk};
 ghost use Rattle.sexpr_read.specs.Views.{tree_of};
-ghost use Rattle.part_read.specs.Stances.{IsWithin, stood};
-ghost use Rattle.pad_read.specs.PadFrames.{frame_of, IsFramed};
+ghost use Rattle.part_read.specs.Stances.{IsReadSpot, stood};
+ghost use Rattle.pad_read.specs.PadFrames.{frame_of, IsPadSpot, IsFramed};
 
 use crate::pads::Frame;
 use crate::postures::posture_of;
@@ -18,19 +19,19 @@ use sexpr_read::Node;
 /// Where a spot of a footprint that stands so is on the board, or off it.
 fn position_of(stance: Stance, spot: Spot) -> Spot
     requires quarter { stance.quarter < 4 }
-    requires at { IsWithin 1000000000000 stance.at }
-    requires spot { IsWithin 1000000000000 spot }
+    requires at { IsReadSpot stance.at }
+    requires spot { IsReadSpot spot }
     ensures stood { result ≡ stood stance spot }
-    ensures within { IsWithin 2000000000000 result }
+    ensures within { IsPadSpot result }
 {
     stand(stance, spot)
 }
 
 /// The frame of a pad in a footprint that stands so.
 #[tactic(auto, unfolding(crate::specs::PadFrames::frame_of))]
-pub fn frame_of(stance: Stance, node: Node<'_, '_>) -> Result<Frame, BoardError>
+pub(crate) fn frame_of(stance: Stance, node: Node<'_, '_>) -> Result<Frame, BoardError>
     requires quarter { stance.quarter < 4 }
-    requires at { IsWithin 1000000000000 stance.at }
+    requires at { IsReadSpot stance.at }
     ensures frame { result ≡ frame_of stance (tree_of node.entry) }
     ensures framed { IfOk result IsFramed }
 {

@@ -1,4 +1,4 @@
-//! Points at spots that count half nanometres.
+//! The point at a spot that counts half nanometres, with the test that it lies on the board.
 
 ghost use Rattle.std.specs.Prelude.{◌≡◌};
 ghost use Rattle.pad_read.specs.Halves.{is_near_half, fits_half, half_point};
@@ -6,15 +6,17 @@ ghost use Rattle.pad_read.specs.Halves.{is_near_half, fits_half, half_point};
 use geo_seg::Point;
 use part_read::Spot;
 
-/// The greatest coordinate: 500 mm.
-const GREATEST: u64 = 1_000_000_000;
+/// The greatest coordinate in half nanometres: 500 mm.
+const GREATEST_COORDINATE: u64 = 1_000_000_000;
 
+/// Whether the number is a coordinate.
 fn is_near_half(z: i64) -> bool
     ensures { result ≡ is_near_half z }
 {
-    z.unsigned_abs() <= GREATEST
+    z.unsigned_abs() <= GREATEST_COORDINATE
 }
 
+/// Whether both numbers of the spot are coordinates.
 fn fits_half(spot: Spot) -> bool
     ensures { result ≡ fits_half spot }
 {
@@ -22,7 +24,7 @@ fn fits_half(spot: Spot) -> bool
 }
 
 /// The point at a spot that counts half nanometres, unless it lies off the board.
-pub fn half_point(spot: Spot) -> Option<Point>
+pub(crate) fn half_point(spot: Spot) -> Option<Point>
     ensures { result ≡ half_point spot }
 {
     if !fits_half(spot) {

@@ -1,9 +1,9 @@
-//! The holes of pads.
+//! The hole of a pad: round or oval, through all copper layers, at the position of the pad.
 
 ghost use Rattle.std.specs.Prelude.{◌≡◌, IfOk, IfSome};
 ghost use Rattle.plain_types.specs.Lengths.{is_length};
 ghost use Rattle.part_read.specs.OnBoard.{tested};
-ghost use Rattle.part_read.specs.Stances.{IsWithin};
+ghost use Rattle.part_read.specs.Stances.{IsStanceSpot};
 ghost use Rattle.pad_read.specs.PadSizes.{AreRead, least_of};
 ghost use Rattle.pad_read.specs.PadFrames.{IsFramed, is_plated};
 ghost use Rattle.pad_read.specs.PadOf.{hole_with, hole_of, frame_hole};
@@ -19,12 +19,14 @@ use part_read::Spot;
 use plain_types::is_length;
 use std::alloc::{AllocError, Global};
 
+/// Whether the hole of a pad of this type is plated.
 fn is_plated(pad_type: PadType) -> bool
     ensures { result ≡ is_plated pad_type }
 {
     matches!(pad_type, PadType::ThruHole)
 }
 
+/// The hole of these sizes and this shape, unless its smaller size is above 500 mm.
 fn hole_with(layers: LayerSet, plated: bool, sizes: Sizes, shape: Shape) -> Option<Hole>
     ensures { result ≡ tested (is_length (least_of sizes)) (hole_with layers plated sizes shape) }
 {
@@ -49,7 +51,7 @@ fn hole_of(
     plated: bool,
     sizes: Option<Sizes>,
 ) -> Result<Option<Option<Hole>>, AllocError>
-    requires at { IsWithin 3000000000000 at }
+    requires at { IsStanceSpot at }
     requires read { IfSome sizes AreRead }
     ensures { IfOk result (λ hole. hole ≡ hole_of layers at quarter plated sizes) }
 {
@@ -66,8 +68,9 @@ fn hole_of(
     }
 }
 
-/// The hole of a pad, if it has one, unless it leaves the board. It stands at the position of the pad and is turned with it.
-pub fn frame_hole(
+/// The hole of a pad, if it has one, unless it leaves the board. It stands at the position of the
+/// pad and is turned with it.
+pub(crate) fn frame_hole(
     alloc: Global,
     copper: LayerSet,
     frame: Frame,

@@ -1,4 +1,4 @@
-//! What a pad has besides its form.
+//! The label of a pad: what it has besides its form.
 
 use board_items::Nm;
 use drc_io::Name;
@@ -12,5 +12,6 @@ pub struct Label {
     pub number: Name,
     /// The reference of its footprint.
     pub reference: Name,
+    /// The clearance in nanometres, if it has one.
     pub local: Option<Nm>,
 }

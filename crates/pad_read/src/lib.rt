@@ -1,5 +1,6 @@
-//! Pads, read from their lists: shapes, sizes, custom pads and holes, how they stand on the board, and the items that they
-//! give; and the position, angle and clearance of a list, which footprints have as well.
+//! Pads, read from their lists: shapes, sizes, custom pads and holes, how they stand on the board,
+//! and the items that they give; and the position, angle and clearance of a list, which footprints
+//! have as well.
 #![tactic(auto)]
 
 mod copper;

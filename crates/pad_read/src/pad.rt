@@ -12,7 +12,7 @@ ghost use Rattle.part_read.specs.LayersOf.{layers_named};
 ghost use Rattle.part_read.specs.Nodes.{Gives};
 ghost use Rattle.part_read.specs.OnBoard.{tested};
 ghost use Rattle.part_read.specs.Ready.{IsReady};
-ghost use Rattle.part_read.specs.Stances.{IsWithin};
+ghost use Rattle.part_read.specs.Stances.{IsReadSpot};
 ghost use Rattle.pad_read.specs.PadShapes.{IsSmall};
 ghost use Rattle.pad_read.specs.PadFrames.{IsFramed};
 ghost use Rattle.pad_read.specs.PadOf.{frame_copper, frame_hole, frame_fits, local_fits, pad_item, pad_with, placed, label_of, pad_of};
@@ -39,6 +39,7 @@ use plain_types::is_length;
 use sexpr_read::Node;
 use std::alloc::{AllocError, Global};
 
+/// Whether the clearance is a length, if there is one.
 fn local_fits(local: Option<Nm>) -> bool
     ensures { result ≡ local_fits local }
 {
@@ -48,12 +49,14 @@ fn local_fits(local: Option<Nm>) -> bool
     }
 }
 
+/// Whether the position lies on the board, and the pad and its hole are at most 500 mm large.
 fn frame_fits(frame: Frame) -> bool
     ensures { result ≡ frame_fits frame }
 {
     fits_board(frame.at) && (sizes_fit(frame.sizes) && some_fit(frame.drilling.sizes))
 }
 
+/// What a pad is beside other items: its number and the reference of its footprint.
 fn pad_what(alloc: Global, number: Name, reference: Name) -> Result<What, AllocError>
     ensures { IfOk result (λ what. what ≡ Pad number reference) }
 {
@@ -71,7 +74,8 @@ fn pad_item(
     copper: Parts,
     hole: Option<Hole>,
 ) -> Result<Option<Item>, AllocError>
-    ensures { IfOk result (λ item. item ≡ tested (local_fits label.local) (pad_item label at copper hole)) }
+    ensures { IfOk result (λ item.
+        item ≡ tested (local_fits label.local) (pad_item label at copper hole)) }
 {
     if !local_fits(label.local) {
         return Ok(None);
@@ -101,7 +105,8 @@ fn pad_with(
 ) -> Result<Option<Item>, AllocError>
     requires framed { IsFramed frame }
     requires small { IsSmall form.now.cushion }
-    ensures { IfOk result (λ item. item ≡ pad_with label frame.at (frame_copper layers frame form.now) (frame_hole copper frame)) }
+    ensures { IfOk result (λ item. item ≡ pad_with label frame.at
+        (frame_copper layers frame form.now) (frame_hole copper frame)) }
 {
     let Some(parts) = frame_copper(alloc, layers, frame, form)? else {
         return Ok(None);
@@ -131,7 +136,8 @@ fn placed(
     pad_with(alloc, label, copper, layers, frame, form)
 }
 
-/// The same, which the board takes; it is refused at the list of the pad.
+/// The pad, which the board takes. It is refused at its list where it leaves the board, or a size
+/// of it or of a primitive is above 500 mm.
 fn pad_on(
     alloc: Global,
     board: &Board,
@@ -145,7 +151,8 @@ fn pad_on(
     requires small { IsSmall form.now.cushion }
     requires net { is_some (name_of board.now label.net) ≡ true }
     requires on { IsTrue (is_within layers board.now.copper) }
-    ensures pad { Gives result (needed (OutOfBoard (begin_of (tree_of node.entry))) (placed board.now.copper layers label frame form.now)) }
+    ensures pad { Gives result (needed (OutOfBoard (begin_of (tree_of node.entry)))
+        (placed board.now.copper layers label frame form.now)) }
     ensures ready { IfOk result (IsReady board.now label.unit) }
 {
     let found = placed(alloc, board.copper(), layers, label, frame, form)?;
@@ -159,7 +166,8 @@ fn pad_on(
 
 /// The layers of a pad.
 fn layers_of(copper: LayerSet, node: Node<'_, '_>) -> Result<LayerSet, BoardError>
-    ensures layers { result ≡ in_needed (layers_named copper) (tree_of node.entry) (element (codes "layers") (tree_of node.entry)) }
+    ensures layers { result ≡ in_needed (layers_named copper) (tree_of node.entry)
+        (element (codes "layers") (tree_of node.entry)) }
     ensures on { IfOk result (λ layers. IsTrue (is_within layers copper)) }
 {
     match element(node, b"layers") {
@@ -187,7 +195,8 @@ fn label_of(
     number: Node<'_, '_>,
     node: Node<'_, '_>,
 ) -> Result<Label, AllocError>
-    ensures label { IfOk result (λ label. label ≡ label_of unit net own head.now (tree_of number.entry) (tree_of node.entry)) }
+    ensures label { IfOk result (λ label.
+        label ≡ label_of unit net own head.now (tree_of number.entry) (tree_of node.entry)) }
     ensures unit { IfOk result (λ label. label.unit ≡ unit) }
     ensures net { IfOk result (λ label. label.net ≡ net) }
 {
@@ -205,12 +214,13 @@ fn label_of(
     })
 }
 
-/// A pad of a footprint with this head, from its list: an item of this unit, in nanometres, its copper and its hole in half
-/// nanometres. The footprint is turned by 0 to 3 quarter turns, and stands at most 10^12 nanometres from 0 in x and in y.
-/// The board takes the pad, as far as it has room.
+/// A pad of a footprint with this head, from its list: an item of this unit, in nanometres, its
+/// copper and its hole in half nanometres. The footprint is turned by 0 to 3 quarter turns, and
+/// stands at most 10^12 nanometres from 0 in x and in y. The board takes the pad, as far as it has
+/// room.
 ///
-/// Its refusals are those of [`BoardError`], exactly where the definition of a pad (`specs/PadOf`) has them, with their
-/// places; want of memory alone is free.
+/// Its refusals are those of [`BoardError`], exactly where the definition of a pad (`specs/PadOf`)
+/// has them, with their places; want of memory alone is free.
 #[tactic(auto, unfolding(crate::specs::PadOf::pad_of))]
 pub fn pad_of(
     alloc: Global,
@@ -220,7 +230,7 @@ pub fn pad_of(
     node: Node<'_, '_>,
 ) -> Result<Item, BoardError>
     requires quarter { head.now.stance.quarter < 4 }
-    requires at { IsWithin 1000000000000 head.now.stance.at }
+    requires at { IsReadSpot head.now.stance.at }
     ensures pad { Gives result (pad_of board.now unit head.now (tree_of node.entry)) }
     ensures ready { IfOk result (IsReady board.now unit) }
 {

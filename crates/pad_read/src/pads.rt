@@ -1,4 +1,4 @@
-//! Pads.
+//! What a pad is made for, its shape, and its frame.
 
 use crate::sizes::{Drilling, Sizes};
 use part_read::Spot;
@@ -22,7 +22,8 @@ pub enum PadWord {
     Custom,
 }
 
-/// How a pad is made, where it stands on the board, how many quarter turns it is turned, and how large it and its hole are.
+/// How a pad is made, where it stands on the board, how many quarter turns it is turned, and how
+/// large it and its hole are.
 #[derive(Clone, Copy, Debug, PartialEq, Eq, Drop)]
 pub struct Frame {
     pub pad_type: PadType,

@@ -1,4 +1,4 @@
-//! Parts of lists, by their places. The head is at place 0.
+//! The part of a list at a place: the head is at place 0, and what is behind it at 1.
 
 ghost use Rattle.std.specs.Prelude.{◌≡◌, slice_get, option_map};
 ghost use Rattle.sexpr_read.specs.Tree.{parts};
@@ -7,7 +7,7 @@ ghost use Rattle.sexpr_read.specs.Views.{tree_of};
 use sexpr_read::Node;
 
 /// The part behind the head.
-pub fn first_part<'d, 't>(list: Node<'d, 't>) -> Option<Node<'d, 't>>
+pub(crate) fn first_part<'d, 't>(list: Node<'d, 't>) -> Option<Node<'d, 't>>
     ensures { option_map tree_of result ≡ slice_get (parts (tree_of list.entry)) 1 }
 {
     let mut parts = list.children();
@@ -16,7 +16,7 @@ pub fn first_part<'d, 't>(list: Node<'d, 't>) -> Option<Node<'d, 't>>
 }
 
 /// The part of a list at place 3.
-pub fn third_part<'d, 't>(list: Node<'d, 't>) -> Option<Node<'d, 't>>
+pub(crate) fn third_part<'d, 't>(list: Node<'d, 't>) -> Option<Node<'d, 't>>
     ensures { option_map tree_of result ≡ slice_get (parts (tree_of list.entry)) 3 }
 {
     let mut parts = list.children();

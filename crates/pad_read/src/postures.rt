@@ -1,8 +1,9 @@
-//! Where something stands, how it is turned, and its clearance: of a footprint and of a pad alike.
+//! Postures: where a footprint or a pad stands and how it is turned; and its clearance, which both
+//! read alike.
 
 ghost use Rattle.std.specs.Prelude.{◌≡◌, ◌<◌, option_map, IfOk, IfSome};
 ghost use Rattle.sexpr_read.specs.Views.{tree_of};
-ghost use Rattle.part_read.specs.Stances.{IsWithin};
+ghost use Rattle.part_read.specs.Stances.{IsReadSpot};
 ghost use Rattle.pad_read.specs.Postures.{angle_by, posture_at, posture_of, quarters_of, clearance_of};
 
 use crate::places::third_part;
@@ -39,21 +40,21 @@ fn angle_by(found: Option<Node<'_, '_>>) -> Result<Nm, BoardError>
 #[tactic(auto, unfolding(crate::specs::Postures::posture_at))]
 fn posture_at(list: Node<'_, '_>) -> Result<Posture, BoardError>
     ensures posture { result ≡ posture_at (tree_of list.entry) }
-    ensures within { IfOk result (λ posture. IsWithin 1000000000000 posture.at) }
+    ensures within { IfOk result (λ posture. IsReadSpot posture.at) }
 {
     let at = spot_in(list)?;
     let angle = angle_by(third_part(list))?;
     Ok(Posture { at, angle })
 }
 
-/// The position and the angle of the `(at X Y ANGLE)` of a list, each coordinate at most 10^12 nanometres from 0; an angle
-/// that is missing is 0.
+/// The position and the angle of the `(at X Y ANGLE)` of a list, each coordinate at most 10^12
+/// nanometres from 0; an angle that is missing is 0.
 ///
-/// It is refused as Missing at the list where `at` is missing, and at `at` where X or Y is; what is no number, or too far
-/// from 0 to be read, is refused as BadNumber where it stands.
+/// It is refused as Missing at the list where `at` is missing, and at `at` where X or Y is; what is
+/// no number, or too far from 0 to be read, is refused as BadNumber where it stands.
 pub fn posture_of(node: Node<'_, '_>) -> Result<Posture, BoardError>
     ensures posture { result ≡ posture_of (tree_of node.entry) }
-    ensures within { IfOk result (λ posture. IsWithin 1000000000000 posture.at) }
+    ensures within { IfOk result (λ posture. IsReadSpot posture.at) }
 {
     match element(node, b"at") {
         None => Err(missing(node)),
@@ -61,8 +62,8 @@ pub fn posture_of(node: Node<'_, '_>) -> Result<Posture, BoardError>
     }
 }
 
-/// How many quarter turns an angle is, from 0 to 3 with whole turns left out, or nothing where it is no multiple of 90
-/// degrees.
+/// How many quarter turns an angle is, from 0 to 3 with whole turns left out, or nothing where it
+/// is no multiple of 90 degrees.
 pub fn quarters_of(posture: Posture) -> Option<u32>
     ensures quarters { result ≡ quarters_of posture.angle }
     ensures below { IfSome result (λ quarter. quarter < 4) }
@@ -74,10 +75,11 @@ pub fn quarters_of(posture: Posture) -> Option<u32>
     None
 }
 
-/// The clearance of a footprint or a pad in nanometres, at most 10^12 from 0, and 0 where it is missing. One below 0 is
-/// given as it stands.
+/// The clearance of a footprint or a pad in nanometres, at most 10^12 from 0, and 0 where it is
+/// missing. One below 0 is given as it stands.
 ///
-/// It is refused as Missing at `clearance` where its number is missing, and as BadNumber at what is no number.
+/// It is refused as Missing at `clearance` where its number is missing, and as BadNumber at what is
+/// no number.
 #[tactic(auto, unfolding(crate::specs::Postures::clearance_of))]
 pub fn clearance_of(node: Node<'_, '_>) -> Result<Nm, BoardError>
     ensures { result ≡ clearance_of (tree_of node.entry) }

@@ -30,7 +30,8 @@ impl Model for Primitives {
 }
 
 impl Primitives {
-    pub fn none(alloc: Global) -> Primitives
+    /// No drawing.
+    pub(crate) fn none(alloc: Global) -> Primitives
         ensures { result ≡ [] }
     {
         Primitives {
@@ -38,14 +39,16 @@ impl Primitives {
         }
     }
 
-    pub fn of(list: Vec<Drawing>) -> Primitives
+    /// These drawings.
+    pub(crate) fn of(list: Vec<Drawing>) -> Primitives
         requires { All IsDrawable list.items }
         ensures { result ≡ list.items }
     {
         Primitives { list }
     }
 
-    pub fn as_slice(&self) -> &[Drawing]
+    /// The drawings in their order.
+    pub(crate) fn as_slice(&self) -> &[Drawing]
         ensures same { result.now ≡ self.now }
         ensures drawable { All IsDrawable result.now }
     {
@@ -53,6 +56,7 @@ impl Primitives {
     }
 }
 
+/// Whether the width is a length.
 fn fits(width: i64) -> bool
     ensures { result ≡ is_length width }
 {
@@ -70,8 +74,9 @@ fn primitive_fits(drawing: &Drawing) -> bool
     }
 }
 
-/// Whether that is so of each of them.
-pub fn primitives_fit(drawings: &[Drawing]) -> bool
+/// Whether the width of each drawing, and of a circle the diameter of its disc with the width, is
+/// at most 500 mm.
+pub(crate) fn primitives_fit(drawings: &[Drawing]) -> bool
     requires { All IsDrawable drawings.now }
     ensures { result ≡ primitives_fit drawings.now }
 {

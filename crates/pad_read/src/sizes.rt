@@ -1,11 +1,11 @@
-//! The sizes of pads and of their holes.
+//! The sizes of pads, and their drills: the sizes of a hole and the offset of the copper.
 
 ghost use Rattle.std.specs.Prelude.{◌≡◌, ◌≤ℤ◌, pos, codes, option_map, IfOk, IfSome};
 ghost use Rattle.sexpr_read.specs.Views.{tree_of};
 ghost use Rattle.list_read.specs.Elements.{element};
 ghost use Rattle.part_read.specs.Elements.{given_or, atom_or};
 ghost use Rattle.part_read.specs.Numbers.{size_in, spot_at};
-ghost use Rattle.part_read.specs.Stances.{IsWithin};
+ghost use Rattle.part_read.specs.Stances.{greatest_size, IsReadSpot};
 ghost use Rattle.pad_read.specs.PadSizes.{AreRead, sizes_at, sizes_of, least_of, are_equal, oval_sizes, drilled_by, no_offset, drilling_at, drilling_of};
 
 use crate::places::{first_part, third_part};
@@ -28,7 +28,8 @@ pub struct Drilling {
     pub offset: Spot,
 }
 
-/// All within a radius of a box, which is given by how far its edges are from its middle; all in half nanometres.
+/// All within a radius of a box, which is given by how far its edges are from its middle; all in
+/// half nanometres.
 #[derive(Clone, Copy, Debug, PartialEq, Eq, Drop)]
 pub struct Cushion {
     pub x: i64,
@@ -40,12 +41,13 @@ pub struct Cushion {
 fn size_within(atom: Node<'_, '_>) -> Result<Nm, BoardError>
     ensures size { result ≡ size_in (tree_of atom.entry) }
     ensures from { IfOk result (λ size. pos 0 ≤ℤ size) }
-    ensures to { IfOk result (λ size. size ≤ℤ pos 1000000000000) }
+    ensures to { IfOk result (λ size. size ≤ℤ greatest_size) }
 {
     let size = size_in(atom)?;
     Ok(size)
 }
 
+/// The sizes of `(size W H)`.
 #[tactic(auto, unfolding(crate::specs::PadSizes::sizes_at))]
 fn sizes_at(list: Node<'_, '_>) -> Result<Sizes, BoardError>
     ensures sizes { result ≡ sizes_at (tree_of list.entry) }
@@ -56,8 +58,8 @@ fn sizes_at(list: Node<'_, '_>) -> Result<Sizes, BoardError>
     Ok(Sizes { w, h })
 }
 
-/// The sizes of `(size W H)`, which must be there.
-pub fn sizes_of(node: Node<'_, '_>) -> Result<Sizes, BoardError>
+/// The sizes of a pad, which must be there.
+pub(crate) fn sizes_of(node: Node<'_, '_>) -> Result<Sizes, BoardError>
     ensures sizes { result ≡ sizes_of (tree_of node.entry) }
     ensures read { IfOk result AreRead }
 {
@@ -68,14 +70,14 @@ pub fn sizes_of(node: Node<'_, '_>) -> Result<Sizes, BoardError>
 }
 
 /// The smaller size.
-pub fn least_of(sizes: Sizes) -> Nm
+pub(crate) fn least_of(sizes: Sizes) -> Nm
     ensures { result ≡ least_of sizes }
 {
     if sizes.w <= sizes.h { sizes.w } else { sizes.h }
 }
 
 /// Whether both sizes are equal.
-pub fn are_equal(one: Sizes, other: Sizes) -> bool
+pub(crate) fn are_equal(one: Sizes, other: Sizes) -> bool
     ensures { result ≡ are_equal one other }
 {
     one.w == other.w && one.h == other.h
@@ -86,10 +88,10 @@ pub fn are_equal(one: Sizes, other: Sizes) -> bool
 /// The second size of an oval hole, which is the first where it is missing.
 fn other_size(w: Nm, found: Option<Node<'_, '_>>) -> Result<Nm, BoardError>
     requires from { pos 0 ≤ℤ w }
-    requires to { w ≤ℤ pos 1000000000000 }
+    requires to { w ≤ℤ greatest_size }
     ensures size { result ≡ atom_or w size_in (option_map tree_of found.entry) }
     ensures from { IfOk result (λ size. pos 0 ≤ℤ size) }
-    ensures to { IfOk result (λ size. size ≤ℤ pos 1000000000000) }
+    ensures to { IfOk result (λ size. size ≤ℤ greatest_size) }
 {
     match found {
         None => Ok(w),
@@ -131,10 +133,11 @@ fn drilled_by(list: Node<'_, '_>, found: Option<Node<'_, '_>>) -> Result<Option<
     Ok(Some(Sizes { w: d, h: d }))
 }
 
-/// The offset of `(offset X Y)`, or none.
+/// The offset of `(offset X Y)`, 0 where it is missing.
 fn offset_of(list: Node<'_, '_>) -> Result<Spot, BoardError>
-    ensures offset { result ≡ given_or no_offset spot_at (element (codes "offset") (tree_of list.entry)) }
-    ensures within { IfOk result (IsWithin 1000000000000) }
+    ensures offset { result
+        ≡ given_or no_offset spot_at (element (codes "offset") (tree_of list.entry)) }
+    ensures within { IfOk result IsReadSpot }
 {
     match element(list, b"offset") {
         None => Ok(Spot { x: 0, y: 0 }),
@@ -142,10 +145,11 @@ fn offset_of(list: Node<'_, '_>) -> Result<Spot, BoardError>
     }
 }
 
+/// The hole and the offset that this `drill` gives.
 #[tactic(auto, unfolding(crate::specs::PadSizes::drilling_at))]
 fn drilling_at(list: Node<'_, '_>) -> Result<Drilling, BoardError>
     ensures drilling { result ≡ drilling_at (tree_of list.entry) }
-    ensures within { IfOk result (λ drilling. IsWithin 1000000000000 drilling.offset) }
+    ensures within { IfOk result (λ drilling. IsReadSpot drilling.offset) }
     ensures read { IfOk result (λ drilling. IfSome drilling.sizes AreRead) }
 {
     let sizes = drilled_by(list, first_part(list))?;
@@ -154,9 +158,9 @@ fn drilling_at(list: Node<'_, '_>) -> Result<Drilling, BoardError>
 }
 
 /// The hole and the offset of its copper that the drill of a pad gives.
-pub fn drilling_of(node: Node<'_, '_>) -> Result<Drilling, BoardError>
+pub(crate) fn drilling_of(node: Node<'_, '_>) -> Result<Drilling, BoardError>
     ensures drilling { result ≡ drilling_of (tree_of node.entry) }
-    ensures within { IfOk result (λ drilling. IsWithin 1000000000000 drilling.offset) }
+    ensures within { IfOk result (λ drilling. IsReadSpot drilling.offset) }
     ensures read { IfOk result (λ drilling. IfSome drilling.sizes AreRead) }
 {
     match element(node, b"drill") {

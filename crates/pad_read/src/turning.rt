@@ -1,4 +1,5 @@
-//! How pads are turned, and what must be at most 500 mm.
+//! What the frame of a pad decides: its quarter turns, whether its sizes are at most 500 mm, its
+//! clearance, and whether it has copper.
 
 ghost use Rattle.std.specs.Prelude.{◌≡◌, ◌<◌, IfSome};
 ghost use Rattle.pad_read.specs.PadFrames.{hole_sizes, is_round_hole, is_turning, quarter_of};
@@ -14,12 +15,13 @@ use part_read::Spot;
 use plain_types::is_length;
 
 /// The sizes of the hole of a pad, if it has one.
-pub fn hole_sizes(pad_type: PadType, sizes: Option<Sizes>) -> Option<Sizes>
+pub(crate) fn hole_sizes(pad_type: PadType, sizes: Option<Sizes>) -> Option<Sizes>
     ensures { result ≡ hole_sizes pad_type sizes }
 {
     if has_hole(pad_type) { sizes } else { None }
 }
 
+/// Whether there is no hole, or both sizes of it are one.
 fn is_round_hole(hole: Option<Sizes>) -> bool
     ensures { result ≡ is_round_hole hole }
 {
@@ -29,7 +31,7 @@ fn is_round_hole(hole: Option<Sizes>) -> bool
     }
 }
 
-/// Whether nothing shows how it is turned.
+/// Whether nothing shows how a pad is turned.
 fn is_turning(word: PadWord, offset: Spot, hole: Option<Sizes>) -> bool
     ensures { result ≡ is_turning word offset hole }
 {
@@ -37,7 +39,7 @@ fn is_turning(word: PadWord, offset: Spot, hole: Option<Sizes>) -> bool
 }
 
 /// How many quarter turns a pad is turned, of whole turns none.
-pub fn quarter_of(
+pub(crate) fn quarter_of(
     word: PadWord,
     drilling: Drilling,
     pad_type: PadType,
@@ -56,14 +58,14 @@ pub fn quarter_of(
 }
 
 /// Whether both sizes are at most 500 mm.
-pub fn sizes_fit(sizes: Sizes) -> bool
+pub(crate) fn sizes_fit(sizes: Sizes) -> bool
     ensures { result ≡ sizes_fit sizes }
 {
     is_length(sizes.w) && is_length(sizes.h)
 }
 
-/// Whether both are, if there are sizes.
-pub fn some_fit(sizes: Option<Sizes>) -> bool
+/// Whether both sizes are at most 500 mm, if there are sizes.
+pub(crate) fn some_fit(sizes: Option<Sizes>) -> bool
     ensures { result ≡ some_fit sizes }
 {
     match sizes {
@@ -75,7 +77,7 @@ pub fn some_fit(sizes: Option<Sizes>) -> bool
 // ---- clearances and copper
 
 /// The clearance of a pad: its own, else that of the footprint; 0 and less count as none.
-pub fn local_of(own: &Clearances) -> Option<Nm>
+pub(crate) fn local_of(own: &Clearances) -> Option<Nm>
     ensures { result ≡ local_of own.now.own own.now.of_footprint }
 {
     if 0 < own.own {
@@ -105,7 +107,12 @@ fn equals_drill(sizes: Sizes, drill: Option<Sizes>) -> bool
 }
 
 /// Whether a pad has copper: it lies on a copper layer, and is more than a hole that is not plated.
-pub fn has_copper(pad_type: PadType, layers: LayerSet, sizes: Sizes, drill: Option<Sizes>) -> bool
+pub(crate) fn has_copper(
+    pad_type: PadType,
+    layers: LayerSet,
+    sizes: Sizes,
+    drill: Option<Sizes>,
+) -> bool
     ensures { result ≡ has_copper pad_type layers sizes drill }
 {
     if layers.bits == 0 {

@@ -1,4 +1,4 @@
-//! The words at the front of a pad.
+//! The words at the front of a pad: what it is made for, and its shape.
 
 ghost use Rattle.std.specs.Prelude.{◌≡◌};
 ghost use Rattle.sexpr_read.specs.Views.{tree_of};
@@ -32,7 +32,7 @@ fn type_by(atom: Node<'_, '_>) -> Option<PadType>
 }
 
 /// What a pad is made for.
-pub fn type_of(node: Node<'_, '_>) -> Result<PadType, BoardError>
+pub(crate) fn type_of(node: Node<'_, '_>) -> Result<PadType, BoardError>
     ensures { result ≡ type_of (tree_of node.entry) }
 {
     let atom = second_atom(node)?;
@@ -81,7 +81,7 @@ fn third_atom<'d, 't>(list: Node<'d, 't>) -> Result<Node<'d, 't>, BoardError>
 
 /// The shape of a pad, unless a corner is cut off.
 #[tactic(auto, unfolding(crate::specs::PadFrames::word_of))]
-pub fn word_of(node: Node<'_, '_>) -> Result<PadWord, BoardError>
+pub(crate) fn word_of(node: Node<'_, '_>) -> Result<PadWord, BoardError>
     ensures { result ≡ word_of (tree_of node.entry) }
 {
     let atom = third_atom(node)?;
@@ -95,7 +95,7 @@ pub fn word_of(node: Node<'_, '_>) -> Result<PadWord, BoardError>
 }
 
 /// Whether a pad of this type may have a hole.
-pub fn has_hole(pad_type: PadType) -> bool
+pub(crate) fn has_hole(pad_type: PadType) -> bool
     ensures { result ≡ has_hole pad_type }
 {
     matches!(pad_type, PadType::ThruHole | PadType::NpThruHole)

@@ -30,6 +30,7 @@ use Rattle.part_read.specs.Room.{has_room_after}
 
 -- ---- layers and name
 
+-- the layers that the element `layer` names, else those of the element `layers`
 abbrev pub layers_among : LayerSet → Tree → Option Tree → Option Tree → Result LayerSet BoardError
 layers_among copper tree (Some layer) layers = do
   atom ← atom_of 1 layer
@@ -66,6 +67,7 @@ area_of corners = option_map area_with (points_stood as_it_is corners)
 abbrev pub ban_of : List ℕ → Tree → Result Bool BoardError
 ban_of head list = given_or false (λ found. atom_of 1 found >>= λ atom. Ok (is_text atom (codes "not_allowed"))) (element head list)
 
+-- what a rule area bans
 unfoldable pub bans_in : Tree → Result Bans BoardError
 bans_in list = do
   tracks ← ban_of (codes "tracks") list
@@ -85,6 +87,7 @@ area_in_room board unit tree corners = do
   room ← check (TooMany (place tree)) (has_room_after 0 board unit)
   Ok shape
 
+-- the rule area of a zone: its polygon is looked at before its bans
 unfoldable pub rule_area : PlainBoard → ℕ → Tree → ℕ → LayerSet → List ℕ → Tree → Result Item BoardError
 rule_area board unit tree net layers title keepout = do
   corners ← polygon_of tree
@@ -94,7 +97,7 @@ rule_area board unit tree net layers title keepout = do
 
 -- ---- fills
 
--- the zone says that its fills have no outline with a width: (filled_areas_thickness no)
+-- this element says that the fills have no outline with a width: (filled_areas_thickness no)
 abbrev pub is_thin_by : Option Tree → Bool
 is_thin_by None = false
 is_thin_by (Some list) = is_no (atom_of 1 list)
@@ -103,6 +106,7 @@ is_thin_by (Some list) = is_no (atom_of 1 list)
     is_no (Ok atom) = is_text atom (codes "no")
     is_no (Err e) = false
 
+-- the zone says so in its element, which may be missing
 unfoldable pub is_thin : Tree → Bool
 is_thin tree = is_thin_by (element (codes "filled_areas_thickness") tree)
 
@@ -113,6 +117,7 @@ fill_layer copper list = do
   atom ← atom_of 1 layer
   layer_in copper atom
 
+-- the fill of a filled polygon on this layer, which must lie on the board
 unfoldable pub fill_on : ℕ → ℕ → Tree → ℕ → Tree → Result Item BoardError
 fill_on unit net tree layer list = do
   corners ← corners_of list
@@ -145,10 +150,12 @@ fills_after found board unit net tree (t ∷ ts) =
 
 -- ---- zones
 
+-- the rule area where there is `keepout`, else the fills
 abbrev pub zone_by : PlainBoard → ℕ → Tree → ℕ → LayerSet → List ℕ → Option Tree → Result (List Item) BoardError
 zone_by board unit tree net layers title (Some keepout) = rule_area board unit tree net layers title keepout >>= λ item. Ok (item ∷ [])
 zone_by board unit tree net layers title None = fills_after 0 board unit net tree (parts tree)
 
+-- the items of a zone: its net, its layers and its name are looked at first
 unfoldable pub zone_of : PlainBoard → ℕ → Tree → Result (List Item) BoardError
 zone_of board unit tree = do
   net ← net_of board tree

@@ -1,4 +1,4 @@
-//! Zones.
+//! The items of a zone: a rule area by its polygon, or the fills on copper.
 
 ghost use Rattle.std.specs.Prelude.{◌≡◌, ◌+◌, ◌<◌, ◌∷◌, ◌++◌, [], true, false, Some, is_some, IfOk, IfSome, OnOk, IsTrue, option_map};
 ghost use Rattle.board_items.specs.Boards.{PlainBoard, name_of};
@@ -48,13 +48,15 @@ fn declared_net(board: &Board, node: Node<'_, '_>) -> Result<u32, BoardError>
     net_of(board, element(node, b"net"))
 }
 
+/// The copper layers that the element `layer` names, else those of the element `layers`.
 fn layers_among(
     copper: LayerSet,
     node: Node<'_, '_>,
     layer: Option<Node<'_, '_>>,
     layers: Option<Node<'_, '_>>,
 ) -> Result<LayerSet, BoardError>
-    ensures layers { result ≡ layers_among copper (tree_of node.entry) (option_map tree_of layer.entry) (option_map tree_of layers.entry) }
+    ensures layers { result ≡ layers_among copper (tree_of node.entry)
+        (option_map tree_of layer.entry) (option_map tree_of layers.entry) }
     ensures on { IfOk result (λ layers. IsTrue (is_within layers copper)) }
 {
     if let Some(list) = layer {
@@ -101,7 +103,8 @@ fn title_of(alloc: Global, node: Node<'_, '_>) -> Result<Name, BoardError>
 /// The polygon of these corners, unless it leaves the board.
 fn area_of(alloc: Global, corners: &Corners) -> Result<Option<Shape>, AllocError>
     ensures shape { IfOk result (λ shape. shape ≡ area_of corners.now) }
-    ensures near { IfOk result (λ shape. IfSome shape (λ _. fits_board (first_of corners.now) ≡ true)) }
+    ensures near { IfOk result (λ shape.
+        IfSome shape (λ _. fits_board (first_of corners.now) ≡ true)) }
 {
     let stance = Stance {
         quarter: 0,
@@ -138,6 +141,7 @@ fn ban_of(list: Node<'_, '_>, head: &[u8]) -> Result<bool, BoardError>
     }
 }
 
+/// What a rule area bans.
 #[tactic(auto, unfolding(crate::specs::ZoneOf::bans_in))]
 fn bans_in(list: Node<'_, '_>) -> Result<Bans, BoardError>
     ensures { result ≡ bans_in (tree_of list.entry) }
@@ -199,7 +203,8 @@ fn rule_area(
 ) -> Result<Item, BoardError>
     requires net { is_some (name_of owner.now.board.now owner.now.net) ≡ true }
     requires on { IsTrue (is_within layers owner.now.board.now.copper) }
-    ensures area { Gives result (rule_area owner.now.board.now owner.now.unit (tree_of node.entry) owner.now.net layers title (tree_of keepout.entry)) }
+    ensures area { Gives result (rule_area owner.now.board.now owner.now.unit (tree_of node.entry)
+        owner.now.net layers title (tree_of keepout.entry)) }
     ensures ready { IfOk result (IsReady owner.now.board.now owner.now.unit) }
     ensures room { OnOk result (has_room_after 0 owner.now.board.now owner.now.unit ≡ true) }
 {
@@ -218,6 +223,7 @@ fn rule_area(
     ))
 }
 
+/// What a rule area is beside other items: its name, its bans and its area.
 fn area_what(alloc: Global, title: Name, bans: Bans, shape: Part) -> Result<What, AllocError>
     ensures { IfOk result (λ what. what ≡ What.Area title bans shape) }
 {
@@ -272,7 +278,8 @@ fn fill_on(
 ) -> Result<Item, BoardError>
     requires { layer < 32 }
     ensures fill { Gives result (fill_on unit net (tree_of node.entry) layer (tree_of list.entry)) }
-    ensures ready { (board : PlainBoard) → is_some (name_of board net) ≡ true → IsTrue (has_layer board.copper layer) → IfOk result (IsReady board unit) }
+    ensures ready { (board : PlainBoard) → is_some (name_of board net) ≡ true
+        → IsTrue (has_layer board.copper layer) → IfOk result (IsReady board unit) }
 {
     let corners = corners_of(alloc, list)?;
     let Some(shape) = area_of(alloc, &corners)? else {
@@ -283,7 +290,8 @@ fn fill_on(
     Ok(plain_item(name, unit, net, first_of(&corners), copper, What::Fill))
 }
 
-/// The fill of a polygon on this layer, after so many, where its outline has no width and there is room for it.
+/// The fill of a polygon on this layer, after so many, where its outline has no width and there is
+/// room for it.
 #[tactic(auto, unfolding(crate::specs::ZoneOf::fill_in_room))]
 fn fill_in_room(
     alloc: Global,
@@ -296,7 +304,8 @@ fn fill_in_room(
     requires below { layer < 32 }
     requires on { IsTrue (has_layer owner.now.board.now.copper layer) }
     requires net { is_some (name_of owner.now.board.now owner.now.net) ≡ true }
-    ensures fill { Gives result (fill_in_room found owner.now.board.now owner.now.unit owner.now.net (tree_of node.entry) (tree_of list.entry) layer) }
+    ensures fill { Gives result (fill_in_room found owner.now.board.now owner.now.unit owner.now.net
+        (tree_of node.entry) (tree_of list.entry) layer) }
     ensures ready { IfOk result (IsReady owner.now.board.now owner.now.unit) }
     ensures room { OnOk result (has_room_after found owner.now.board.now owner.now.unit ≡ true) }
 {
@@ -310,6 +319,7 @@ fn fill_in_room(
     Ok(fill)
 }
 
+/// Puts an item behind the others.
 fn push_item(items: &mut Vec<Item>, item: Item) -> Result<(), AllocError>
     ensures { OnOk result (items.new.items ≡ items.old.items ++ item ∷ []) }
 {
@@ -327,7 +337,8 @@ fn take_fill(
 ) -> Result<(), BoardError>
     requires net { is_some (name_of owner.now.board.now owner.now.net) ≡ true }
     requires ready { AreReady owner.now.board.now owner.now.unit fills.old.items }
-    ensures taken { TakesFill result owner.now.board.now owner.now.unit owner.now.net (tree_of node.entry) (tree_of part.entry) fills.old.items fills.new.items }
+    ensures taken { TakesFill result owner.now.board.now owner.now.unit owner.now.net
+        (tree_of node.entry) (tree_of part.entry) fills.old.items fills.new.items }
     ensures ready { OnOk result (AreReady owner.now.board.now owner.now.unit fills.new.items) }
 {
     if !has_head(part, b"filled_polygon") {
@@ -345,7 +356,8 @@ fn take_fill(
 #[tactic(auto, using(crate::proofs::Admitting::none_ready))]
 fn fills_of(alloc: Global, owner: &Owner<'_>, node: Node<'_, '_>) -> Result<Vec<Item>, BoardError>
     requires { is_some (name_of owner.now.board.now owner.now.net) ≡ true }
-    ensures fills { GivesItems result (fills_after 0 owner.now.board.now owner.now.unit owner.now.net (tree_of node.entry) (parts (tree_of node.entry))) }
+    ensures fills { GivesItems result (fills_after 0 owner.now.board.now owner.now.unit
+        owner.now.net (tree_of node.entry) (parts (tree_of node.entry))) }
     ensures ready { IfOk result (λ items. AreReady owner.now.board.now owner.now.unit items.items) }
 {
     let mut fills = Vec::new(alloc);
@@ -355,10 +367,12 @@ fn fills_of(alloc: Global, owner: &Owner<'_>, node: Node<'_, '_>) -> Result<Vec<
     Ok(fills)
 }
 
-/// The items of a zone: its rule area where it has `keepout`, else one fill for each filled polygon on copper.
+/// The items of a zone: its rule area where it has `keepout`, else one fill for each filled polygon
+/// on copper.
 ///
-/// Its refusals are those of [`BoardError`], exactly where the items of a zone (`specs/ZoneOf`) have them, with their
-/// places; want of memory alone is free. A fill keeps the boxes of its runs of corners.
+/// Its refusals are those of [`BoardError`], exactly where the items of a zone (`specs/ZoneOf`)
+/// have them, with their places; want of memory alone is free. A fill keeps the boxes of its runs
+/// of corners.
 #[tactic(auto, using(crate::proofs::Admitting::one_ready), unfolding(crate::specs::ZoneOf::zone_of))]
 pub fn read_zone(
     alloc: Global,
