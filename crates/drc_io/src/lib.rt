@@ -130,8 +130,11 @@ const BLANK: [u8; 32_768] = [0; 32_768];
 /// Reads a piece of the file to the end of the text, which has the bytes before it, and says how many came.
 fn read_piece<F: Shelf>(shelf: &mut F, name: &str, text: &mut Vec<u8>) -> Result<usize, FetchError>
     requires { vec_len text.old < 2 ^ 33 }
-    ensures read { IfOk result (λ n. ReadsBehind (F.files shelf.old) name.now text.old.items n text.new.items) }
-    ensures fault { IfErr result (λ e. (e ≡ FetchError.OutOfMemory) ⊎ ((e ≡ FetchError.Failed) × Rose (F.faults shelf.old name.now) (F.faults shelf.new name.now))) }
+    ensures read { IfOk result (λ n.
+        ReadsBehind (F.files shelf.old) name.now text.old.items n text.new.items) }
+    ensures fault { IfErr result (λ e. (e ≡ FetchError.OutOfMemory)
+        ⊎ ((e ≡ FetchError.Failed) × Rose (F.faults shelf.old name.now)
+        (F.faults shelf.new name.now))) }
     ensures same { F.files shelf.new ≡ F.files shelf.old }
     ensures counts { (other : List ℕ) → F.faults shelf.old other ≤ F.faults shelf.new other }
 {
@@ -153,9 +156,13 @@ pub fn fetch<F: Shelf>(
 ) -> Result<Vec<u8>, FetchError>
     ensures whole { IfOk result (λ text. IsWholeFile (F.files shelf.old) name.now text.items) }
     ensures short { IfOk result (λ text. length text.items ≤ limit) }
-    ensures failed { result ≡ Err FetchError.Failed → Rose (F.faults shelf.old name.now) (F.faults shelf.new name.now) }
-    ensures too_long { result ≡ Err FetchError.TooLong → IsLonger (F.files shelf.old) name.now limit }
-    ensures decided { IfSome (F.files shelf.old) (λ files. Decides (file_of files name.now) limit (F.faults shelf.old name.now) (F.faults shelf.new name.now) result) }
+    ensures failed { result ≡ Err FetchError.Failed
+        → Rose (F.faults shelf.old name.now) (F.faults shelf.new name.now) }
+    ensures too_long { result ≡ Err FetchError.TooLong
+        → IsLonger (F.files shelf.old) name.now limit }
+    ensures decided { IfSome (F.files shelf.old)
+        (λ files. Decides (file_of files name.now) limit (F.faults shelf.old name.now)
+        (F.faults shelf.new name.now) result) }
     ensures same { F.files shelf.new ≡ F.files shelf.old }
     ensures counts { (other : List ℕ) → F.faults shelf.old other ≤ F.faults shelf.new other }
 {

@@ -22,9 +22,17 @@ pub struct MemSink {
 impl Model for MemSink {
     ghost Value = { SinkState };
 
-    ghost view = { λ s. record { bytes = s.bytes.items; most = s.most; room = s.room; fails = s.fails.items; calls = s.calls; faults = s.faults } };
+    ghost view = { λ s. record {
+      bytes = s.bytes.items;
+      most = s.most;
+      room = s.room;
+      fails = s.fails.items;
+      calls = s.calls;
+      faults = s.faults;
+    } };
 
-    ghost invariant = { λ s. (1 ≤ s.most) × (vec_len s.bytes ≤ s.room) × (s.room ≤ vec_capacity s.bytes) };
+    ghost invariant = { λ s. (1 ≤ s.most) × (vec_len s.bytes ≤ s.room)
+        × (s.room ≤ vec_capacity s.bytes) };
 }
 
 impl MemSink {
@@ -36,7 +44,14 @@ impl MemSink {
         fails: Vec<u64>,
     ) -> Result<MemSink, AllocError>
         requires { 1 ≤ most }
-        ensures { IfOk result (λ sink. sink ≡ record { bytes = []; most = most; room = room; fails = fails.items; calls = 0; faults = 0 }) }
+        ensures { IfOk result (λ sink. sink ≡ record {
+          bytes = [];
+          most = most;
+          room = room;
+          fails = fails.items;
+          calls = 0;
+          faults = 0;
+        }) }
     {
         Ok(MemSink {
             bytes: Vec::with_capacity(alloc, room)?,

@@ -21,7 +21,13 @@ pub struct MemShelf {
 impl Model for MemShelf {
     ghost Value = { ShelfState };
 
-    ghost view = { λ s. record { files = shown s.files.items; fails = s.fails.items; most = s.most; calls = s.calls; faults = s.faults } };
+    ghost view = { λ s. record {
+      files = shown s.files.items;
+      fails = s.fails.items;
+      most = s.most;
+      calls = s.calls;
+      faults = s.faults;
+    } };
 
     ghost invariant = { λ s. 1 ≤ s.most };
 }
@@ -29,7 +35,13 @@ impl Model for MemShelf {
 impl MemShelf {
     /// The shelf with these files. `fails` lists the numbers of the reads that fail.
     pub fn new(files: Vec<(Name, Vec<u8>)>, fails: Vec<u64>) -> MemShelf
-        ensures { result ≡ record { files = shown files.items; fails = fails.items; most = 18446744073709551615; calls = 0; faults = 0 } }
+        ensures { result ≡ record {
+          files = shown files.items;
+          fails = fails.items;
+          most = 18446744073709551615;
+          calls = 0;
+          faults = 0;
+        } }
     {
         MemShelf::in_pieces(files, fails, usize::MAX)
     }
@@ -37,7 +49,13 @@ impl MemShelf {
     /// The same, of which a read gives at most `most` bytes. That is at least 1.
     pub fn in_pieces(files: Vec<(Name, Vec<u8>)>, fails: Vec<u64>, most: usize) -> MemShelf
         requires { 1 ≤ most }
-        ensures { result ≡ record { files = shown files.items; fails = fails.items; most = most; calls = 0; faults = 0 } }
+        ensures { result ≡ record {
+          files = shown files.items;
+          fails = fails.items;
+          most = most;
+          calls = 0;
+          faults = 0;
+        } }
     {
         MemShelf {
             files,
@@ -51,7 +69,8 @@ impl MemShelf {
 
 /// The bytes of the first file of that name.
 fn find<'a>(files: &'a [(Name, Vec<u8>)], name: &str) -> Option<&'a [u8]>
-    ensures { MatchOption result (file_of (shown files.now) name.now ≡ None) (λ bytes. file_of (shown files.now) name.now ≡ Some bytes.now) }
+    ensures { MatchOption result (file_of (shown files.now) name.now ≡ None)
+        (λ bytes. file_of (shown files.now) name.now ≡ Some bytes.now) }
 {
     for (title, bytes) in files {
         if title.bytes() == name.as_bytes() {
@@ -89,7 +108,10 @@ impl Shelf for MemShelf {
         ensures counts { (other : List ℕ) → self.old.faults ≤ self.new.faults }
         ensures cause { OnErr result (Rose self.old.faults self.new.faults) }
         ensures refused { IsErr result ↔ Misses self.old name.now }
-        ensures given { let rest = bytes_from (file_of self.old.files name.now) at in MatchResult result (λ n. (n ≡ min self.old.most (min (length buf.old) (length rest))) × (buf.new ≡ take n rest ++ drop n buf.old)) (λ _. buf.new ≡ buf.old) }
+        ensures given { let rest = bytes_from
+            (file_of self.old.files name.now) at in MatchResult result
+            (λ n. (n ≡ min self.old.most (min (length buf.old) (length rest)))
+            × (buf.new ≡ take n rest ++ drop n buf.old)) (λ _. buf.new ≡ buf.old) }
         ensures state { self.new ≡ after_read self.old (is_err result) }
     {
         self.calls = self.calls.saturating_add(1);

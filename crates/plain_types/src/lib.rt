@@ -1,5 +1,5 @@
-//! What crates of all kinds share: the reason of a refusal, the range of a length, a vector that contracts
-//! see as a list, and a vector of one element.
+//! What crates of all kinds share: why something is refused, the limits and the range of a length, vectors that contracts see as
+//! lists, and what may be shared by threads.
 #![tactic(auto)]
 
 mod lengths;
