@@ -8,9 +8,9 @@ use Rattle.board_items.specs.declared.found.Found.TheVariants.{Shared, Inside, U
 use Rattle.board_items.specs.declared.item.Item.{Item}
 use Rattle.board_items.specs.Boards.{PlainBoard, IsSound, UnitsBelow}
 use Rattle.board_items.specs.Units.{first_named, is_shared, is_footprint_named_otherwise, found_by, found_of}
-use Rattle.read_alike.specs.Alike.{Shift}
-use Rattle.board_alike.specs.Changes.{IsNamed, takes_out, shifts}
-use Rattle.board_alike.specs.Written.{Draft, with_change, is_gone, plus, summed, shift_of_unit}
+use Rattle.roundtrip_lists.specs.Alike.{Shift}
+use Rattle.roundtrip_boards.specs.Changes.{IsNamed, takes_out, shifts}
+use Rattle.roundtrip_boards.specs.Written.{Draft, with_change, is_gone, plus, summed, shift_of_unit}
 use Rattle.board_write.specs.declared.marks.Mark.{Mark}
 use Rattle.board_write.specs.declared.marks.Mark.TheVariants.{Stays, Gone}
 use Rattle.board_write.specs.Marks.{PlainMark, stays, gone, moves, plain_mark, mark_at, mark_by, AreMarks, moved_on, IsMarkedOn, IsShort}

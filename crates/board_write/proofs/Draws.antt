@@ -2,10 +2,10 @@
 use Rattle.std.proofs.Common.{◌≡◌, ◌∙◌, refl, ap, ℕ, Bool, true, false, cond, List, [], ◌∷◌, map, codes, Option, None, Some}
 use Rattle.sexpr_read.specs.Tree.{Forest, none, list, Tree, leaf, branch, trees, span}
 use Rattle.list_read.specs.Heads.{first_is}
-use Rattle.tree_text.specs.Anew.{leaves, becomes}
-use Rattle.read_alike.specs.Alike.{Shift}
-use Rattle.read_alike.specs.Moving.{moved}
-use Rattle.board_alike.specs.Written.{Draft, is_gone, shift_of_unit, first_at, moved_unit, moved_if, fate_by, unit_fate, inside_of, span_of, added_one, added_trees}
+use Rattle.roundtrip_text.specs.Anew.{leaves, becomes}
+use Rattle.roundtrip_lists.specs.Alike.{Shift}
+use Rattle.roundtrip_lists.specs.Moving.{moved}
+use Rattle.roundtrip_boards.specs.Written.{Draft, is_gone, shift_of_unit, first_at, moved_unit, moved_if, fate_by, unit_fate, inside_of, span_of, added_one, added_trees}
 use Rattle.board_write.specs.declared.distance.Distance.{Distance}
 use Rattle.board_write.specs.declared.marks.Mark.{Mark}
 use Rattle.board_write.specs.declared.marks.Mark.TheVariants.{Stays, Gone, Moved}

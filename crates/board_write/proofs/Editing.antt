@@ -3,8 +3,8 @@ use Rattle.std.proofs.Common.{◌≡◌, ◌∙◌, refl, sym, ap, subst, ℕ, �
 use Rattle.std.specs.Prelude.{slice_range}
 use Rattle.sexpr_read.specs.declared.place.Span.{Span}
 use Rattle.sexpr_read.specs.Tree.{Forest, none, atom, list, Tree, leaf, branch, span, is_list, parts}
-use Rattle.tree_text.specs.Pieces.{written}
-use Rattle.tree_text.specs.Anew.{anew, Fate, becomes, list_by, edited, spaced, edited_whole}
+use Rattle.roundtrip_text.specs.Pieces.{written}
+use Rattle.roundtrip_text.specs.Anew.{anew, Fate, becomes, list_by, edited, spaced, edited_whole}
 use Rattle.board_write.specs.declared.marks.Mark.{Mark}
 use Rattle.board_write.specs.declared.marks.Mark.TheVariants.{Stays, Gone, Moved}
 use Rattle.board_write.specs.declared.setting.Setting.TheVariants.{AsInText, Spaced}

@@ -17,8 +17,8 @@ use Rattle.list_read.specs.Answers.{◌>>=◌, check}
 use Rattle.list_read.specs.Heads.{place}
 use Rattle.pcb_read.specs.BoardOf.{Reading, unread, header_in, board_in, SaysParts, SaysAfter, SaysBoard}
 use Rattle.pcb_read.specs.Spans.{AreSpans}
-use Rattle.tree_text.specs.Anew.{Fate, edited_whole}
-use Rattle.board_alike.specs.Written.{Draft, untouched, with_changes, FatesAre, span_of, inside_of, added_trees, IsWritten}
+use Rattle.roundtrip_text.specs.Anew.{Fate, edited_whole}
+use Rattle.roundtrip_boards.specs.Written.{Draft, untouched, with_changes, FatesAre, span_of, inside_of, added_trees, IsWritten}
 use Rattle.board_write.specs.declared.marks.Mark.{Mark}
 use Rattle.board_write.specs.declared.course.AddedList.{AddedList}
 use Rattle.board_write.specs.declared.course.Course.{Course}

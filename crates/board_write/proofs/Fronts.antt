@@ -5,7 +5,7 @@ use Rattle.sexpr_read.specs.declared.place.Span.{Span}
 use Rattle.sexpr_read.specs.Tree.{Forest, Tree, span, parts, levels_in}
 use Rattle.sexpr_read.specs.declared.view.Children.{Children}
 use Rattle.sexpr_read.specs.Views.{tree_of, trees_left}
-use Rattle.read_alike.specs.Moving.{put_if, put_numbers}
+use Rattle.roundtrip_lists.specs.Moving.{put_if, put_numbers}
 use Rattle.board_write.specs.declared.setting.Setting.{Setting}
 use Rattle.board_write.specs.declared.setting.Left.{Left}
 use Rattle.board_write.specs.declared.places.Place.{Place}

@@ -3,7 +3,7 @@ use Rattle.std.proofs.Common.{◌≡◌, ◌∙◌, refl, sym, ap, ℕ, ◌<◌,
 use Rattle.exact_dec.specs.Computed.{mm_cut_answer}
 use Rattle.sexpr_read.specs.Tree.{Forest, none, atom, list, Tree, leaf, branch, trees, parts, value, is_list, levels, levels_in}
 use Rattle.list_read.specs.Heads.{first_is, has_head}
-use Rattle.read_alike.specs.Alike.{Shift, is_place_head, both, moved_by, place_moved}
+use Rattle.roundtrip_lists.specs.Alike.{Shift, is_place_head, both, moved_by, place_moved}
 use Rattle.board_write.specs.declared.distance.Distance.{Distance}
 use Rattle.board_write.specs.declared.places.Moving.TheVariants.{Nothing, First, All}
 use Rattle.board_write.specs.Marks.{plain_shift}

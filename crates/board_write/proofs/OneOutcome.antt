@@ -4,7 +4,7 @@ use Rattle.sexpr_read.specs.Tree.{Tree, parts}
 use Rattle.sexpr_read.specs.Spelling.{Spells, SpellsAll}
 use Rattle.board_errors.specs.declared.errors.BoardError.{BoardError}
 use Rattle.board_items.specs.Boards.{PlainBoard}
-use Rattle.tree_text.specs.Anew.{Fate}
+use Rattle.roundtrip_text.specs.Anew.{Fate}
 use Rattle.pcb_read.specs.Sorts.{sort_of}
 use Rattle.pcb_read.specs.BoardOf.{Reading, unread}
 use Rattle.pcb_read.specs.BoardText.{BoardSays}
@@ -13,8 +13,8 @@ use Rattle.pcb_read.proofs.Parting.{says_tree}
 use Rattle.edit_script.specs.Commands.{PlainCommand, add, delete, move, rules, again}
 use Rattle.board_edits.specs.declared.reason.Refusal.{Refusal}
 use Rattle.board_edits.specs.Deeds.{PlainDeed, nothing, append, put_back, take_out, shift, Does, After, IsLeft, DoAll}
-use Rattle.board_alike.specs.Changes.{Change, appends, IsListOf, IsChangeBy, IsChange, AreChanges}
-use Rattle.board_alike.specs.Written.{Draft, untouched, with_changes, with_fate, FatesAre, written_by, IsWritten}
+use Rattle.roundtrip_boards.specs.Changes.{Change, appends, IsListOf, IsChangeBy, IsChange, AreChanges}
+use Rattle.roundtrip_boards.specs.Written.{Draft, untouched, with_changes, with_fate, FatesAre, written_by, IsWritten}
 use Rattle.board_write.specs.Answers.{Outcome, refused_in}
 
 same_ok : {A B : Type 0} {x y : A} → (let p : Result A B = Ok x in p) ≡ Ok y → x ≡ y

@@ -4,9 +4,9 @@ use Rattle.sexpr_read.specs.declared.place.Span.{Span}
 use Rattle.sexpr_read.specs.Tree.{Forest, none, list, Tree, leaf, branch, trees, span, is_list, parts, levels_in}
 use Rattle.sexpr_read.specs.Views.{trees_left}
 use Rattle.list_read.specs.Heads.{first_is}
-use Rattle.read_alike.specs.Alike.{place_moved}
-use Rattle.read_alike.specs.Moving.{put_if}
-use Rattle.board_alike.specs.Written.{first_at}
+use Rattle.roundtrip_lists.specs.Alike.{place_moved}
+use Rattle.roundtrip_lists.specs.Moving.{put_if}
+use Rattle.roundtrip_boards.specs.Written.{first_at}
 use Rattle.board_write.specs.declared.distance.Distance.{Distance}
 use Rattle.board_write.specs.declared.setting.Setting.{Setting}
 use Rattle.board_write.specs.declared.setting.Left.{Left}

@@ -7,7 +7,7 @@ use Rattle.sexpr_read.specs.declared.view.Node.{Node}
 use Rattle.sexpr_read.specs.declared.view.Children.{Children}
 use Rattle.sexpr_read.specs.Tree.{Tree, parts, value}
 use Rattle.sexpr_read.specs.Views.{tree_of, trees_left}
-use Rattle.read_alike.specs.Alike.{is_place_head}
+use Rattle.roundtrip_lists.specs.Alike.{is_place_head}
 use Rattle.board_write.specs.Marks.{PlainMark, moves, IsHeld}
 use Rattle.board_write.specs.declared.places.Number.{Number}
 use Rattle.board_write.specs.declared.places.Place.{Place}

@@ -24,16 +24,16 @@ use Rattle.board_items.specs.Moves.{unit_stays}
 use Rattle.board_items.specs.Units.{found_of}
 use Rattle.part_read.specs.Ready.{IsReady}
 use Rattle.edit_script.specs.Commands.{PlainCommand, add, delete, move, rules, again}
-use Rattle.read_alike.specs.Alike.{Shift}
+use Rattle.roundtrip_lists.specs.Alike.{Shift}
 use Rattle.pcb_read.specs.ItemText.{answer_further, alone, SaysAlone, SaysForms, SaysText}
 use Rattle.board_edits.specs.declared.reason.Refusal.{Refusal}
 use Rattle.board_edits.specs.declared.reason.Refusal.TheVariants.{Item as ItemRefused}
 use Rattle.board_edits.specs.Deeds.{PlainDeed, nothing, append, put_back, take_out, shift, After, appended, to_unit, shifted, Does, IsLeft, DoAll}
 use Rattle.board_edits.specs.Fitting.{DeedFits}
-use Rattle.board_alike.specs.Changes.{Change, unchanged, takes_out, shifts, appends, IsListIn, IsChangeBy, IsChange, AreChanges, IsNamed}
-use Rattle.board_alike.specs.Written.{Draft, Added, untouched, with_list, with_change, with_changes}
-use Rattle.board_alike.proofs.Ledger.{UnitsOf, next_with}
-use Rattle.board_alike.proofs.Turning.{one_change}
+use Rattle.roundtrip_boards.specs.Changes.{Change, unchanged, takes_out, shifts, appends, IsListIn, IsChangeBy, IsChange, AreChanges, IsNamed}
+use Rattle.roundtrip_boards.specs.Written.{Draft, Added, untouched, with_list, with_change, with_changes}
+use Rattle.roundtrip_boards.proofs.Ledger.{UnitsOf, next_with}
+use Rattle.roundtrip_boards.proofs.Turning.{one_change}
 use Rattle.board_write.specs.declared.marks.Mark.{Mark}
 use Rattle.board_write.specs.declared.marks.Mark.TheVariants.{Stays, Gone}
 use Rattle.board_write.specs.declared.course.Course.{Course}

@@ -14,14 +14,14 @@ use Rattle.part_read.specs.Elements.{atom_of}
 use Rattle.part_read.specs.Numbers.{number_in}
 use Rattle.copper_layers.specs.declared.set.LayerSet.{LayerSet}
 use Rattle.part_read.specs.LayersOf.{layers_listed}
-use Rattle.tree_text.specs.Anew.{Fate, stays}
+use Rattle.roundtrip_text.specs.Anew.{Fate, stays}
 use Rattle.pcb_read.specs.declared.sorts.Sort.{Sort}
 use Rattle.pcb_read.specs.Sorts.{sort_of}
 use Rattle.pcb_read.specs.Nets.{with_net_of}
 use Rattle.pcb_read.specs.BoardOf.{Reading, with_items, with_layers, with_board, with_other, SaysPartBy, SaysPart, SaysParts}
 use Rattle.pcb_read.specs.Spans.{with_span, SaysSpans}
-use Rattle.board_alike.specs.Written.{Draft, unit_fate, list_fate, FatesAre}
-use Rattle.board_alike.proofs.Plain.{one_next, atom_sort, atom_other}
+use Rattle.roundtrip_boards.specs.Written.{Draft, unit_fate, list_fate, FatesAre}
+use Rattle.roundtrip_boards.proofs.Plain.{one_next, atom_sort, atom_other}
 use Rattle.board_write.specs.declared.marks.Mark.{Mark}
 use Rattle.board_write.specs.declared.marks.Mark.TheVariants.{Stays}
 use Rattle.board_write.specs.Marks.{plain_mark, mark_at, mark_in}

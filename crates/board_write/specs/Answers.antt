@@ -8,7 +8,7 @@ use Rattle.edit_script.specs.Commands.{PlainCommand}
 use Rattle.pcb_read.specs.BoardText.{BoardSays}
 use Rattle.board_edits.specs.declared.reason.Refusal.{Refusal}
 use Rattle.board_edits.specs.Deeds.{PlainDeed}
-use Rattle.board_alike.specs.Written.{IsWritten}
+use Rattle.roundtrip_boards.specs.Written.{IsWritten}
 use Rattle.board_write.specs.declared.error.WriteError.{WriteError}
 use Rattle.board_write.specs.declared.error.WriteError.TheVariants.{Board, Failed, OutOfMemory}
 

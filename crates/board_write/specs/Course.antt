@@ -8,8 +8,8 @@ use Rattle.edit_script.specs.Commands.{PlainCommand, add, delete, move, rules, a
 use Rattle.board_edits.specs.declared.reason.Refusal.{Refusal}
 use Rattle.board_edits.specs.Deeds.{PlainDeed, nothing, append, put_back, take_out, shift, After, Does, DoAll}
 use Rattle.board_edits.specs.Fitting.{DeedFits}
-use Rattle.board_alike.specs.Changes.{Change, AreChanges}
-use Rattle.board_alike.specs.Written.{Draft, untouched, with_changes}
+use Rattle.roundtrip_boards.specs.Changes.{Change, AreChanges}
+use Rattle.roundtrip_boards.specs.Written.{Draft, untouched, with_changes}
 use Rattle.board_write.specs.declared.marks.Mark.TheVariants.{Stays, Gone}
 use Rattle.board_write.specs.declared.course.AddedList.{AddedList}
 use Rattle.board_write.specs.declared.course.Course.{Course}

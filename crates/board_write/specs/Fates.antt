@@ -3,8 +3,8 @@ use Rattle.std.specs.Prelude.{◌≡◌, ℕ, ◌==◌, Bool, false, ◌&&◌, L
 use Rattle.sexpr_read.specs.declared.place.Span.{Span}
 use Rattle.sexpr_read.specs.Tree.{Forest, none, list, Tree, leaf, branch, span, parts}
 use Rattle.sexpr_read.specs.Views.{root_of}
-use Rattle.tree_text.specs.Anew.{Fate, stays, leaves, becomes, spaced}
-use Rattle.board_alike.specs.Written.{Added}
+use Rattle.roundtrip_text.specs.Anew.{Fate, stays, leaves, becomes, spaced}
+use Rattle.roundtrip_boards.specs.Written.{Added}
 use Rattle.board_write.specs.declared.marks.Mark.{Mark}
 use Rattle.board_write.specs.declared.marks.Mark.TheVariants.{Stays, Gone, Moved}
 use Rattle.board_write.specs.declared.course.AddedList.{AddedList}

@@ -1,7 +1,7 @@
 -- What has become of units, as the code keeps it: a mark for each by its number.
 use Rattle.std.specs.Prelude.{◌≡◌, ℕ, ◌≤◌, ◌*◌, ◌+ℤ◌, ℤ, Bool, true, false, List, Option, None, Some, slice_index_or, slice_set, unsigned_abs, ⊤}
-use Rattle.read_alike.specs.Alike.{Shift}
-use Rattle.board_alike.specs.Written.{Draft, is_gone, shift_of_unit}
+use Rattle.roundtrip_lists.specs.Alike.{Shift}
+use Rattle.roundtrip_boards.specs.Written.{Draft, is_gone, shift_of_unit}
 use Rattle.board_write.specs.declared.distance.Distance.{Distance}
 use Rattle.board_write.specs.declared.marks.Mark.{Mark}
 use Rattle.board_write.specs.declared.marks.Mark.TheVariants.{Stays, Gone, Moved}

@@ -2,7 +2,7 @@
 use Rattle.std.specs.Prelude.{◌≡◌, ◌≤◌, ℕ, ◌+◌, true, List, ◌∷◌, ◌++◌}
 use Rattle.sexpr_read.specs.Tree.{Forest, Tree, span, quoted, levels_in}
 use Rattle.sexpr_read.specs.Views.{tree_of, trees_left}
-use Rattle.tree_text.specs.Pieces.{written}
+use Rattle.roundtrip_text.specs.Pieces.{written}
 use Rattle.board_write.specs.declared.setting.Setting.{Setting}
 use Rattle.board_write.specs.declared.setting.Left.{Left}
 use Rattle.board_write.specs.declared.places.Place.{Place}

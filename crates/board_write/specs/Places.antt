@@ -4,7 +4,7 @@ use Rattle.exact_dec.specs.Computed.{mm_cut_answer}
 use Rattle.exact_dec.specs.Written.{mm_text}
 use Rattle.sexpr_read.specs.Tree.{Forest, atom, Tree, leaf, branch, span, quoted}
 use Rattle.sexpr_read.specs.Views.{tree_of, trees_left}
-use Rattle.read_alike.specs.Alike.{moved_by}
+use Rattle.roundtrip_lists.specs.Alike.{moved_by}
 use Rattle.board_write.specs.declared.places.Place.{Place}
 use Rattle.board_write.specs.Settings.{grove}
 

@@ -3,11 +3,11 @@ use Rattle.std.specs.Prelude.{ℕ, ◌+◌, ◌-◌, ℤ, Bool, true, false, Lis
 use Rattle.sexpr_read.specs.declared.place.Span.{Span}
 use Rattle.sexpr_read.specs.Tree.{Forest, none, atom, list, Tree, leaf, branch, trees}
 use Rattle.list_read.specs.Heads.{first_is}
-use Rattle.tree_text.specs.Pieces.{written}
-use Rattle.tree_text.specs.Anew.{space_before}
-use Rattle.read_alike.specs.Alike.{place_moved}
-use Rattle.read_alike.specs.Moving.{put_if, moved}
-use Rattle.board_alike.specs.Written.{first_at}
+use Rattle.roundtrip_text.specs.Pieces.{written}
+use Rattle.roundtrip_text.specs.Anew.{space_before}
+use Rattle.roundtrip_lists.specs.Alike.{place_moved}
+use Rattle.roundtrip_lists.specs.Moving.{put_if, moved}
+use Rattle.roundtrip_boards.specs.Written.{first_at}
 use Rattle.board_write.specs.declared.distance.Distance.{Distance}
 use Rattle.board_write.specs.declared.marks.Mark.{Mark}
 use Rattle.board_write.specs.declared.marks.Mark.TheVariants.{Stays, Gone, Moved}

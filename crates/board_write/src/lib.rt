@@ -2,7 +2,7 @@
 //!
 //! The list of a unit that was taken out is left out. In that of one that was moved, places are written anew, in millimetres with
 //! six digits: of a footprint its own, of another unit those of all lists at any depth. Lists that were added stand last in the list of
-//! the board, each behind one space, with one space between its parts. What the text is, is defined in `board_alike`'s `IsWritten`.
+//! the board, each behind one space, with one space between its parts. What the text is, is defined in `roundtrip_boards`'s `IsWritten`.
 #![tactic(auto)]
 
 ghost use Rattle.std.specs.Prelude.{◌≡◌, ◌≤◌, ◌<◌, ◌⊎◌, length, map, All, MatchResult, Err};

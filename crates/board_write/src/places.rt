@@ -3,7 +3,7 @@
 ghost use Rattle.std.specs.Prelude.{◌≡◌, ◌≤◌, unsigned_abs, IfSome, option_map, Some};
 ghost use Rattle.sexpr_read.specs.Tree.{value};
 ghost use Rattle.sexpr_read.specs.Views.{tree_of};
-ghost use Rattle.read_alike.specs.Alike.{is_place_head, place_moved, both};
+ghost use Rattle.roundtrip_lists.specs.Alike.{is_place_head, place_moved, both};
 ghost use Rattle.board_write.specs.Marks.{plain_shift};
 ghost use Rattle.board_write.specs.Settings.{inside};
 ghost use Rattle.board_write.specs.Places.{atom_moved, numbers_of, StandsIn};

@@ -3,7 +3,7 @@
 ghost use Rattle.std.specs.Prelude.{◌≡◌, ◌++◌, ◌+◌, ◌-◌, false, drop, IfOk, OnOk, All};
 ghost use Rattle.sexpr_read.specs.Tree.{none, span, parts};
 ghost use Rattle.sexpr_read.specs.Views.{tree_of, root_of};
-ghost use Rattle.tree_text.specs.Anew.{list_by, edited, edited_whole, spaced};
+ghost use Rattle.roundtrip_text.specs.Anew.{list_by, edited, edited_whole, spaced};
 ghost use Rattle.board_write.specs.Settings.{inside, moving_by};
 ghost use Rattle.board_write.specs.Fates.{mark_fate, is_first, mark_here, spans_behind, marks_behind, fates_by, IsAlone, added_by, one_down, one_by};
 

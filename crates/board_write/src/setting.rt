@@ -4,7 +4,7 @@ ghost use Rattle.std.specs.Prelude.{◌≡◌, ◌++◌, ◌≤◌, ◌-◌, uns
 ghost use Rattle.exact_dec.specs.Written.{mm_text};
 ghost use Rattle.sexpr_read.specs.Tree.{quoted, span};
 ghost use Rattle.sexpr_read.specs.Views.{tree_of, trees_left};
-ghost use Rattle.tree_text.specs.Pieces.{written};
+ghost use Rattle.roundtrip_text.specs.Pieces.{written};
 ghost use Rattle.board_write.specs.Settings.{grove, inside, set_down, renewed, list_down};
 ghost use Rattle.board_write.specs.Opened.{atom_down, IsPlaced, IsOpened};
 ghost use Rattle.board_write.specs.Places.{content_of};

@@ -3,8 +3,8 @@ use Rattle.std.proofs.Common.{◌≡◌, inl, inr, refl, sym, subst, ℕ, ◌≤
 use Rattle.board_items.specs.Boards.{PlainBoard}
 use Rattle.edit_script.specs.Commands.{PlainCommand}
 use Rattle.edit_script.specs.Fits.{AreShallow}
-use Rattle.board_alike.specs.Written.{IsWritten}
-use Rattle.board_alike.specs.Same.{IsReadBack}
+use Rattle.roundtrip_boards.specs.Written.{IsWritten}
+use Rattle.roundtrip_boards.specs.Same.{IsReadBack}
 use Rattle.board_write.specs.Answers.{Outcome, Wrote, WroteFront}
 use Rattle.run_words.specs.Calls.{write}
 use Rattle.run_texts.specs.declared.texts.Stop.{Stop}

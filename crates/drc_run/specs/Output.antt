@@ -9,7 +9,7 @@ use Rattle.drc_rows.specs.Report.{rows_text}
 use Rattle.drc_rows.specs.ReportOf.{first_line}
 use Rattle.edit_script.specs.Commands.{PlainCommand, PlainStep}
 use Rattle.pcb_read.specs.BoardText.{BoardSays}
-use Rattle.board_alike.specs.Same.{IsSame}
+use Rattle.roundtrip_boards.specs.Same.{IsSame}
 use Rattle.board_write.specs.Answers.{Outcome}
 use Rattle.drc_state.specs.States.{State, checked_in}
 use Rattle.undo_log.specs.Past.{Past, begun}

@@ -15,7 +15,7 @@ ghost use Rattle.drc_run.specs.Endings.{Ends, EndsFor, IsTextOfOne, number_of};
 
 use crate::finish::write_stop;
 use crate::status::Status;
-use board_again::laws::read_back;
+use roundtrip_edited::laws::read_back;
 use board_write::{SourceText, WriteError, read_source, write_source};
 use drc_io::{Shelf, Sink};
 use edit_script::Command;

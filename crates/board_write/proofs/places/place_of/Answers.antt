@@ -1,7 +1,7 @@
 use Rattle.std.proofs.Common.{◌≡◌, ◌∙◌, sym, ap, ℤ, true, List, ◌∷◌, Option, option_map, arith}
 use Rattle.sexpr_read.specs.Tree.{Tree, parts, value}
 use Rattle.sexpr_read.specs.Views.{tree_of, trees_left}
-use Rattle.read_alike.specs.Alike.{is_place_head, both}
+use Rattle.roundtrip_lists.specs.Alike.{is_place_head, both}
 use Rattle.board_write.specs.declared.places.Number.{Number}
 use Rattle.board_write.specs.Marks.{plain_shift}
 use Rattle.board_write.specs.Places.{atom_moved}

@@ -1,5 +1,5 @@
 use Rattle.std.proofs.Common.{◌≡◌, ◌++◌, false, drop}
-use Rattle.tree_text.specs.Anew.{spaced}
+use Rattle.roundtrip_text.specs.Anew.{spaced}
 use Rattle.board_write.specs.Fates.{added_by}
 use Rattle.board_write.proofs.root.append_added.Given as goal
 

@@ -1,7 +1,7 @@
 use Rattle.std.proofs.Common.{◌≡◌, ◌∙◌, ◌+◌, ◌-◌, sym, ap, subst, ℕ, List, ◌++◌}
 use Rattle.sexpr_read.specs.Tree.{Tree, span, parts}
 use Rattle.sexpr_read.specs.Views.{tree_of, trees_left}
-use Rattle.tree_text.specs.Anew.{edited}
+use Rattle.roundtrip_text.specs.Anew.{edited}
 use Rattle.board_write.specs.declared.root.Units.{Units}
 use Rattle.board_write.specs.Settings.{grove, inside}
 use Rattle.board_write.specs.Fates.{fates_by}

@@ -1,7 +1,7 @@
 use Rattle.std.proofs.Common.{◌≡◌, ◌∙◌, sym, ap, subst, List, ℕ, ◌++◌}
 use Rattle.sexpr_read.specs.Tree.{Forest, span}
 use Rattle.sexpr_read.specs.Views.{tree_of}
-use Rattle.tree_text.specs.Anew.{list_by}
+use Rattle.roundtrip_text.specs.Anew.{list_by}
 use Rattle.board_write.specs.declared.marks.Mark.{Mark}
 use Rattle.board_write.specs.declared.places.Moving.{Moving}
 use Rattle.board_write.specs.declared.setting.Setting.TheVariants.{AsInText}

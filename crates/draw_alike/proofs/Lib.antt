@@ -1,9 +1,0 @@
-pub mod Steps
-pub mod Corners
-pub mod Widths
-pub mod Drawings
-pub mod Cores
-pub mod Drawn
-pub mod Graphics
-pub mod Placed
-pub mod Named

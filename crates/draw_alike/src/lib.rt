@@ -1,4 +1,0 @@
-//! Lists of graphics and texts that are alike draw the same, moved.
-#![tactic(auto)]
-
-pub mod laws;

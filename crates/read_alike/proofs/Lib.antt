@@ -1,9 +1,0 @@
-pub mod Elements
-pub mod Numbers
-pub mod Spots
-pub mod Shapes
-pub mod Numerals
-pub mod Moving
-pub mod Figures
-pub mod Circles
-pub mod Composing

@@ -1,0 +1,16 @@
+pub mod Tracks
+pub mod Given
+pub mod Vias
+pub mod Units
+pub mod Zones
+pub mod Placed
+pub mod Parts
+pub mod Header
+pub mod Lists
+pub mod Levels
+pub mod Version
+pub mod Root
+pub mod Back
+pub mod Feet
+pub mod Unchanged
+pub mod Counting

@@ -1,0 +1,3 @@
+pub mod Footprints
+pub mod Given
+pub mod Carries

@@ -1,0 +1,14 @@
+pub mod Parts
+pub mod Frames
+pub mod Forms
+pub mod Standing
+pub mod Placing
+pub mod Pads
+pub mod Finding
+pub mod Heading
+pub mod Siding
+pub mod Courts
+pub mod Children
+pub mod Feet
+pub mod Carried
+pub mod Written

@@ -1,0 +1,9 @@
+pub mod Alike
+pub mod Agreeing
+pub mod Moved
+pub mod Carried
+pub mod Moving
+pub mod Standing
+pub mod Ground
+pub mod Moves
+pub mod Drawn
