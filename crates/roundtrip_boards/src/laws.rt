@@ -21,6 +21,10 @@ pub fn changes()
 
 /// The fates of a board's lists fit them, and the version, which stands first, stays.
 pub fn fates()
-    ensures fit { (draft : Draft) (f : Forest) (a : Reading) (fates : List Fate) → FatesAre draft a (trees f) fates → AreAtoms f → AreUtf8 f → AreFit fates f × BecomeUtf8 fates f }
-    ensures first { (draft : Draft) (a : Reading) (fates : List Fate) (s t : Span) (q : Bool) (c : List ℕ) (f : Forest) (u : Unit {0}) → header_in (branch s (atom t q c f)) ≡ Ok u → FatesAre draft a (trees f) fates → FirstIsThere fates f }
+    ensures fit { (draft : Draft) (f : Forest) (a : Reading) (fates : List Fate)
+        → FatesAre draft a (trees f) fates → AreAtoms f → AreUtf8 f
+        → AreFit fates f × BecomeUtf8 fates f }
+    ensures first { (draft : Draft) (a : Reading) (fates : List Fate) (s t : Span) (q : Bool)
+        (c : List ℕ) (f : Forest) (u : Unit {0}) → header_in (branch s (atom t q c f)) ≡ Ok u
+        → FatesAre draft a (trees f) fates → FirstIsThere fates f }
 {}

@@ -26,8 +26,10 @@ ghost use Rattle.roundtrip_edited.specs.Carries.{Carries};
 /// same layers and nets, they leave those the same.
 pub fn parts()
     ensures plain { (t u : Tree) → AlikeTrees None t u → sort_of t ≡ sort_of u }
-    ensures moved { (s r : Span) (i j : Forest) (o : Option Shift) → SameTrees (moved_if o i) j → sort_of (branch r j) ≡ sort_of (branch s i) }
-    ensures kept { (a next : Reading) (t : Tree) → with_other a t ≡ Ok next → (next.board.items ≡ a.board.items) × (next.board.next_unit ≡ a.board.next_unit) }
+    ensures moved { (s r : Span) (i j : Forest) (o : Option Shift) → SameTrees (moved_if o i) j
+        → sort_of (branch r j) ≡ sort_of (branch s i) }
+    ensures kept { (a next : Reading) (t : Tree) → with_other a t ≡ Ok next
+        → (next.board.items ≡ a.board.items) × (next.board.next_unit ≡ a.board.next_unit) }
     ensures others { (t u : Tree) (a b next : Reading) → AlikeTrees None t u → SameGround a.board b.board → b.layered ≡ a.layered → with_other a t ≡ Ok next
         → (new : Reading) × (with_other b u ≡ Ok new) × SameGround next.board new.board × (new.layered ≡ next.layered) × SameItems b.board new.board }
 {}
@@ -43,18 +45,23 @@ pub fn header()
 pub fn lists()
     ensures carries { (sort : Sort) (s r : Span) (i j : Forest) (o : Option Shift) (e : Entry) → sort_of (branch s i) ≡ Some sort → SameTrees (moved_if o i) j → AreNow (shift_of o) e
         → Carries sort (branch s i) (branch r j) e.read (map (λ (x : ℕ × Item). x.1) e.now) }
-    ensures without { (sort : Sort) (s r : Span) (i j : Forest) → sort_of (branch s i) ≡ Some sort → Alike None i j → Carries sort (branch s i) (branch r j) [] [] }
-    ensures long { (sort : Sort) (t u : Tree) (items now : List Item) → Carries sort t u items now → length now ≡ length items }
+    ensures without { (sort : Sort) (s r : Span) (i j : Forest) → sort_of (branch s i) ≡ Some sort
+        → Alike None i j → Carries sort (branch s i) (branch r j) [] [] }
+    ensures long { (sort : Sort) (t u : Tree) (items now : List Item) → Carries sort t u items now
+        → length now ≡ length items }
     ensures carried { (sort : Sort) (board other : PlainBoard) (unit own : ℕ) (t u : Tree) (items now : List Item) → is_footprint sort ≡ false → SameGround board other → SaysItems board unit t sort (Ok items) → Carries sort t u items now
         → has_room other own now ≡ true → SaysItems other own u sort (Ok (of_unit own now)) }
-    ensures grows { (a next : Reading) (t : Tree) (i : Item) (items : List Item) → IsUnit a next t (i ∷ items) → ItemsOf a.board.next_unit (i ∷ items) → next.board.next_unit ≡ suc a.board.next_unit }
+    ensures grows { (a next : Reading) (t : Tree) (i : Item) (items : List Item)
+        → IsUnit a next t (i ∷ items) → ItemsOf a.board.next_unit (i ∷ items)
+        → next.board.next_unit ≡ suc a.board.next_unit }
 {}
 
 /// The same of a footprint.
 pub fn footprints()
     ensures carried { (board other : PlainBoard) (unit own : ℕ) (t u : Tree) (items now : List Item) → SameGround board other → SaysItems board unit t Footprint (Ok items) → Carries Footprint t u items now → has_room other own now ≡ true
         → SaysItems other own u Footprint (Ok (of_unit own now)) }
-    ensures stand { (board : PlainBoard) (unit : ℕ) (t : Tree) (items : List Item) → SaysItems board unit t Footprint (Ok items) → ItemsOf unit items }
+    ensures stand { (board : PlainBoard) (unit : ℕ) (t : Tree) (items : List Item)
+        → SaysItems board unit t Footprint (Ok items) → ItemsOf unit items }
 {}
 
 /// The written text of an edited board is read again as the board that the commands left: with its layers, its nets and its items in
@@ -62,5 +69,6 @@ pub fn footprints()
 /// a script have not. Where there is no command, the written text is the text itself.
 pub fn read_back()
     ensures again { IsReadBack }
-    ensures unchanged { (text out : List ℕ) (last : PlainBoard) → IsWritten text [] out last → out ≡ text }
+    ensures unchanged { (text out : List ℕ) (last : PlainBoard) → IsWritten text [] out last
+        → out ≡ text }
 {}

@@ -44,5 +44,7 @@ pub fn zones()
 
 /// What such a list gives is of the unit asked for, and lies on a board.
 pub fn places()
-    ensures { (board : PlainBoard) (unit : ℕ) (tree : Tree) (sort : Sort) (items : List Item) → is_footprint sort ≡ false → SaysItems board unit tree sort (Ok items) → ItemsOf unit items }
+    ensures { (board : PlainBoard) (unit : ℕ) (tree : Tree) (sort : Sort) (items : List Item)
+        → is_footprint sort ≡ false → SaysItems board unit tree sort (Ok items)
+        → ItemsOf unit items }
 {}

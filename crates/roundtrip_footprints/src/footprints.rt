@@ -20,11 +20,13 @@ ghost use Rattle.roundtrip_footprints.specs.Places.{IsPlaceAgain, AtMoved};
 pub fn footprints()
     ensures carried { (d : Shift) (board other : PlainBoard) → SameLayersAndNames board other → (unit own : ℕ) (i j : Forest) (s r : Span) → AtMoved d i j
         → FootprintCarried d board other unit own (branch s i) (branch r j) }
-    ensures stand { (board : PlainBoard) (unit : ℕ) (tree : Tree) (items : List Item) → FootprintSays board unit tree (Ok items) → ItemsOf unit items }
+    ensures stand { (board : PlainBoard) (unit : ℕ) (tree : Tree) (items : List Item)
+        → FootprintSays board unit tree (Ok items) → ItemsOf unit items }
 {}
 
 /// A place that is written anew is that place, moved, and lists that are the same but for spans are moved by nothing.
 pub fn places()
-    ensures moved { (d : Shift) (i j : Forest) → first_is (trees i) (codes "at") ≡ true → SameTrees (put_if (place_moved d i) i) j → IsPlaceAgain d i j }
+    ensures moved { (d : Shift) (i j : Forest) → first_is (trees i) (codes "at") ≡ true
+        → SameTrees (put_if (place_moved d i) i) j → IsPlaceAgain d i j }
     ensures kept { (i j : Forest) → Alike None i j → AtMoved (shift_of None) i j }
 {}

@@ -16,5 +16,6 @@ ghost use Rattle.roundtrip_footprints.specs.Heads.{moved_head};
 pub fn pads()
     ensures carried { (d : Shift) (board other : PlainBoard) → SameLayersAndNames board other → (unit own : ℕ) (head : Head) (i j : Forest) (s r : Span) → Alike None i j
         → Leads (ReadsCarried d own) (pad_of board unit head (branch s i)) (pad_of other own (moved_head d head) (branch r j)) }
-    ensures stand { (board : PlainBoard) (unit : ℕ) (head : Head) (tree : Tree) (item : Item) → pad_of board unit head tree ≡ Ok item → ItemsOf unit (item ∷ []) }
+    ensures stand { (board : PlainBoard) (unit : ℕ) (head : Head) (tree : Tree) (item : Item)
+        → pad_of board unit head tree ≡ Ok item → ItemsOf unit (item ∷ []) }
 {}

@@ -13,5 +13,7 @@ ghost use Rattle.roundtrip_lists.specs.Moves.{AreShiftedSegs, HasCorner};
 pub fn chains()
     ensures moved { (dx dy : ℤ) (lines others : List Seg) (polys moved : List (List Point)) → AreShiftedSegs dx dy lines others → AreChained lines polys
         → AllZip (AllZip (IsShiftedPoint dx dy)) polys moved → AreChained others moved }
-    ensures corners { (lines : List Seg) (polys : List (List Point)) → AreChained lines polys → (i : ℕ) (l : Seg) → slice_get lines i ≡ Some l → is_short l ≡ false → (far : Bool) → HasCorner polys (place (point_of l far)) }
+    ensures corners { (lines : List Seg) (polys : List (List Point)) → AreChained lines polys
+        → (i : ℕ) (l : Seg) → slice_get lines i ≡ Some l → is_short l ≡ false → (far : Bool)
+        → HasCorner polys (place (point_of l far)) }
 {}

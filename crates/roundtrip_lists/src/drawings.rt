@@ -19,17 +19,26 @@ ghost use Rattle.roundtrip_lists.specs.Drawn.{DrawingRead};
 
 /// The drawings of alike lists are of the same width and fill, and their spots are moved.
 pub fn drawings()
-    ensures { (d : Option Shift) (i j : Forest) (s r : Span) → Alike d i j → (kind : GraphicKind) → Agrees (DrawingRead d) (drawing_of kind (branch s i)) (drawing_of kind (branch r j)) }
+    ensures { (d : Option Shift) (i j : Forest) (s r : Span) → Alike d i j → (kind : GraphicKind)
+        → Agrees (DrawingRead d) (drawing_of kind (branch s i)) (drawing_of kind (branch r j)) }
 {}
 
 /// Alike lists lie on the same ground, and the note of a text is the same.
 pub fn texts()
-    ensures grounds { (d : Option Shift) (copper : LayerSet) (i j : Forest) (s r : Span) → Alike d i j → Agrees Same (ground_of copper (branch s i)) (ground_of copper (branch r j)) }
-    ensures notes { (o : Option Shift) (d : Shift) (own unit : ℕ) (about : About) (i j : Forest) (s r : Span) (lies : Ground) → Alike o i j → Leads (ReadsItems d own) (text_by unit about (branch s i) lies) (text_by own about (branch r j) lies) }
+    ensures grounds { (d : Option Shift) (copper : LayerSet) (i j : Forest) (s r : Span)
+        → Alike d i j → Agrees Same (ground_of copper (branch s i))
+        (ground_of copper (branch r j)) }
+    ensures notes { (o : Option Shift) (d : Shift) (own unit : ℕ) (about : About) (i j : Forest)
+        (s r : Span) (lies : Ground) → Alike o i j
+        → Leads (ReadsItems d own) (text_by unit about (branch s i) lies)
+        (text_by own about (branch r j) lies) }
 {}
 
 /// The items of graphics and of texts are of the unit asked for, and lie on a board.
 pub fn places()
-    ensures graphics { (board : PlainBoard) (unit : ℕ) (stance : Stance) (kind : GraphicKind) (tree : Tree) (lies : Ground) (items : List Item) → graphic_by board unit stance kind tree lies ≡ Ok items → ItemsOf unit items }
-    ensures notes { (unit : ℕ) (about : About) (tree : Tree) (lies : Ground) (items : List Item) → text_by unit about tree lies ≡ Ok items → ItemsOf unit items }
+    ensures graphics { (board : PlainBoard) (unit : ℕ) (stance : Stance) (kind : GraphicKind)
+        (tree : Tree) (lies : Ground) (items : List Item)
+        → graphic_by board unit stance kind tree lies ≡ Ok items → ItemsOf unit items }
+    ensures notes { (unit : ℕ) (about : About) (tree : Tree) (lies : Ground) (items : List Item)
+        → text_by unit about tree lies ≡ Ok items → ItemsOf unit items }
 {}

@@ -41,23 +41,36 @@ pub fn moving()
 
 /// The elements of alike lists are alike, and have the same heads.
 pub fn elements()
-    ensures heads { (d : Option Shift) (t u : Tree) (word : List ℕ) → AlikeTrees d t u → has_head word t ≡ has_head word u }
-    ensures found { (d : Option Shift) (word : List ℕ) (s t : Span) (f g : Forest) → Alike d f g → FoundAlike d (has_head word) (element word (branch s f)) (element word (branch t g)) }
+    ensures heads { (d : Option Shift) (t u : Tree) (word : List ℕ) → AlikeTrees d t u
+        → has_head word t ≡ has_head word u }
+    ensures found { (d : Option Shift) (word : List ℕ) (s t : Span) (f g : Forest) → Alike d f g
+        → FoundAlike d (has_head word) (element word (branch s f)) (element word (branch t g)) }
 {}
 
 /// Sizes, names, layers and nets of alike lists are the same, where the first list has them; spots are moved.
 pub fn numbers()
-    ensures spots { (d : Option Shift) (word : List ℕ) → is_place_word word ≡ true → (i j : Forest) (s r : Span) → Alike d i j → Agrees (IsMovedSpot d) (spot_of word (branch s i)) (spot_of word (branch r j)) }
-    ensures sizes { (d : Option Shift) (word : List ℕ) → is_place_word word ≡ false → (i j : Forest) (s r : Span) → Alike d i j → Agrees Same (size_of word (branch s i)) (size_of word (branch r j)) }
-    ensures names { (d : Option Shift) (i j : Forest) (s r : Span) → Alike d i j → name_in (branch s i) ≡ name_in (branch r j) }
-    ensures layers { (d : Option Shift) (copper : LayerSet) (i j : Forest) (s r : Span) → Alike d i j → Agrees Same (layer_of copper (branch s i)) (layer_of copper (branch r j)) }
-    ensures nets { (d : Option Shift) (board other : PlainBoard) → ((n : ℕ) → name_of board n ≡ name_of other n) → (i j : Forest) (s r : Span) → Alike d i j → Agrees Same (net_of board (branch s i)) (net_of other (branch r j)) }
+    ensures spots { (d : Option Shift) (word : List ℕ) → is_place_word word ≡ true
+        → (i j : Forest) (s r : Span) → Alike d i j
+        → Agrees (IsMovedSpot d) (spot_of word (branch s i)) (spot_of word (branch r j)) }
+    ensures sizes { (d : Option Shift) (word : List ℕ) → is_place_word word ≡ false
+        → (i j : Forest) (s r : Span) → Alike d i j
+        → Agrees Same (size_of word (branch s i)) (size_of word (branch r j)) }
+    ensures names { (d : Option Shift) (i j : Forest) (s r : Span) → Alike d i j
+        → name_in (branch s i) ≡ name_in (branch r j) }
+    ensures layers { (d : Option Shift) (copper : LayerSet) (i j : Forest) (s r : Span)
+        → Alike d i j → Agrees Same (layer_of copper (branch s i)) (layer_of copper (branch r j)) }
+    ensures nets { (d : Option Shift) (board other : PlainBoard)
+        → ((n : ℕ) → name_of board n ≡ name_of other n) → (i j : Forest) (s r : Span) → Alike d i j
+        → Agrees Same (net_of board (branch s i)) (net_of other (branch r j)) }
 {}
 
 /// The moved parts of cores with a radius around them are the parts of moved cores; and what is carried and then moved is carried by both.
 pub fn carrying()
     ensures parts { (dx dy : ℤ) (layers : LayerSet) (r : Radius) (cores : List Core) (parts : List Part) → AreShifted dx dy (parts_around layers r cores) parts
         → (others : List Core) × AllZip (IsShiftedCore dx dy) cores others × (parts ≡ parts_around layers r others) }
-    ensures both { (d e : Shift) (a b c : Item) → IsCarried d a b → IsShiftedItem e.dx e.dy b c → IsCarried (record { dx = d.dx +ℤ e.dx; dy = d.dy +ℤ e.dy }) a c }
-    ensures ends { (center end : Spot) (most : ℕ) → root (square_between center end) ≤ most → (unsigned_abs (end.x -ℤ center.x) ≤ most + 1) × (unsigned_abs (end.y -ℤ center.y) ≤ most + 1) }
+    ensures both { (d e : Shift) (a b c : Item) → IsCarried d a b → IsShiftedItem e.dx e.dy b c
+        → IsCarried (record { dx = d.dx +ℤ e.dx; dy = d.dy +ℤ e.dy }) a c }
+    ensures ends { (center end : Spot) (most : ℕ) → root (square_between center end) ≤ most
+        → (unsigned_abs (end.x -ℤ center.x) ≤ most + 1)
+        × (unsigned_abs (end.y -ℤ center.y) ≤ most + 1) }
 {}

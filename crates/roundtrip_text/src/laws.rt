@@ -13,7 +13,8 @@ ghost use Rattle.roundtrip_text.specs.Pieces.{Writes, IsApart, SpellsPart, SameT
 /// What a part of a text spells is spelled by its bytes, wherever they stand; and what bytes spell, but for spans, they spell wherever
 /// they are set into a text before something that is no byte of a word.
 pub fn pieces()
-    ensures cut { (text : List ℕ) (from to : ℕ) (f : Forest) → SpellsPart text from to f → Writes (slice_range text from to) f }
+    ensures cut { (text : List ℕ) (from to : ℕ) (f : Forest) → SpellsPart text from to f
+        → Writes (slice_range text from to) f }
     ensures set { (front bytes behind : List ℕ) (f : Forest) → IsApart behind → Writes bytes f
         → let text : List ℕ = front ++ (bytes ++ behind) in
         (g : Forest) × SameTrees f g × SpellsForest (sign_of text) text (length front) (length front + length bytes) g }
@@ -21,7 +22,8 @@ pub fn pieces()
 
 /// What is written anew spells the trees that it is written from.
 pub fn writing()
-    ensures anew { (text : List ℕ) (f g : Forest) (from to : ℕ) → SpellsPart text from to f → IsRespelled f g → Writes (anew text from to g) g }
+    ensures anew { (text : List ℕ) (f g : Forest) (from to : ℕ) → SpellsPart text from to f
+        → IsRespelled f g → Writes (anew text from to g) g }
     ensures alone { (first : Bool) (f : Forest) → AreAtoms f → Writes (spaced first f) f }
 {}
 
@@ -39,7 +41,8 @@ pub fn utf8()
 
 /// The atoms of a text of forms are atoms that any text may have, and UTF-8.
 pub fn forms()
-    ensures { (text : List ℕ) (s : Span) (f : Forest) → SpellsAll text (branch s f) → AreAtoms f × AreUtf8 f }
+    ensures { (text : List ℕ) (s : Span) (f : Forest) → SpellsAll text (branch s f)
+        → AreAtoms f × AreUtf8 f }
 {}
 
 /// The text of one list of at most 64 levels, of which parts have their fates and trees are added last, is the text of one list of at
@@ -51,6 +54,10 @@ pub fn whole()
 
 /// A text of which all lists stay, and to which nothing is added, is as it was; so is each part of it.
 pub fn staying()
-    ensures parts { (text : List ℕ) (f : Forest) (fates : List Fate) (from to : ℕ) → SpellsPart text from to f → AllStay fates → edited text from to fates f ≡ slice_range text from to }
-    ensures whole { (text : List ℕ) (s : Span) (fates : List Fate) (inside : Forest) → Spells text (branch s inside) → AllStay fates → edited_whole text s fates inside none ≡ text }
+    ensures parts { (text : List ℕ) (f : Forest) (fates : List Fate) (from to : ℕ)
+        → SpellsPart text from to f → AllStay fates
+        → edited text from to fates f ≡ slice_range text from to }
+    ensures whole { (text : List ℕ) (s : Span) (fates : List Fate) (inside : Forest)
+        → Spells text (branch s inside) → AllStay fates
+        → edited_whole text s fates inside none ≡ text }
 {}
