@@ -6,6 +6,7 @@
 - doc: a comment of a function that says nothing alone, as it begins with "The same" or "As `".
 - module: a name of a module of definitions that stands in several crates.
 - In the documents: links and paths that lead nowhere, and names `CRATE::NAME` that no crate has.
+- sentence: sentences of more than 40 words in the documents that people read first; of each document their number.
 
 What was so when this was written is listed in tools/style.txt. What is not listed there is told with its place, and so is what is
 listed and no longer so; the status is 1 then. --shrink takes what is no longer so off the list, and adds nothing to it. --list
@@ -23,6 +24,8 @@ import sources
 
 LISTED = 'tools/style.txt'
 WIDEST = 100
+MOST_WORDS = 40
+PLAIN = ('README.md', 'CONTRIBUTING.md', 'docs/ARCHITECTURE.md', 'docs/FORMATS.md', 'docs/PROVED.md')
 FOLDERS = r'(?:crates|docs|tools|bench|\.ci|\.github)'
 
 
@@ -110,6 +113,38 @@ def dead_words():
                         yield 'path %s %s' % (path, word), 1, '%s:%d: %s is not there' % (path, number, word)
 
 
+def blocks(text):
+    """what is read in one go: paragraphs, points of a list and cells of a table, with the line that each begins in; no code and no headings"""
+    begun, lines, in_code = 0, [], False
+    for number, line in enumerate(text.split('\n') + [''], 1):
+        bare = line.strip()
+        if bare.startswith('```'):
+            in_code = not in_code
+        is_point, is_row = re.match(r'(?:[-*]|\d+\.) ', bare), bare.startswith('|')
+        ends = not bare or in_code or bare.startswith(('```', '#')) or is_row or (line.startswith('    ') and not lines)
+        if (ends or is_point) and lines:
+            yield begun, ' '.join(lines)
+            lines = []
+        if is_row:
+            for cell in re.split(r'(?<!\\)\|', bare.strip('|')):
+                yield number, cell.strip()
+        elif not ends:
+            begun = begun if lines else number
+            lines.append(bare[is_point.end():] if is_point else bare)
+
+
+def long_sentences():
+    """what stands in backticks is one word"""
+    for path in PLAIN:
+        if not is_there(path):
+            continue
+        for line, block in blocks(sources.read(path)):
+            for sentence in re.split(r'(?<=[.?!])\s+(?=[A-Z([*`])', re.sub(r'`[^`]*`', '`X`', block)):
+                words = sum(re.search(r'\w', word) is not None for word in sentence.split())
+                if words > MOST_WORDS:
+                    yield 'sentence ' + path, 1, '%s:%d: a sentence of %d words: %s ..' % (path, line, words, ' '.join(sentence.split()[:8]))
+
+
 def listed():
     found = collections.Counter()
     for line in sources.read(LISTED).split('\n'):
@@ -122,7 +157,7 @@ def listed():
 def found():
     """how often each thing is there, and what is to be said of each"""
     counts, said = collections.Counter(), collections.defaultdict(list)
-    for look in (hidden_and_docs, long_clauses, module_names, dead_words):
+    for look in (hidden_and_docs, long_clauses, module_names, dead_words, long_sentences):
         for name, count, words in look():
             counts[name] += count
             said[name].append(words)
@@ -142,7 +177,7 @@ def wrong():
 def lines_of(counts):
     """a list of what is passed over"""
     lines = [line for line in sources.read(LISTED).split('\n') if line.startswith('#')]
-    return lines + [name + (' = %d' % counts[name] if name.startswith('long ') or counts[name] > 1 else '') for name in sorted(counts) if counts[name]]
+    return lines + [name + (' = %d' % counts[name] if name.startswith(('long ', 'sentence ')) or counts[name] > 1 else '') for name in sorted(counts) if counts[name]]
 
 
 def shrink():

@@ -107,6 +107,7 @@ SCRIPT = '''
 REFUSED = '''
   same('in the way', entries(), ['#row-0-0', '#row-0-1', '#row-0-2']);
   same('no place for a version', [marks(), data.states[0].rows[0].spot], [2, null]);
+  same('its layers', data.layers.slice(-2).map(layer => layer[1]), ['B.Cu', 'in the way']);
   same('advice', document.querySelector('#list').textContent.includes('1 turned footprint in R1: turn them by'), true);
   follow('#row-0-0'); await later(); same('no place', chosen(), '#row-0-0');
   follow('#row-0-1'); await later(); same('a footprint', [chosen(), document.querySelectorAll('#picked > g').length], ['#row-0-1', 1]);

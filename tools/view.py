@@ -138,10 +138,12 @@ class Picture:
         groups += ['<g id="%s"></g>' % name for name in ('notes', 'picked', 'links', 'marks', 'picked-gap', 'measure')]
         return '<svg id="board" xmlns="http://www.w3.org/2000/svg">%s</svg>' % '\n'.join(groups)
 
-    def switches(self):
-        """the layers as the page switches them, from the highest: id, name, color, and whether it is on at first"""
+    def switches(self, refused):
+        """the layers as the page switches them, from the highest: id, name, color, and whether it is on at first; of a refused board nothing was checked"""
         layers = [('layer%d' % k, layer, COLORS.get(layer, '#888'), layer not in OFF_AT_FIRST) for k, layer in enumerate(self.layers())][::-1]
         told = [('links', 'open links', '#00f8ff', True), ('marks', 'rows', '#ff5f6d', True), ('notes', 'not checked', '#9aa3b0', True)]
+        if refused:
+            told = [('marks', 'in the way', '#ff5f6d', True)]
         return [('references', 'references', '#f2eda1', True)] + layers + told
 
 
@@ -281,7 +283,7 @@ def page_of(name, result, page):
     states = page.all_states() if result.states else page.states
     picture = Picture(page.placed.board, page.units)
     drawn = picture.svg()
-    data = {'name': name, 'box': picture.seen(), 'layers': picture.switches(), 'units': list(page.units.values()), 'items': page.items, 'states': states,
+    data = {'name': name, 'box': picture.seen(), 'layers': picture.switches(not result.states), 'units': list(page.units.values()), 'items': page.items, 'states': states,
             'copper': picture.told, 'names': list(picture.names)}
     with open(os.path.join(HERE, 'page.html'), encoding='utf-8') as file:
         head, _, rest = file.read().partition('<!--BOARD-->')
