@@ -1,4 +1,4 @@
-pub mod OwnEntries
+pub mod MovedFar
 pub mod MovingEntries
 pub mod EntryIds
 pub mod Returned

@@ -1,56 +1,33 @@
 -- What is known of a unit that was moved.
-use Rattle.std.proofs.Common.{◌≡◌, ◌≢◌, ◌⊎◌, inl, inr, refl, sym, ap, subst, ◌∙◌, ℕ, zero, suc, ℤ, pos, neg_ℤ, Bool, true, false, cond, not, ◌&&◌, nat_eq, List, [], ◌∷◌, filter, Option, None, Some, MatchBool, Result, Ok, Err, OnOk, IfErr, is_some, unsigned_abs, ◌≤◌, ◌+ℤ◌, ◌*ℤ◌, FitsSigned, arith, true≢false}
+use Rattle.std.proofs.Common.{◌≡◌, ◌≢◌, ◌⊎◌, inl, inr, refl, sym, ap, subst, ◌∙◌, ℕ, zero, suc, ℤ, pos, neg_ℤ, Bool, true, false, cond, ◌&&◌, List, [], ◌∷◌, filter, Some, MatchBool, is_some, unsigned_abs, ◌≤◌, ◌+ℤ◌, ◌*ℤ◌, FitsSigned, arith, true≢false}
 use mir.Syntax.{w64}
 use Rattle.int_algebra.proofs.Scalars.{passed, clean}
-use Rattle.board_errors.specs.declared.errors.ItemError.{ItemError}
-use Rattle.board_errors.specs.declared.errors.ItemError.TheVariants.{OutOfBoard}
-use Rattle.std.specs.List.{All, AllZip, Contains, list_all}
+use Rattle.std.specs.List.{AllZip, Contains, list_all}
 use Rattle.std.specs.List.Sorted.{IsStrictlyIncreasing}
 use Rattle.std.specs.Ordering.{int_eq}
 use Rattle.std.proofs.lemmas.Bool.{and_parts}
 use Rattle.std.proofs.lemmas.Bool.Decides.{Decides-int_eq}
 use Rattle.std.proofs.lemmas.List.Elements.{All-contains}
-use Rattle.geo_seg.specs.declared.boxes.Bounds.{Bounds}
 use Rattle.geo_seg.specs.Shifts.{core_stays}
 use Rattle.board_items.specs.declared.parts.Part.{Part}
 use Rattle.board_items.specs.declared.item.Item.{Item}
-use Rattle.board_items.specs.Back.{entries_of}
 use Rattle.board_items.specs.Boards.{PlainBoard, IsSound, AllAdmitted, item_at, is_near, is_on_board, name_of, has_layers_of}
-use Rattle.board_items.specs.Extents.{AreBoundsOf}
-use Rattle.board_items.specs.Parts.{parts_of}
-use Rattle.board_items.specs.Moves.{moves, is_note, item_stays, unit_stays, IsShiftedItem, IsMovedEntry, IsMoved}
+use Rattle.board_items.specs.Parts.{parts_of, FirstHasPoints}
+use Rattle.board_items.specs.Moves.{moves, item_stays, unit_stays, IsShiftedItem, IsMovedEntry, IsMoved, HaveFirstPoints}
 use Rattle.board_laws.specs.Edits.{IsEdit, WasOrIs}
 use Rattle.board_laws.proofs.Rest.{Entry, rises, found_at, contains_filter, source, passed as passed_test}
 use Rattle.board_edits.specs.declared.making.Made.{Made}
 use Rattle.board_edits.specs.Deeds.{PlainDeed, nothing, shift}
 use Rattle.board_edits.specs.Fitting.{plain_deed, returned_board, DeedLeadsBack, AddsNone}
-use Rattle.board_edits.specs.Making.{HasBounds, ids_of, shifted_back, IsMade}
+use Rattle.board_edits.specs.Making.{ids_of, shifted_back, IsMade}
 use Rattle.board_edits.specs.Touched.{ids_touched, ItemDiffers, reshaped, AreEdited, touched_before}
 use Rattle.board_edits.proofs.EntryIds.{from_ids, to_ids, rise_filter, ids_rise}
-use Rattle.board_edits.proofs.OwnEntries.{item_small}
+use Rattle.board_edits.proofs.MovedFar.{item_small}
 use Rattle.board_edits.proofs.Returned.{returned_same}
 use Rattle.board_edits.proofs.ShiftedParts.{unit_stay}
 
 some_once : {x y : Item} → Some x ≡ Some y → x ≡ y
 some_once e = cc
-
--- an item with parts has a box
-boxed : (ps : List Part) (found : Option Bounds) → AreBoundsOf ps found → ps ≢ [] → (box : Bounds) × AreBoundsOf ps (Some box)
-boxed [] found h some = absurd (some refl)
-boxed (p ∷ ps) None h some = absurd h
-boxed (p ∷ ps) (Some box) h some = (box, h)
-
--- a move of what stays is not refused
-not_refused : (r : Result (Unit {0}) ItemError) (P : Type 0) (b : Bool) → OnOk r P → IfErr r (λ e. (e ≡ OutOfBoard) × (b ≡ false)) → b ≡ true → P
-not_refused (Ok v) P b h k t = h
-not_refused (Err e) P b h k t = absurd (true≢false (sym t ∙ k.1))
-
-pub did_move : (r : Result (Unit {0}) ItemError) (unit : ℕ) (dx dy : ℤ) (old new : PlainBoard) → FitsSigned w64 dx → FitsSigned w64 dy → OnOk r (IsMoved unit (passed dx) (passed dy) old new)
-    → IfErr r (λ e. (e ≡ OutOfBoard) × (unit_stays unit (passed dx) (passed dy) old.items ≡ false)) → unit_stays unit dx dy old.items ≡ true → IsMoved unit dx dy old new
-did_move r unit dx dy old new fits_x fits_y h k stays =
-    let moved = not_refused r (IsMoved unit (passed dx) (passed dy) old new) (unit_stays unit (passed dx) (passed dy) old.items) h k
-    (ap (λ (d : ℤ). unit_stays unit d (passed dy) old.items) (clean dx fits_x) ∙ (ap (λ (d : ℤ). unit_stays unit dx d old.items) (clean dy fits_y) ∙ stays)) in
-    subst (λ (d : ℤ). IsMoved unit dx d old new) (clean dy fits_y) (subst (λ (d : ℤ). IsMoved unit d (passed dy) old new) (clean dx fits_x) moved)
 
 -- ---- how far the items of a unit are moved that stay on the board
 some_small : (board : PlainBoard) (unit : ℕ) (dx dy : ℤ) (es : List Entry) → AllAdmitted board es → unit_stays unit dx dy es ≡ true → ids_of (filter (λ (e : Entry). moves unit e.1) es) ≢ [] → (unsigned_abs dx ≤ 1000000000) × (unsigned_abs dy ≤ 1000000000)
@@ -126,7 +103,7 @@ all_still unit dx dy (e ∷ es) (f ∷ fs) h none = by (λ n. all_still unit dx 
 
 -- ---- the edit
 module _ (edit_law : (unit : ℕ) (dx dy : ℤ) (old new : PlainBoard) (ids : List ℕ) → IsSound old → IsSound new → IsMoved unit dx dy old new → ((e : Entry) → Contains old.items e → moves unit e.1 ≡ true → Contains ids e.0) → IsEdit old new ids)
-    (apart_law : (dx dy : ℤ) (a b : Item) (box : Bounds) → AreBoundsOf (parts_of a) (Some box) → IsShiftedItem dx dy a b → parts_of a ≡ parts_of b → (dx ≡ pos 0) × (dy ≡ pos 0))
+    (apart_law : (dx dy : ℤ) (a b : Item) → FirstHasPoints (parts_of a) → parts_of a ≢ [] → IsShiftedItem dx dy a b → parts_of a ≡ parts_of b → (dx ≡ pos 0) × (dy ≡ pos 0))
     (rest_law : (unit : ℕ) (old new : PlainBoard) → IsMoved unit (pos 0) (pos 0) old new → new ≡ old) where
   module _ (old new : PlainBoard) (unit : ℕ) (dx dy : ℤ) (ids : List ℕ) (sound : IsSound old) (still : IsSound new) (moved : IsMoved unit dx dy old new) where
     -- by nothing
@@ -153,24 +130,24 @@ module _ (edit_law : (unit : ℕ) (dx dy : ℤ) (old new : PlainBoard) (ids : Li
     abbrev own : Entry → Bool
     own e = moves unit e.1
 
-    module _ (far : (dx ≡ pos 0) × (dy ≡ pos 0) → ⊥) (bounds : All HasBounds (entries_of unit old.items)) (given : ids ≡ ids_of (filter own old.items)) where
+    module _ (far : (dx ≡ pos 0) × (dy ≡ pos 0) → ⊥) (first : HaveFirstPoints unit old.items) (given : ids ≡ ids_of (filter own old.items)) where
       listed : (e : Entry) → Contains old.items e → moves unit e.1 ≡ true → Contains ids e.0
       listed e c m = subst (λ (xs : List ℕ). Contains xs e.0) (sym given) (to_ids (filter own old.items) e (contains_filter own old.items e c m))
 
-      bounds_of : (e : Entry) → Contains old.items e → moves unit e.1 ≡ true → HasBounds e
-      bounds_of e c m = All-contains HasBounds (entries_of unit old.items) e bounds (contains_filter (λ (x : Entry). nat_eq x.1.unit unit) old.items e c (and_parts (nat_eq e.1.unit unit) (not (is_note e.1.what)) m).0)
+      first_of : (e : Entry) → Contains old.items e → moves unit e.1 ≡ true → FirstHasPoints (parts_of e.1)
+      first_of e c m = All-contains (λ (x : Entry). moves unit x.1 ≡ true → FirstHasPoints (parts_of x.1)) old.items e first c m
 
-      other_parts : (e f : Entry) → HasBounds e → IsShiftedItem dx dy e.1 f.1 → parts_of e.1 ≢ [] → parts_of e.1 ≢ parts_of f.1
-      other_parts e f has s some same = let box = boxed (parts_of e.1) has.0 has.1 some in far (apart_law dx dy e.1 f.1 box.0 box.1 s same)
+      other_parts : (e f : Entry) → FirstHasPoints (parts_of e.1) → IsShiftedItem dx dy e.1 f.1 → parts_of e.1 ≢ [] → parts_of e.1 ≢ parts_of f.1
+      other_parts e f has s some same = far (apart_law dx dy e.1 f.1 has some s same)
 
       -- the item that moved has parts, where the item before or now has
-      apart : (e f : Entry) (item : Item) → HasBounds e → IsShiftedItem dx dy e.1 f.1 → (item ≡ e.1) ⊎ (item ≡ f.1) → parts_of item ≢ [] → parts_of e.1 ≢ parts_of f.1
+      apart : (e f : Entry) (item : Item) → FirstHasPoints (parts_of e.1) → IsShiftedItem dx dy e.1 f.1 → (item ≡ e.1) ⊎ (item ≡ f.1) → parts_of item ≢ [] → parts_of e.1 ≢ parts_of f.1
       apart e f item has s (inl q) some same = other_parts e f has s (subst (λ (i : Item). parts_of i ≢ []) q some) same
       apart e f item has s (inr q) some same = other_parts e f has s (λ none. some (ap parts_of q ∙ (sym same ∙ none))) same
 
       -- one that moved, before and now
       one_differs : (e f : Entry) → Contains old.items e → moves unit e.1 ≡ true → Contains new.items f → IsMovedEntry unit dx dy e f → (id : ℕ) → e.0 ≡ id → (item : Item) → WasOrIs old new id item → parts_of item ≢ [] → ItemDiffers old new id
-      one_differs e f there m here h id same item w p = reshaped e.1 f.1 was is (apart e f item (bounds_of e there m) (subst (λ (b : Bool). MatchBool b (IsShiftedItem dx dy e.1 f.1) (f.1 ≡ e.1)) m h.item) (which w) p)
+      one_differs e f there m here h id same item w p = reshaped e.1 f.1 was is (apart e f item (first_of e there m) (subst (λ (b : Bool). MatchBool b (IsShiftedItem dx dy e.1 f.1) (f.1 ≡ e.1)) m h.item) (which w) p)
         where
           was : item_at old.items id ≡ Some e.1
           was = subst (λ (n : ℕ). item_at old.items n ≡ Some e.1) same (found_at old.items e (rises 0 old.next_id old.items sound.ids) there)
@@ -196,8 +173,8 @@ module _ (edit_law : (unit : ℕ) (dx dy : ℤ) (old new : PlainBoard) (ids : Li
         differ = differ;
       }
 
-    edited : All HasBounds (entries_of unit old.items) → ids ≡ ids_touched old (shift unit dx dy) → AreEdited old new ids
-    edited bounds given = by (int_eq dx (pos 0)) (int_eq dy (pos 0)) refl refl given
+    edited : HaveFirstPoints unit old.items → ids ≡ ids_touched old (shift unit dx dy) → AreEdited old new ids
+    edited first given = by (int_eq dx (pos 0)) (int_eq dy (pos 0)) refl refl given
       where
         zero_x : int_eq dx (pos 0) ≡ true → dx ≡ pos 0
         zero_x h = (Decides-int_eq dx (pos 0)).0 h
@@ -207,8 +184,8 @@ module _ (edit_law : (unit : ℕ) (dx dy : ℤ) (old new : PlainBoard) (ids : Li
 
         by : (a b : Bool) → int_eq dx (pos 0) ≡ a → int_eq dy (pos 0) ≡ b → ids ≡ cond (a && b) [] (ids_of (filter own old.items)) → AreEdited old new ids
         by true true x y g = edited_nowhere (zero_x x) (zero_y y) g
-        by true false x y g = edited_far (λ both. true≢false (sym ((Decides-int_eq dy (pos 0)).1 both.1) ∙ y)) bounds g
-        by false b x y g = edited_far (λ both. true≢false (sym ((Decides-int_eq dx (pos 0)).1 both.0) ∙ x)) bounds g
+        by true false x y g = edited_far (λ both. true≢false (sym ((Decides-int_eq dy (pos 0)).1 both.1) ∙ y)) first g
+        by false b x y g = edited_far (λ both. true≢false (sym ((Decides-int_eq dx (pos 0)).1 both.0) ∙ x)) first g
 
     -- by nothing, or none of its items moves
     none_moved : [] ≡ ids_touched old (shift unit dx dy) → new ≡ old
@@ -228,13 +205,13 @@ module _ (edit_law : (unit : ℕ) (dx dy : ℤ) (old new : PlainBoard) (ids : Li
       leads_by (id ∷ more) same = leads_back back_law old new unit dx dy sound moved
 
   pub moved_made : ((unit : ℕ) (dx dy : ℤ) (old new : PlainBoard) → IsMoved unit dx dy old new → IsMoved unit (neg_ℤ dx) (neg_ℤ dy) new old)
-      → (old new : PlainBoard) (unit : ℕ) (dx dy : ℤ) (made : Made) → IsSound old → IsSound new → IsMoved unit dx dy old new → All HasBounds (entries_of unit old.items)
+      → (old new : PlainBoard) (unit : ℕ) (dx dy : ℤ) (made : Made) → IsSound old → IsSound new → IsMoved unit dx dy old new → HaveFirstPoints unit old.items
       → plain_deed made.back ≡ shifted_back unit dx dy made.ids.items → made.ids.items ≡ ids_touched old (shift unit dx dy) → IsMade (shift unit dx dy) old new made
-  moved_made back_law old new unit dx dy made sound still moved bounds back given = record {
+  moved_made back_law old new unit dx dy made sound still moved first back given = record {
     after = moved;
     leads = subst (λ (d : PlainDeed). DeedLeadsBack d new old) (sym back) (leads_by old new unit dx dy made.ids.items sound still moved back_law made.ids.items given);
     adds_none = subst AddsNone (sym back) (adds_none unit dx dy made.ids.items);
     none = λ gives. absurd gives;
-    edited = edited old new unit dx dy made.ids.items sound still moved bounds given;
+    edited = edited old new unit dx dy made.ids.items sound still moved first given;
     known = touched_before given;
   }

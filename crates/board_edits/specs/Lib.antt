@@ -1,6 +1,5 @@
 pub mod Deeds
 pub mod Fitting
 pub mod Touched
-pub mod Staying
 pub mod Making
 pub mod Planning

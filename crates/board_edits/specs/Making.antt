@@ -1,18 +1,11 @@
 -- What is known of a deed while it is done.
-use Rattle.std.specs.Prelude.{◌≡◌, ℕ, ℤ, neg_ℤ, List, [], ◌∷◌, Option, map}
-use Rattle.geo_seg.specs.declared.boxes.Bounds.{Bounds}
+use Rattle.std.specs.Prelude.{◌≡◌, ℕ, ℤ, neg_ℤ, List, [], ◌∷◌, map}
 use Rattle.board_items.specs.declared.item.Item.{Item}
 use Rattle.board_items.specs.Boards.{PlainBoard}
-use Rattle.board_items.specs.Extents.{AreBoundsOf}
-use Rattle.board_items.specs.Parts.{parts_of}
 use Rattle.board_edits.specs.declared.making.Made.{Made}
 use Rattle.board_edits.specs.Deeds.{PlainDeed, nothing, take_out, shift, After}
 use Rattle.board_edits.specs.Fitting.{plain_deed, DeedLeadsBack, GivesNothing, AddsNone}
 use Rattle.board_edits.specs.Touched.{ids_touched, AreEdited, AreKnown}
-
--- the item has bounds where it has parts
-abbrev pub HasBounds : ℕ × Item → Type 0
-HasBounds entry = (found : Option Bounds) × AreBoundsOf (parts_of entry.1) found
 
 -- the ids of the entries
 abbrev pub ids_of : List (ℕ × Item) → List ℕ

@@ -11,14 +11,16 @@ use pcb_read::laws::one_list;
 
 /// A command does one thing to a board.
 pub fn one_deed()
-    ensures { (board : PlainBoard) (command : PlainCommand) (a b : Result PlainDeed Refusal) → Does board command a → Does board command b → a ≡ b }
+    ensures { (board : PlainBoard) (command : PlainCommand) (a b : Result PlainDeed Refusal) →
+        Does board command a → Does board command b → a ≡ b }
 {
     one_list();
 }
 
 /// A deed makes one board of another.
 pub fn one_board()
-    ensures { (old : PlainBoard) (deed : PlainDeed) (a b : PlainBoard) → After old deed a → After old deed b → a ≡ b }
+    ensures { (old : PlainBoard) (deed : PlainDeed) (a b : PlainBoard) → After old deed a →
+        After old deed b → a ≡ b }
 {
     one_move();
 }

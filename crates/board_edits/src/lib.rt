@@ -6,7 +6,6 @@ pub mod laws;
 mod making;
 mod planning;
 mod refusal;
-mod staying;
 mod touching;
 
 pub use deed::Deed;

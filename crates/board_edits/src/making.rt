@@ -1,20 +1,19 @@
 //! Deeds that are done.
 
-ghost use Rattle.std.specs.Prelude.{◌≡◌, ◌≢◌, ◌≤◌, true, [], map, IfOk, OnOk, All, unsigned_abs};
+ghost use Rattle.std.specs.Prelude.{◌≡◌, ◌≢◌, ◌≤◌, true, [], map, IfOk, OnOk, unsigned_abs};
 ghost use Rattle.board_items.specs.Back.{kept_entry, FitsBack};
 ghost use Rattle.board_items.specs.Boards.{IsSound};
 ghost use Rattle.board_items.specs.Moves.{unit_stays};
-ghost use Rattle.board_items.specs.Walks.{unit_left};
 ghost use Rattle.part_read.specs.Ready.{AreReady};
 ghost use Rattle.board_edits.specs.Deeds.{After, nothing, append, put_back, take_out, shift};
 ghost use Rattle.board_edits.specs.Fitting.{plain_deed, DeedFits, DeedLeadsBack, GivesNothing, AddsNone};
-ghost use Rattle.board_edits.specs.Making.{HasBounds, ids_of, without_added, without_put, shifted_back, IsMade};
+ghost use Rattle.board_edits.specs.Making.{ids_of, without_added, without_put, shifted_back, IsMade};
 ghost use Rattle.board_edits.specs.Touched.{ids_touched, AreEdited, AreKnown};
 
 use crate::deed::Deed;
 use crate::touching::ids_of_unit;
 use board_items::laws::{moved_back, moved_by_nothing, moved_nowhere};
-use board_items::{Board, Item, Kept, Nm, UnitIter};
+use board_items::{Board, Item, Kept, Nm};
 use board_laws::laws;
 use pcb_read::add_items;
 use std::alloc::{AllocError, Global};
@@ -24,13 +23,6 @@ use std::alloc::{AllocError, Global};
 pub struct Made {
     pub ids: Vec<u32>,
     pub back: Deed,
-}
-
-/// Shows that the board is sound, as each is. It does nothing.
-fn is_sound(board: &Board)
-    ensures { IsSound board.now }
-{
-    let _room = board.left();
 }
 
 // ---- items that are added
@@ -52,13 +44,13 @@ fn append(alloc: Global, board: &mut Board, items: Vec<Item>) -> Result<Made, Al
     ensures { IfOk result (IsMade (append items.items) board.old board.new) }
 {
     laws::added();
-    is_sound(board);
+    board.soundness();
     let unit = board.next_unit();
     let back = without_added(unit, &items);
     if add_items(board, unit, items).is_err() {
         return Err(AllocError);
     }
-    is_sound(board);
+    board.soundness();
     let ids = ids_of_unit(alloc, board, unit)?;
     Ok(Made { ids, back })
 }
@@ -94,12 +86,12 @@ fn put_back(alloc: Global, board: &mut Board, items: Vec<Kept>) -> Result<Made, 
     ensures { IfOk result (IsMade (put_back (map kept_entry items.items)) board.old board.new) }
 {
     laws::put_back();
-    is_sound(board);
+    board.soundness();
     let ids = ids_kept(alloc, &items)?;
     let back = without_put(&items);
     let mut left = items;
     board.put_back(&mut left)?;
-    is_sound(board);
+    board.soundness();
     Ok(Made { ids, back })
 }
 
@@ -111,9 +103,9 @@ fn take_out(board: &mut Board, unit: u32, ids: Vec<u32>) -> Result<Made, AllocEr
     ensures { IfOk result (IsMade (take_out unit) board.old board.new) }
 {
     laws::taken_out();
-    is_sound(board);
+    board.soundness();
     let items = board.taken(unit)?;
-    is_sound(board);
+    board.soundness();
     Ok(Made {
         ids,
         back: Deed::PutBack { items },
@@ -121,15 +113,6 @@ fn take_out(board: &mut Board, unit: u32, ids: Vec<u32>) -> Result<Made, AllocEr
 }
 
 // ---- units that are moved
-
-/// Items of a board have bounds where they have parts, so what is moved has other parts.
-fn have_bounds(items: UnitIter<'_>)
-    ensures { All HasBounds (unit_left items.entry) }
-{
-    for (_, item) in items {
-        let _bounds = item.bounds();
-    }
-}
 
 /// The deed that moves the unit back. `ids` are those of its items that were moved, each from one place on the board to another; where
 /// there are none, nothing is moved back.
@@ -157,11 +140,9 @@ fn shift(board: &mut Board, unit: u32, dx: Nm, dy: Nm, ids: Vec<u32>) -> Made
     moved_back();
     moved_by_nothing();
     moved_nowhere();
-    is_sound(board);
-    have_bounds(board.of_unit(unit));
-    let moved = board.moved(unit, dx, dy).is_ok();
-    prove!(moved);
-    is_sound(board);
+    board.soundness();
+    board.shift_unit(unit, dx, dy);
+    board.soundness();
     let back = shifted_back(unit, dx, dy, &ids);
     Made { ids, back }
 }
@@ -176,7 +157,7 @@ fn done(alloc: Global, board: &mut Board, deed: Deed, touched: Vec<u32>) -> Resu
 {
     match deed {
         Deed::Nothing => {
-            is_sound(board);
+            board.soundness();
             Ok(Made {
                 ids: touched,
                 back: Deed::Nothing,
@@ -201,13 +182,15 @@ pub fn make(
     requires touched { touched.items ≡ ids_touched board.old (plain_deed deed) }
     ensures after { OnOk result (After board.old (plain_deed deed) board.new) }
     ensures sound { IsSound board.old × IsSound board.new }
-    ensures back { IfOk result (λ made. DeedLeadsBack (plain_deed made.back) board.new board.old × AddsNone (plain_deed made.back)) }
+    ensures back { IfOk result (λ made. DeedLeadsBack (plain_deed made.back) board.new board.old ×
+        AddsNone (plain_deed made.back)) }
     ensures none { IfOk result (λ made. GivesNothing (plain_deed deed) → plain_deed made.back ≡ nothing) }
     ensures edited { IfOk result (λ made. AreEdited board.old board.new made.ids.items) }
-    ensures known { IfOk result (λ made. AreKnown board.old (ids_touched board.old (plain_deed deed)) made.ids.items) }
+    ensures known { IfOk result (λ made. AreKnown board.old (ids_touched board.old (plain_deed deed))
+        made.ids.items) }
 {
-    is_sound(board);
+    board.soundness();
     let made = done(alloc, board, deed, touched);
-    is_sound(board);
+    board.soundness();
     made
 }

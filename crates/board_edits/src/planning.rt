@@ -1,6 +1,7 @@
 //! What a command does to a board, found before anything is changed.
 
-ghost use Rattle.std.specs.Prelude.{◌≡◌, ◌⊎◌, ◌≤◌, length, MatchResult, IfOk, Result, Ok, Err};
+ghost use Rattle.std.specs.Prelude.{◌≡◌, ◌⊎◌, MatchResult, IfOk, Result, Ok, Err};
+ghost use Rattle.plain_types.specs.Limits.{IsInText, IsReadable};
 ghost use Rattle.edit_script.specs.Commands.{plain_command, add};
 ghost use Rattle.edit_script.specs.Fits.{Fits};
 ghost use Rattle.board_edits.specs.declared.reason.Refusal.{Refusal};
@@ -11,7 +12,6 @@ ghost use Rattle.board_edits.specs.Planning.{plain_answer, IsFound, refusal_in, 
 use crate::deed::Deed;
 use crate::laws::one_deed;
 use crate::refusal::Refusal;
-use crate::staying::unit_stays;
 use board_items::{Board, BoardError, Found, Nm};
 use edit_script::Command;
 use pcb_read::read_item;
@@ -29,8 +29,8 @@ fn refused(error: BoardError) -> Refusal
 
 /// The items of an added list.
 fn appended(alloc: Global, board: &Board, text: &[u8], at: u32) -> Result<Deed, Refusal>
-    requires text { length text.now ≤ 33554432 }
-    requires at { at ≤ 33554432 }
+    requires text { IsReadable text.now }
+    requires at { IsInText at }
     ensures found { IsFound board.now (add text.now at) result }
     ensures fits { IfOk result (λ deed. DeedFits board.now (plain_deed deed)) }
 {
@@ -66,7 +66,7 @@ fn shifted(board: &Board, found: Found, dx: Nm, dy: Nm, at: u32) -> Result<Deed,
     ensures fits { IfOk result (λ deed. DeedFits board.now (plain_deed deed)) }
 {
     let unit = unit_in(found)?;
-    if unit_stays(board, unit, dx, dy) {
+    if board.unit_stays(unit, dx, dy) {
         Ok(Deed::Shift { unit, dx, dy })
     } else {
         Err(Refusal::Item(BoardError::OutOfBoard { at }))
@@ -77,8 +77,12 @@ fn shifted(board: &Board, found: Found, dx: Nm, dy: Nm, at: u32) -> Result<Deed,
 /// where `specs/Deeds` has them; want of memory alone is free.
 pub fn deed_of(alloc: Global, board: &Board, command: &Command<'_>) -> Result<Deed, Refusal>
     requires { Fits (plain_command command.now) }
-    ensures does { MatchResult result (λ deed. Does board.now (plain_command command.now) (Ok (plain_deed deed))) (λ why. (why ≡ Refusal.OutOfMemory) ⊎ Does board.now (plain_command command.now) (Err why)) }
-    ensures only { (answer : Result PlainDeed Refusal) → Does board.now (plain_command command.now) answer → MatchResult result (λ deed. answer ≡ Ok (plain_deed deed)) (λ why. (why ≡ Refusal.OutOfMemory) ⊎ (answer ≡ Err why)) }
+    ensures does { MatchResult result (λ deed. Does board.now (plain_command command.now)
+        (Ok (plain_deed deed))) (λ why. (why ≡ Refusal.OutOfMemory) ⊎
+        Does board.now (plain_command command.now) (Err why)) }
+    ensures only { (answer : Result PlainDeed Refusal) → Does board.now (plain_command command.now) answer →
+        MatchResult result (λ deed. answer ≡ Ok (plain_deed deed))
+        (λ why. (why ≡ Refusal.OutOfMemory) ⊎ (answer ≡ Err why)) }
     ensures fits { IfOk result (λ deed. DeedFits board.now (plain_deed deed)) }
 {
     one_deed();

@@ -10,8 +10,7 @@ ghost use Rattle.board_edits.specs.Making.{ids_of};
 ghost use Rattle.board_edits.specs.Touched.{ids_touched};
 
 use crate::deed::Deed;
-use crate::staying::is_note;
-use board_items::{Board, Nm, UnitIter};
+use board_items::{Board, Item, Nm, UnitIter, What};
 use std::alloc::{AllocError, Global};
 
 /// The ids of these items of a unit.
@@ -25,9 +24,17 @@ fn ids_in(alloc: Global, items: UnitIter<'_>) -> Result<Vec<u32>, AllocError>
     Ok(ids)
 }
 
+/// Whether the item is a note, which does not move with its unit.
+fn is_note(item: &Item) -> bool
+    ensures { result ≡ is_note item.now.what }
+{
+    matches!(item.what, What::Note { .. })
+}
+
 /// The ids of those that are no notes.
 fn moving_in(alloc: Global, items: UnitIter<'_>) -> Result<Vec<u32>, AllocError>
-    ensures { IfOk result (λ ids. ids.items ≡ ids_of (filter (λ entry. not (is_note entry.1.what)) (unit_left items.entry))) }
+    ensures { IfOk result (λ ids. ids.items ≡ ids_of (filter (λ entry. not (is_note entry.1.what))
+        (unit_left items.entry))) }
 {
     let mut ids = Vec::new(alloc);
     for (id, item) in items {
@@ -47,7 +54,8 @@ pub(crate) fn ids_of_unit(alloc: Global, board: &Board, unit: u32) -> Result<Vec
 
 /// The ids of the unit's items that move with it.
 fn moving_of_unit(alloc: Global, board: &Board, unit: u32) -> Result<Vec<u32>, AllocError>
-    ensures { IfOk result (λ ids. ids.items ≡ ids_of (filter (λ entry. moves unit entry.1) board.now.items)) }
+    ensures { IfOk result (λ ids. ids.items ≡ ids_of (filter (λ entry. moves unit entry.1)
+        board.now.items)) }
 {
     moving_in(alloc, board.of_unit(unit))
 }

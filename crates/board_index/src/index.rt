@@ -1,6 +1,7 @@
 //! The index of a board's items.
 
 ghost use Rattle.std.specs.Prelude.{◌≡◌, ◌≤ℤ◌, pos, IfOk};
+ghost use Rattle.plain_types.specs.Lengths.{greatest};
 ghost use Rattle.board_index.specs.Holding.{IsIndexOfItems};
 
 use board_items::{Board, Nm};
@@ -11,7 +12,7 @@ use std::alloc::{AllocError, Global};
 /// each side of a box is moved out before it is asked which tiles it meets. Only want of memory refuses it.
 pub fn index_of(alloc: Global, board: &Board, reach: Nm) -> Result<TileIndex, AllocError>
     requires from { pos 0 ≤ℤ reach }
-    requires to { reach ≤ℤ pos 500000000 }
+    requires to { reach ≤ℤ greatest }
     ensures items { IfOk result (IsIndexOfItems board.now) }
     ensures reach { IfOk result (λ index. index.reach ≡ reach) }
 {

@@ -32,7 +32,7 @@ use Rattle.footprint_read.specs.declared.courts.Court.{Court}
 use Rattle.footprint_read.specs.FootHead.{side_by, side_of, says, second_text, reference_by, reference_of, head_of}
 use Rattle.footprint_read.specs.Courtyards.{line_side, rect_side, circle_side, spots_side, has_arc, outline_side, graphic_side}
 use Rattle.footprint_read.specs.FootprintOf.{given_at, giving, drawn_gives, arc_gives, drawn_kind, is_curve, is_writing, other_gives, kind_gives, child_gives, contents_then, children_give, body_of, court_notes, all_given, with_room, is_placed, finished, contents_of, SaysInside, SaysWithHead, FootprintSays}
-use Rattle.pcb_read.specs.Near.{IsNear}
+use Rattle.pcb_read.specs.Near.{IsPlacedInText}
 use Rattle.pcb_read.specs.Short.{IsShort, AllShort}
 use Rattle.pcb_read.proofs.Nearness.{Near, ShortIf, near_same, step, with_tree, by_test, near_needed, needed_short, near_check, near_place, parts_short, find_short, near_element, of_atom, near_spot_of, near_copper, near_spots}
 use Rattle.pcb_read.proofs.Nearby.{near_ground, near_graphic, near_curve, near_writing}
@@ -112,7 +112,7 @@ AllNear (g ∷ gs) = (g.place ≤ 33554432) × AllNear gs
 
 abbrev NearGiven : Result Contents BoardError → Type 0
 NearGiven (Ok c) = AllNear c.given
-NearGiven (Err e) = IsNear e
+NearGiven (Err e) = IsPlacedInText e
 
 both_near : (gs hs : List Given) → AllNear gs → AllNear hs → AllNear (gs ++ hs)
 both_near [] hs h k = k

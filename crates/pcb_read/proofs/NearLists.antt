@@ -20,7 +20,7 @@ use Rattle.pcb_read.specs.Tracks.{track_of, via_of}
 use Rattle.pcb_read.specs.ItemsOf.{has_room, in_room, on_ground, SaysItems}
 use Rattle.pcb_read.specs.Answers.{GivesSome}
 use Rattle.pcb_read.specs.ItemText.{SaysBy, alone, SaysAlone}
-use Rattle.pcb_read.specs.Near.{IsNear}
+use Rattle.pcb_read.specs.Near.{IsPlacedInText}
 use Rattle.pcb_read.specs.Short.{AreShort, IsShort, AllShort}
 use Rattle.pcb_read.proofs.Nearness.{Near, NearShort, near_same, step, near_check, near_place}
 use Rattle.pcb_read.proofs.Nearby.{near_ground, near_one, near_graphic, near_curve, near_writing, near_zone, near_track, near_via}
@@ -96,7 +96,7 @@ near_forms board unit text forms answer h n says = near_alone_by board unit (alo
 
 -- the call that reads them refuses in the text
 pub near_given : (board : PlainBoard) (unit : ℕ) (text : List ℕ) (forms : Tree) (result : Result (Vec Item Global) BoardError) → GivesSome result (SaysAlone board unit (alone (parts forms)))
-    → PartsStandBetween text 0 (length text) forms → length text ≤ 33554432 → IfErr result IsNear
+    → PartsStandBetween text 0 (length text) forms → length text ≤ 33554432 → IfErr result IsPlacedInText
 near_given board unit text forms (Ok items) says h n = tt
-near_given board unit text forms (Err e) (inl gone) h n = subst IsNear (sym gone) tt
+near_given board unit text forms (Err e) (inl gone) h n = subst IsPlacedInText (sym gone) tt
 near_given board unit text forms (Err e) (inr says) h n = near_forms board unit text forms (Err e) h n says

@@ -22,19 +22,19 @@ use Rattle.part_read.specs.Numbers.{read_as, length_in, size_in, number_in, spot
 use Rattle.part_read.specs.LayersOf.{each_set, layer_number, ends_in_cu, layer_by, layer_in, copper_by, copper_in, layer_at, layer_of, layers_through, is_all_copper, is_outer, named, layers_named, drawn_on}
 use Rattle.part_read.specs.NetsOf.{declared_in, net_of}
 use Rattle.part_read.specs.Drawings.{spots_among, enough, corners_in, corners_of, width_list, width_of, fill_of, line_drawing, rect_drawing, circle_drawing, outline_drawing, drawing_of}
-use Rattle.pcb_read.specs.Near.{IsNear}
+use Rattle.pcb_read.specs.Near.{IsPlacedInText}
 use Rattle.pcb_read.specs.Short.{AreShort, IsShort, AllShort}
 
 -- ---- answers
 
 abbrev pub Near : {A : Type 0} → Result A BoardError → Type 0
 Near (Ok x) = Unit {0}
-Near (Err e) = IsNear e
+Near (Err e) = IsPlacedInText e
 
 -- what is found is short
 abbrev pub NearShort : Result Tree BoardError → Type 0
 NearShort (Ok t) = IsShort t
-NearShort (Err e) = IsNear e
+NearShort (Err e) = IsPlacedInText e
 
 abbrev pub ShortIf : Option Tree → Type 0
 ShortIf None = Unit {0}
@@ -55,15 +55,15 @@ pub by_test : {A : Type 0} → (b : Bool) (x y : Result A BoardError) → Near x
 by_test true x y h k = h
 by_test false x y h k = k
 
-pub near_needed : {A : Type 0} → (e : BoardError) (o : Option A) → IsNear e → Near (needed e o)
+pub near_needed : {A : Type 0} → (e : BoardError) (o : Option A) → IsPlacedInText e → Near (needed e o)
 near_needed e None h = h
 near_needed e (Some x) h = tt
 
-pub needed_short : (e : BoardError) (o : Option Tree) → IsNear e → ShortIf o → NearShort (needed e o)
+pub needed_short : (e : BoardError) (o : Option Tree) → IsPlacedInText e → ShortIf o → NearShort (needed e o)
 needed_short e None h k = h
 needed_short e (Some t) h k = k
 
-pub near_check : (e : BoardError) (b : Bool) → IsNear e → Near (check e b)
+pub near_check : (e : BoardError) (b : Bool) → IsPlacedInText e → Near (check e b)
 near_check e true h = tt
 near_check e false h = h
 
@@ -99,7 +99,7 @@ pub near_element : (head : List ℕ) (t : Tree) → IsShort t → ShortIf (eleme
 unfolding element
 near_element head t h = find_short (has_head head) (parts t) (parts_short t h)
 
-among : (e : BoardError) (o : Option Tree) → IsNear e → ShortIf o → NearShort (atom_among e o)
+among : (e : BoardError) (o : Option Tree) → IsPlacedInText e → ShortIf o → NearShort (atom_among e o)
 among e None h k = h
 among e (Some t) h k = by (is_list t)
   where
@@ -132,7 +132,7 @@ in_some read found k f = in_or None _ found k (λ s h. step (read s) _ (f s h) (
 
 -- ---- numbers
 
-pub near_read : {A : Type 0} → (e : BoardError) (r : Result A DecError) → IsNear e → Near (read_as e r)
+pub near_read : {A : Type 0} → (e : BoardError) (r : Result A DecError) → IsPlacedInText e → Near (read_as e r)
 near_read e (Ok n) h = tt
 near_read e (Err _) h = h
 

@@ -1,22 +1,22 @@
 -- Refusals whose place stands in a text of at most 33,554,432 bytes.
-use Rattle.std.specs.Prelude.{◌≤◌}
+use Rattle.plain_types.specs.Limits.{IsInText}
 use Rattle.board_errors.specs.declared.errors.BoardError.{BoardError}
 use Rattle.board_errors.specs.declared.errors.BoardError.TheVariants.{Text, NotABoard, Version, Missing, BadNumber, OutOfBoard, Arc, Turned, PadShape, Ring, UnknownNet, UnknownLayer, ThickFill, TooMany, OutOfMemory}
 use Rattle.list_read.specs.Near.{IsNearText}
 
-abbrev pub IsNear : BoardError → Type 0
-IsNear (Text e) = IsNearText e
-IsNear (NotABoard at) = at ≤ 33554432
-IsNear (Version at) = at ≤ 33554432
-IsNear (Missing at) = at ≤ 33554432
-IsNear (BadNumber at) = at ≤ 33554432
-IsNear (OutOfBoard at) = at ≤ 33554432
-IsNear (Arc at) = at ≤ 33554432
-IsNear (Turned at) = at ≤ 33554432
-IsNear (PadShape at) = at ≤ 33554432
-IsNear (Ring at) = at ≤ 33554432
-IsNear (UnknownNet at) = at ≤ 33554432
-IsNear (UnknownLayer at) = at ≤ 33554432
-IsNear (ThickFill at) = at ≤ 33554432
-IsNear (TooMany at) = at ≤ 33554432
-IsNear OutOfMemory = Unit {0}
+abbrev pub IsPlacedInText : BoardError → Type 0
+IsPlacedInText (Text e) = IsNearText e
+IsPlacedInText (NotABoard at) = IsInText at
+IsPlacedInText (Version at) = IsInText at
+IsPlacedInText (Missing at) = IsInText at
+IsPlacedInText (BadNumber at) = IsInText at
+IsPlacedInText (OutOfBoard at) = IsInText at
+IsPlacedInText (Arc at) = IsInText at
+IsPlacedInText (Turned at) = IsInText at
+IsPlacedInText (PadShape at) = IsInText at
+IsPlacedInText (Ring at) = IsInText at
+IsPlacedInText (UnknownNet at) = IsInText at
+IsPlacedInText (UnknownLayer at) = IsInText at
+IsPlacedInText (ThickFill at) = IsInText at
+IsPlacedInText (TooMany at) = IsInText at
+IsPlacedInText OutOfMemory = Unit {0}

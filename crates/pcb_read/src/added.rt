@@ -1,6 +1,7 @@
 //! Lists that are added to a board, read from their own text.
 
-ghost use Rattle.std.specs.Prelude.{◌≡◌, ◌≤◌, ◌⊎◌, List, length, MatchResult, IfOk, IfErr, Result, Ok, Err};
+ghost use Rattle.std.specs.Prelude.{◌≡◌, ◌⊎◌, List, MatchResult, IfOk, IfErr, Result, Ok, Err};
+ghost use Rattle.plain_types.specs.Limits.{IsInText, IsReadable};
 ghost use Rattle.board_errors.specs.declared.errors.BoardError.{BoardError};
 ghost use Rattle.board_items.specs.declared.item.Item.{Item};
 ghost use Rattle.sexpr_read.specs.Tree.{parts};
@@ -10,7 +11,7 @@ ghost use Rattle.list_read.specs.Near.{IsNearText};
 ghost use Rattle.list_read.specs.Nodes.{tree_in};
 ghost use Rattle.part_read.specs.Ready.{AreReady};
 ghost use Rattle.pcb_read.specs.Answers.{GivesSome};
-ghost use Rattle.pcb_read.specs.Near.{IsNear};
+ghost use Rattle.pcb_read.specs.Near.{IsPlacedInText};
 ghost use Rattle.pcb_read.specs.ItemText.{further, text_further, alone, SaysList, SaysAlone, SaysText, SaysItem};
 
 use crate::laws::one_list;
@@ -79,10 +80,10 @@ fn read_alone(
 /// What a text says that stands alone. A refusal has its place in the text.
 #[tactic(auto, using(crate::proofs::NearLists::near_given, list_read::proofs::TextPlaces::near_text))]
 fn read_text(alloc: Global, text: &[u8], board: &Board, unit: u32) -> Result<Vec<Item>, BoardError>
-    requires { length text.now ≤ 33_554_432 }
+    requires { IsReadable text.now }
     ensures items { GivesSome result (SaysText board.now unit text.now) }
     ensures ready { IfOk result (λ items. AreReady board.now unit items.items) }
-    ensures near { IfErr result IsNear }
+    ensures near { IfErr result IsPlacedInText }
 {
     spans_in_order();
     match parse_all(alloc, text) {
@@ -94,9 +95,9 @@ fn read_text(alloc: Global, text: &[u8], board: &Board, unit: u32) -> Result<Vec
 
 // ---- places in a longer text
 
-/// The same refusal of a text, so much further on.
+/// A refusal of a text, its place so much further on. The place stands in the text, so the sum has room.
 fn text_further(error: TextError, by: u32) -> TextError
-    requires by { by ≤ 33554432 }
+    requires by { IsInText by }
     requires near { IsNearText error }
     ensures { result ≡ text_further by error }
 {
@@ -111,10 +112,10 @@ fn text_further(error: TextError, by: u32) -> TextError
     }
 }
 
-/// The same refusal, so much further on. Its place stands in the text, so the sum has room.
+/// A refusal, its place so much further on. The place stands in the text, so the sum has room.
 fn further(error: BoardError, by: u32) -> BoardError
-    requires by { by ≤ 33554432 }
-    requires near { IsNear error }
+    requires by { IsInText by }
+    requires near { IsPlacedInText error }
     ensures { result ≡ further by error }
 {
     match error {
@@ -150,10 +151,13 @@ pub fn read_item(
     board: &Board,
     unit: u32,
 ) -> Result<Vec<Item>, BoardError>
-    requires text { length text.now ≤ 33_554_432 }
-    requires at { at ≤ 33_554_432 }
-    ensures says { MatchResult result (λ items. SaysItem board.now unit text.now at (Ok items.items)) (λ e. (e ≡ BoardError.OutOfMemory) ⊎ SaysItem board.now unit text.now at (Err e)) }
-    ensures only { (answer : Result (List Item) BoardError) → SaysItem board.now unit text.now at answer → MatchResult result (λ items. answer ≡ Ok items.items) (λ e. (e ≡ BoardError.OutOfMemory) ⊎ (answer ≡ Err e)) }
+    requires text { IsReadable text.now }
+    requires at { IsInText at }
+    ensures says { MatchResult result (λ items. SaysItem board.now unit text.now at (Ok items.items))
+        (λ e. (e ≡ BoardError.OutOfMemory) ⊎ SaysItem board.now unit text.now at (Err e)) }
+    ensures only { (answer : Result (List Item) BoardError) → SaysItem board.now unit text.now at answer →
+        MatchResult result (λ items. answer ≡ Ok items.items)
+        (λ e. (e ≡ BoardError.OutOfMemory) ⊎ (answer ≡ Err e)) }
     ensures ready { IfOk result (λ items. AreReady board.now unit items.items) }
 {
     one_list();

@@ -13,11 +13,11 @@ ghost use Rattle.pcb_read.specs.Answers.{LeavesSome};
 ghost use Rattle.pcb_read.specs.ItemsOf.{in_room};
 ghost use Rattle.pcb_read.specs.BoardOf.{with_items, with_found, HasFirstOf};
 
-use board_items::{Board, BoardError, Item, ItemError};
+use board_items::{Board, BoardError, Item};
 use list_read::place;
 use sexpr_read::Node;
 
-/// Appends an item that the board takes.
+/// Appends an item that the board takes, as was tested when it was read.
 #[inline(always)]
 fn add_item(board: &mut Board, item: Item) -> Result<(), BoardError>
     requires unit { item.unit < 4294967295 }
@@ -27,14 +27,8 @@ fn add_item(board: &mut Board, item: Item) -> Result<(), BoardError>
     ensures unchanged { OnErr result (board.new ≡ board.old) }
     ensures only { IfErr result (λ e. e ≡ BoardError.OutOfMemory) }
 {
-    match board.add(item) {
-        Ok(_) => Ok(()),
-        Err(error) => {
-            // What `add` tests has been tested before.
-            prove!(matches!(&error, ItemError::OutOfMemory));
-            Err(BoardError::OutOfMemory)
-        }
-    }
+    board.push_admitted(item)?;
+    Ok(())
 }
 
 /// Appends the items of a unit in order. They are items that the board takes, one after another, as the readers give them.
@@ -62,7 +56,9 @@ pub(crate) fn add_one(
     answer: Result<Item, BoardError>,
 ) -> Result<(), BoardError>
     requires { IfOk answer (IsReady board.old unit) }
-    ensures read { (said : Result Item BoardError) → Gives answer said → LeavesSome result board.new (λ left. left ≡ with_found board.old (in_room board.old unit (tree_of node.entry) (one_item said))) }
+    ensures read { (said : Result Item BoardError) → Gives answer said → LeavesSome result board.new
+        (λ left. left ≡ with_found board.old (in_room board.old unit (tree_of node.entry)
+        (one_item said))) }
     ensures copper { OnOk result (board.new.copper ≡ board.old.copper) }
     ensures not_below { OnOk result (board.old.next_unit ≤ board.new.next_unit) }
     ensures one_at_most { OnOk result (unit ≡ board.old.next_unit → board.new.next_unit ≤ suc board.old.next_unit) }

@@ -44,7 +44,7 @@ fn draft_of(alloc: Global, copper: LayerSet, node: Node<'_, '_>) -> Option<Draft
     }
 }
 
-/// The same part, drafted.
+/// A part of the root with its draft, if it is the list of a track or a via.
 fn drafted<'d>(alloc: Global, copper: LayerSet, node: Node<'d, 'd>) -> Slot<'d>
     ensures { tree_in result ≡ tree_of node.entry }
 {
@@ -113,7 +113,8 @@ fn draft_next(
 
 /// Whether the board is as the draft needs it.
 fn holds(board: &Board, copper: LayerSet, draft: &Draft) -> bool
-    ensures { result ≡ true → (board.now.copper ≡ copper) × (is_some (name_of board.now draft.now.net) ≡ true) }
+    ensures { result ≡ true → (board.now.copper ≡ copper) × (is_some (name_of board.now draft.now.net)
+        ≡ true) }
 {
     board.copper() == copper && board.net_name(draft.net).is_some()
 }
@@ -126,7 +127,8 @@ fn read_slot(
     slot: Slot<'_>,
 ) -> Result<(), BoardError>
     requires { layered.old ≡ false → board.old.copper.bits ≡ 0 }
-    ensures read { LeavesSome result (record { board = board.new; layered = layered.new }) (SaysPart (record { board = board.old; layered = layered.old }) (tree_in slot.entry)) }
+    ensures read { LeavesSome result (record { board = board.new; layered = layered.new })
+        (SaysPart (record { board = board.old; layered = layered.old }) (tree_in slot.entry)) }
     ensures unlisted { OnOk result (layered.new ≡ false → board.new.copper.bits ≡ 0) }
 {
     let node = slot.node;
@@ -146,7 +148,8 @@ fn read_slot(
 /// Takes the parts out of a block, and reads them one after the other.
 fn read_block(alloc: Global, read: &mut Read, block: &mut Vec<Slot<'_>>) -> Result<(), BoardError>
     requires { read.old.layered ≡ false → read.old.board.copper.bits ≡ 0 }
-    ensures says { LeavesSome result (reading_of read.new) (SaysParts (reading_of read.old) (map tree_in block.old.items)) }
+    ensures says { LeavesSome result (reading_of read.new) (SaysParts (reading_of read.old)
+        (map tree_in block.old.items)) }
     ensures unlisted { OnOk result (read.new.layered ≡ false → read.new.board.copper.bits ≡ 0) }
 {
     for slot in replace(block, Vec::new(alloc)) {
@@ -166,7 +169,8 @@ fn read_and_draft(
     ahead: &mut Ahead<'_>,
 ) -> Result<(), BoardError>
     requires { read.old.layered ≡ false → read.old.board.copper.bits ≡ 0 }
-    ensures says { LeavesSome result (reading_of read.new) (SaysParts (reading_of read.old) (map tree_in block.entry.items)) }
+    ensures says { LeavesSome result (reading_of read.new) (SaysParts (reading_of read.old)
+        (map tree_in block.entry.items)) }
     ensures unlisted { OnOk result (read.new.layered ≡ false → read.new.board.copper.bits ≡ 0) }
     ensures next { OnOk result (IsNext (trees_left ahead.old.left) ahead.new) }
 {
@@ -191,7 +195,8 @@ fn read_next(
     ahead: &mut Ahead<'_>,
 ) -> Result<(), BoardError>
     requires { read.old.layered ≡ false → read.old.board.copper.bits ≡ 0 }
-    ensures says { LeavesSome result (reading_of read.new) (SaysParts (reading_of read.old) (map tree_in ahead.old.block.items)) }
+    ensures says { LeavesSome result (reading_of read.new) (SaysParts (reading_of read.old)
+        (map tree_in ahead.old.block.items)) }
     ensures unlisted { OnOk result (read.new.layered ≡ false → read.new.board.copper.bits ≡ 0) }
     ensures next { OnOk result (IsNext (trees_left ahead.old.left) ahead.new) }
 {
@@ -212,7 +217,8 @@ pub(crate) fn read_parts_by<'d>(
     root: Node<'d, 'd>,
 ) -> Result<(), BoardError>
     requires { read.old.layered ≡ false → read.old.board.copper.bits ≡ 0 }
-    ensures { LeavesSome result (reading_of read.new) (SaysParts (reading_of read.old) (parts (tree_of root.entry))) }
+    ensures { LeavesSome result (reading_of read.new) (SaysParts (reading_of read.old)
+        (parts (tree_of root.entry))) }
 {
     let mut left = root.children();
     let block = next_block(alloc, FRONT, &mut left)?;

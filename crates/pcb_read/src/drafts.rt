@@ -92,7 +92,7 @@ fn check_net(board: &Board, node: Node<'_, '_>, net: u32) -> Result<(), BoardErr
     }
 }
 
-/// The same where the board has the draft's net, and else the refusal of that net.
+/// The item of a draft where the board has the draft's net, and else the refusal of that net.
 #[inline(always)]
 pub(crate) fn item_on(
     alloc: Global,

@@ -26,7 +26,9 @@ pub struct Origin {
 pub(crate) fn track_along(alloc: Global, strip: Strip, origin: Origin) -> Option<Item>
     ensures item { result ≡ track_along strip origin }
     ensures unit { IfSome result (λ item. item.unit ≡ origin.unit) }
-    ensures admitted { (board : PlainBoard) → is_some (name_of board origin.net) ≡ true → IsTrue (is_within origin.layers board.copper) → IfSome result (λ item. is_admitted board item ≡ true) }
+    ensures admitted { (board : PlainBoard) → is_some (name_of board origin.net) ≡ true →
+        IsTrue (is_within origin.layers board.copper) → IfSome result
+        (λ item. is_admitted board item ≡ true) }
 {
     let shape = strip_shape(strip)?;
     Some(Item {
@@ -80,7 +82,9 @@ fn hole_through(form: &ViaForm, layers: LayerSet) -> Option<Option<Hole>>
 pub(crate) fn via_of_form(alloc: Global, form: &ViaForm, origin: Origin) -> Option<Item>
     ensures item { result ≡ via_at form.now origin }
     ensures unit { IfSome result (λ item. item.unit ≡ origin.unit) }
-    ensures admitted { (board : PlainBoard) → is_some (name_of board origin.net) ≡ true → IsTrue (is_within origin.layers board.copper) → IfSome result (λ item. is_admitted board item ≡ true) }
+    ensures admitted { (board : PlainBoard) → is_some (name_of board origin.net) ≡ true →
+        IsTrue (is_within origin.layers board.copper) → IfSome result
+        (λ item. is_admitted board item ≡ true) }
 {
     let strip = Strip {
         a: form.at,

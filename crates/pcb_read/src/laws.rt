@@ -11,14 +11,16 @@ use sexpr_read::laws::one_tree;
 
 /// No text says two things.
 pub fn one_reading()
-    ensures { (text : List ℕ) (a b : Result PlainBoard BoardError) → BoardSays text a → BoardSays text b → a ≡ b }
+    ensures { (text : List ℕ) (a b : Result PlainBoard BoardError) → BoardSays text a → BoardSays text b →
+        a ≡ b }
 {
     one_tree();
 }
 
 /// No text of a list that is added says two things.
 pub fn one_list()
-    ensures { (board : PlainBoard) (unit : ℕ) (text : List ℕ) (at : ℕ) (a b : Result (List Item) BoardError) → SaysItem board unit text at a → SaysItem board unit text at b → a ≡ b }
+    ensures { (board : PlainBoard) (unit : ℕ) (text : List ℕ) (at : ℕ) (a b : Result (List Item)
+        BoardError) → SaysItem board unit text at a → SaysItem board unit text at b → a ≡ b }
 {
     one_tree();
 }

@@ -60,7 +60,8 @@ fn one_in_room(
     answer: Result<Item, BoardError>,
 ) -> Result<Vec<Item>, BoardError>
     requires { IfOk answer (IsReady board.now unit) }
-    ensures items { (said : Result Item BoardError) → Gives answer said → GivesItems result (in_room board.now unit (tree_of node.entry) (one_item said)) }
+    ensures items { (said : Result Item BoardError) → Gives answer said →
+        GivesItems result (in_room board.now unit (tree_of node.entry) (one_item said)) }
     ensures ready { IfOk result (λ items. AreReady board.now unit items.items) }
 {
     let items = one(alloc, answer?)?;
@@ -86,7 +87,8 @@ fn graphic_items(
     kind: GraphicKind,
     node: Node<'_, '_>,
 ) -> Result<Vec<Item>, BoardError>
-    ensures items { GivesItems result (in_room board.now unit (tree_of node.entry) (on_ground board.now (tree_of node.entry) (graphic_by board.now unit as_it_is kind (tree_of node.entry)))) }
+    ensures items { GivesItems result (in_room board.now unit (tree_of node.entry) (on_ground board.now
+        (tree_of node.entry) (graphic_by board.now unit as_it_is kind (tree_of node.entry)))) }
     ensures ready { IfOk result (λ items. AreReady board.now unit items.items) }
 {
     let lies = ground_of(board.copper(), node)?;
@@ -114,7 +116,8 @@ fn text_items(
     about: About,
     node: Node<'_, '_>,
 ) -> Result<Vec<Item>, BoardError>
-    ensures items { GivesItems result (in_room board.now unit (tree_of node.entry) (on_ground board.now (tree_of node.entry) (text_by unit about (tree_of node.entry)))) }
+    ensures items { GivesItems result (in_room board.now unit (tree_of node.entry) (on_ground board.now
+        (tree_of node.entry) (text_by unit about (tree_of node.entry)))) }
     ensures ready { IfOk result (λ items. AreReady board.now unit items.items) }
 {
     let lies = ground_of(board.copper(), node)?;

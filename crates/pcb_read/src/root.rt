@@ -61,7 +61,8 @@ fn check_version(root: Node<'_, '_>) -> Result<(), BoardError>
 #[tactic(auto, unfolding(crate::specs::BoardOf::with_layers))]
 fn read_layers(board: &mut Board, layered: &mut bool, list: Node<'_, '_>) -> Result<(), BoardError>
     requires { layered.old ≡ false → board.old.copper.bits ≡ 0 }
-    ensures read { Leaves result (record { board = board.new; layered = layered.new }) (with_layers (record { board = board.old; layered = layered.old }) (tree_of list.entry)) }
+    ensures read { Leaves result (record { board = board.new; layered = layered.new })
+        (with_layers (record { board = board.old; layered = layered.old }) (tree_of list.entry)) }
     ensures unlisted { OnOk result (layered.new ≡ false → board.new.copper.bits ≡ 0) }
     ensures unit { OnOk result (board.new.next_unit ≡ board.old.next_unit) }
 {
@@ -83,7 +84,8 @@ fn read_other(
     node: Node<'_, '_>,
 ) -> Result<(), BoardError>
     requires { layered.old ≡ false → board.old.copper.bits ≡ 0 }
-    ensures read { Leaves result (record { board = board.new; layered = layered.new }) (with_other (record { board = board.old; layered = layered.old }) (tree_of node.entry)) }
+    ensures read { Leaves result (record { board = board.new; layered = layered.new })
+        (with_other (record { board = board.old; layered = layered.old }) (tree_of node.entry)) }
     ensures unlisted { OnOk result (layered.new ≡ false → board.new.copper.bits ≡ 0) }
     ensures unit { OnOk result (board.new.next_unit ≡ board.old.next_unit) }
 {
@@ -134,7 +136,8 @@ pub(crate) fn read_part(
     node: Node<'_, '_>,
 ) -> Result<(), BoardError>
     requires { layered.old ≡ false → board.old.copper.bits ≡ 0 }
-    ensures read { LeavesSome result (record { board = board.new; layered = layered.new }) (SaysPart (record { board = board.old; layered = layered.old }) (tree_of node.entry)) }
+    ensures read { LeavesSome result (record { board = board.new; layered = layered.new })
+        (SaysPart (record { board = board.old; layered = layered.old }) (tree_of node.entry)) }
     ensures unlisted { OnOk result (layered.new ≡ false → board.new.copper.bits ≡ 0) }
     ensures not_below { OnOk result (board.old.next_unit ≤ board.new.next_unit) }
     ensures one_at_most { OnOk result (board.new.next_unit ≤ suc board.old.next_unit) }
@@ -195,10 +198,15 @@ fn read_spanned(
     spans: &mut Vec<Span>,
 ) -> Result<(), BoardError>
     requires { layered.old ≡ false → board.old.copper.bits ≡ 0 }
-    ensures read { LeavesSome result (record { board = board.new; layered = layered.new }) (SaysPart (record { board = board.old; layered = layered.old }) (tree_of node.entry)) }
+    ensures read { LeavesSome result (record { board = board.new; layered = layered.new })
+        (SaysPart (record { board = board.old; layered = layered.old }) (tree_of node.entry)) }
     ensures unlisted { OnOk result (layered.new ≡ false → board.new.copper.bits ≡ 0) }
-    ensures spans { OnOk result ((others : List Span) → spans.old.items ++ with_span (record { board = board.old; layered = layered.old }) (record { board = board.new; layered = layered.new }) (tree_of node.entry) others ≡ spans.new.items ++ others) }
-    ensures each { OnOk result (length spans.old.items ≡ board.old.next_unit → length spans.new.items ≡ board.new.next_unit) }
+    ensures spans { OnOk result ((others : List Span) → spans.old.items ++
+        with_span (record { board = board.old; layered = layered.old })
+        (record { board = board.new; layered = layered.new }) (tree_of node.entry) others
+        ≡ spans.new.items ++ others) }
+    ensures each { OnOk result (length spans.old.items ≡ board.old.next_unit → length spans.new.items
+        ≡ board.new.next_unit) }
 {
     let unit = board.next_unit();
     read_part(alloc, board, layered, node)?;
@@ -217,8 +225,11 @@ fn read_parts(
 ) -> Result<Vec<Span>, BoardError>
     requires unlisted { layered.old ≡ false → board.old.copper.bits ≡ 0 }
     requires none { board.old.next_unit ≡ 0 }
-    ensures read { LeavesSome result (record { board = board.new; layered = layered.new }) (SaysParts (record { board = board.old; layered = layered.old }) (parts (tree_of root.entry))) }
-    ensures spans { IfOk result (λ spans. SaysSpans (record { board = board.old; layered = layered.old }) (parts (tree_of root.entry)) spans.items) }
+    ensures read { LeavesSome result (record { board = board.new; layered = layered.new })
+        (SaysParts (record { board = board.old; layered = layered.old })
+        (parts (tree_of root.entry))) }
+    ensures spans { IfOk result (λ spans. SaysSpans (record { board = board.old; layered = layered.old })
+        (parts (tree_of root.entry)) spans.items) }
     ensures each { IfOk result (λ spans. length spans.items ≡ board.new.next_unit) }
 {
     let mut spans = Vec::new(alloc);
@@ -230,7 +241,8 @@ fn read_parts(
 
 /// An empty board with room for about all items of the root, if that is the root of a board.
 fn new_board(alloc: Global, root: Node<'_, '_>) -> Result<Board, BoardError>
-    ensures board { IfOk result (λ board. (board ≡ empty_board (record { bits = 0 })) × (header_in (tree_of root.entry) ≡ Ok tt)) }
+    ensures board { IfOk result (λ board. (board ≡ empty_board (record { bits = 0 })) ×
+        (header_in (tree_of root.entry) ≡ Ok tt)) }
     ensures refused { IfErr result (λ e. (e ≡ BoardError.OutOfMemory) ⊎ (header_in (tree_of root.entry) ≡ Err e)) }
 {
     check_header(root)?;
@@ -263,7 +275,8 @@ pub(crate) fn board_by(
     alloc: Global,
     root: Node<'_, '_>,
 ) -> Result<Board, BoardError>
-    ensures { MatchResult result (λ board. SaysBoard (tree_of root.entry) (Ok board)) (λ e. (e ≡ BoardError.OutOfMemory) ⊎ SaysBoard (tree_of root.entry) (Err e)) }
+    ensures { MatchResult result (λ board. SaysBoard (tree_of root.entry) (Ok board))
+        (λ e. (e ≡ BoardError.OutOfMemory) ⊎ SaysBoard (tree_of root.entry) (Err e)) }
 {
     let mut read = Read {
         board: new_board(alloc, root)?,

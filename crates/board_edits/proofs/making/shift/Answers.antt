@@ -1,15 +1,22 @@
-use Rattle.std.proofs.Common.{subst, ◌∙◌}
-use Rattle.std.specs.List.{All}
-use Rattle.board_edits.specs.Making.{HasBounds}
-use Rattle.board_edits.proofs.MovedUnits.{did_move, moved_small, small_passed, back_passed, moved_made}
+use Rattle.std.proofs.Common.{ap, subst, ◌∙◌, ℤ}
+use Rattle.int_algebra.proofs.Scalars.{passed, clean, cleaned}
+use Rattle.board_items.specs.Moves.{unit_stays, IsMoved}
+use Rattle.board_edits.proofs.MovedUnits.{moved_small, small_passed, back_passed, moved_made}
 use Rattle.board_edits.proofs.making.shift.Goals as goal
+
+pub shift_unit-requires : goal.shift_unit-requires
+shift_unit-requires c =
+    ap (λ (d : ℤ). unit_stays c.args.unit d (passed c.args.dy) c.args.board.now.items) (clean c.args.dx c.ranges.dx)
+    ∙ (ap (λ (d : ℤ). unit_stays c.args.unit c.args.dx d c.args.board.now.items) (clean c.args.dy c.ranges.dy) ∙ c.requires.stays)
 
 pub shifted_back-back-requires : goal.shifted_back-back-requires
 shifted_back-back-requires c = λ some.
-    small_passed c.args.dx c.args.dy c.ranges.dx c.ranges.dy (moved_small c.args.board.now c.args.unit c.args.dx c.args.dy c.deref.result.now c.is_sound.ensures c.requires.stays (c.deref.ensures.value ∙ c.requires.ids) some)
+    small_passed c.args.dx c.args.dy c.ranges.dx c.ranges.dy (moved_small c.args.board.now c.args.unit c.args.dx c.args.dy c.deref.result.now c.soundness.ensures c.requires.stays (c.deref.ensures.value ∙ c.requires.ids) some)
 
 pub returns : goal.returns
 returns c =
-    moved_made c.moved.ensures c.moved_by_nothing.ensures c.moved_nowhere.ensures c.moved_back.ensures c.args.board.now c.moved-2.new.self c.args.unit c.args.dx c.args.dy _ c.is_sound.ensures c.is_sound-2.ensures
-    (did_move c.moved-2.result c.args.unit c.args.dx c.args.dy c.args.board.now c.moved-2.new.self c.ranges.dx c.ranges.dy c.moved-2.ensures.moved c.moved-2.ensures.refused c.requires.stays) (subst (All HasBounds) c.of_unit.ensures.items c.have_bounds.ensures)
-    (c.shifted_back-back.ensures ∙ back_passed c.args.unit c.args.dx c.args.dy c.args.ids.items c.deref.result.now c.ranges.dx c.ranges.dy c.deref.ensures.value) c.requires.ids
+    let moved =
+    cleaned (λ (d : ℤ). IsMoved c.args.unit d c.args.dy c.args.board.now c.shift_unit.new.self) c.args.dx c.ranges.dx
+    (cleaned (λ (d : ℤ). IsMoved c.args.unit (passed c.args.dx) d c.args.board.now c.shift_unit.new.self) c.args.dy c.ranges.dy c.shift_unit.ensures.moved) in
+    moved_made c.moved.ensures c.moved_by_nothing.ensures c.moved_nowhere.ensures c.moved_back.ensures c.args.board.now c.shift_unit.new.self c.args.unit c.args.dx c.args.dy _ c.soundness.ensures c.soundness-2.ensures
+    moved c.shift_unit.ensures.points (c.shifted_back-back.ensures ∙ back_passed c.args.unit c.args.dx c.args.dy c.args.ids.items c.deref.result.now c.ranges.dx c.ranges.dy c.deref.ensures.value) c.requires.ids
