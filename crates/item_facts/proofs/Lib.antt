@@ -1,4 +1,3 @@
-pub mod Raising
 pub mod Named
 pub mod Placed
 pub mod OnLayers
@@ -10,3 +9,4 @@ pub mod Picked
 pub mod Marked
 pub mod SoFar
 pub mod Alone
+pub mod Filled

@@ -1,5 +1,5 @@
 pub mod Fronts
-pub mod Raised
 pub mod Near
 pub mod Known
 pub mod Same
+pub mod Slots

@@ -1,6 +1,7 @@
 //! The facts of items. What makes those of one item is inlined, so that they are made where they stay.
 
-ghost use Rattle.std.specs.Prelude.{◌≡◌, ℕ, None, IfOk, OnOk, IsSome};
+ghost use Rattle.std.specs.Prelude.{◌≡◌, ℕ, None, IfOk, IfSome, OnOk, IsSome};
+ghost use Rattle.std.specs.Option.{option_copied};
 ghost use Rattle.board_items.specs.Boards.{IsSound, marks_of, item_at};
 ghost use Rattle.net_class.specs.Classes.{PlainClasses};
 ghost use Rattle.net_class.specs.Views.{plain_class};
@@ -18,11 +19,9 @@ use board_items::{Board, Item};
 use box_index::TileIndex;
 use indexmap::IndexMap;
 use net_class::{Class, Classes};
+use plain_types::MOST_ITEMS;
 use rule_pick::{Facts, FactsById};
 use std::alloc::{AllocError, Global};
-
-/// How many items a board takes.
-const MOST_ITEMS: u32 = 200_000;
 
 /// How many tests of an item against an area or a body are few.
 const FEW_TESTS: usize = 8_192;
@@ -37,7 +36,8 @@ pub fn known_class<'c>(
 ) -> Result<&'c Class, AllocError>
     requires { AreKnown classes.now board.now known.old }
     ensures known { AreKnown classes.now board.now known.new }
-    ensures value { IfOk result (λ class. plain_class class.now ≡ class_of_net classes.now board.now net) }
+    ensures value { IfOk result
+        (λ class. plain_class class.now ≡ class_of_net classes.now board.now net) }
 {
     if let Some(class) = known.get(&net) {
         return Ok(*class);
@@ -58,7 +58,9 @@ pub fn facts_among(
     ids: &[u32],
 ) -> Result<Facts, AllocError>
     requires { AreEnough item.now board.now.items ids.now }
-    ensures { (classes : PlainClasses) → plain_class class.now ≡ class_of_net classes board.now item.now.net → IfOk result (λ facts. AreFactsOf board.now classes item.now facts) }
+    ensures { (classes : PlainClasses) → plain_class class.now
+        ≡ class_of_net classes board.now item.now.net
+        → IfOk result (λ facts. AreFactsOf board.now classes item.now facts) }
 {
     let areas = areas_near(alloc, board, item, ids)?;
     let courtyards = courtyards_near(alloc, board, item, ids)?;
@@ -122,7 +124,7 @@ pub fn facts(alloc: Global, board: &Board, classes: &Classes, id: u32) -> Result
 
 /// How many slots the facts of all items take, about: more where items were taken out.
 fn slots_of(board: &Board) -> usize {
-    MOST_ITEMS.saturating_sub(board.left()) as usize
+    MOST_ITEMS.saturating_sub(board.left() as usize)
 }
 
 /// Whether so few items are asked against so few areas and bodies that an index of these costs more than it saves.
@@ -130,76 +132,59 @@ fn are_few(board: &Board) -> bool {
     board.marks().len().saturating_mul(slots_of(board)) <= FEW_TESTS
 }
 
-/// Puts in the facts of all items of a board with few of them: each is asked against all areas and bodies.
-fn put_few(
-    alloc: Global,
-    board: &Board,
-    classes: &Classes,
-    all: &mut FactsById,
-) -> Result<(), AllocError>
-    requires { (id : ℕ) → facts_at all.old id ≡ None }
-    ensures { OnOk result (HasFacts board.now classes.now all.new) }
-{
-    for (id, item) in board.iter() {
-        let facts = facts_of(alloc, board, classes, item)?;
-        all.insert(id, facts)?;
-    }
-    Ok(())
-}
-
-/// Puts in the facts of all items of the board. Each is asked only against the areas and bodies near it, which the index has.
-fn put_near<'c>(
+/// The facts of an item, which is asked only against the areas and bodies near it where there is an index of these, and against all
+/// where there is none.
+#[inline(always)]
+fn facts_by<'c>(
     alloc: Global,
     board: &Board,
     classes: &'c Classes,
-    index: &TileIndex,
+    index: Option<&TileIndex>,
     known: &mut IndexMap<u32, &'c Class>,
     room: &mut Vec<u32>,
-    all: &mut FactsById,
-) -> Result<(), AllocError>
-    requires index { HoldsMarks board.now.items index.now }
+    item: &Item,
+) -> Result<Facts, AllocError>
+    requires index { IfSome (option_copied index) (HoldsMarks board.now.items) }
     requires known { AreKnown classes.now board.now known.old }
-    requires none { (id : ℕ) → facts_at all.old id ≡ None }
-    ensures { OnOk result (HasFacts board.now classes.now all.new) }
+    ensures known { AreKnown classes.now board.now known.new }
+    ensures facts { IfOk result (AreFactsOf board.now classes.now item.now) }
 {
-    for (id, item) in board.iter() {
-        let facts = facts_near(alloc, board, classes, index, known, room, item)?;
-        all.insert(id, facts)?;
+    match index {
+        Some(index) => facts_near(alloc, board, classes, index, known, room, item),
+        None => facts_of(alloc, board, classes, item),
     }
-    Ok(())
 }
 
-/// Puts in the facts of all items of the board, found by an index.
-fn put_by_index(
-    alloc: Global,
-    board: &Board,
-    classes: &Classes,
-    all: &mut FactsById,
-) -> Result<(), AllocError>
-    requires { (id : ℕ) → facts_at all.old id ≡ None }
-    ensures { OnOk result (HasFacts board.now classes.now all.new) }
-{
-    let index = index_marks(alloc, board)?;
-    let mut known = IndexMap::new(alloc);
-    let mut room = Vec::new(alloc);
-    put_near(alloc, board, classes, &index, &mut known, &mut room, all)
-}
-
-/// Puts in the facts of all items of the board.
+/// Puts in the facts of all items of the board. Each is asked only against the areas and bodies near it where there is an index of
+/// these, and against all where there is none.
 fn put_all(
     alloc: Global,
     board: &Board,
     classes: &Classes,
+    index: Option<&TileIndex>,
     all: &mut FactsById,
 ) -> Result<(), AllocError>
-    requires { (id : ℕ) → facts_at all.old id ≡ None }
+    requires index { IfSome (option_copied index) (HoldsMarks board.now.items) }
+    requires none { (id : ℕ) → facts_at all.old id ≡ None }
     ensures { OnOk result (HasFacts board.now classes.now all.new) }
 {
-    if are_few(board) {
-        put_few(alloc, board, classes, all)
-    } else {
-        put_by_index(alloc, board, classes, all)
+    let mut known = IndexMap::new(alloc);
+    let mut room = Vec::new(alloc);
+    for (id, item) in board.iter() {
+        let facts = facts_by(alloc, board, classes, index, &mut known, &mut room, item)?;
+        all.insert(id, facts)?;
     }
+    Ok(())
+}
+
+/// An index of the areas and bodies of the board, where it saves more than it costs.
+fn index_if(alloc: Global, board: &Board) -> Result<Option<TileIndex>, AllocError>
+    ensures { IfOk result (λ index. IfSome index (HoldsMarks board.now.items)) }
+{
+    if are_few(board) {
+        return Ok(None);
+    }
+    Ok(Some(index_marks(alloc, board)?))
 }
 
 /// The facts of all items of the board, by id. Each is asked only against the areas and bodies near it, and the class of each
@@ -207,7 +192,8 @@ fn put_all(
 pub fn all_facts(alloc: Global, board: &Board, classes: &Classes) -> Result<FactsById, AllocError>
     ensures { IfOk result (HasFacts board.now classes.now) }
 {
+    let index = index_if(alloc, board)?;
     let mut all = FactsById::with_room(alloc, slots_of(board))?;
-    put_all(alloc, board, classes, &mut all)?;
+    put_all(alloc, board, classes, index.as_ref(), &mut all)?;
     Ok(all)
 }

@@ -28,7 +28,8 @@ fn only(layer: u32) -> LayerSet
 
 /// F.Cu for an item on the front, else B.Cu.
 fn of_side(on_back: bool) -> LayerSet
-    ensures { (layer : ℕ) → (IsTrue (has_layer result layer) ↔ (layer ≡ (if on_back then 31 else 0))) }
+    ensures { (layer : ℕ)
+        → (IsTrue (has_layer result layer) ↔ (layer ≡ (if on_back then 31 else 0))) }
 {
     if on_back { only(31) } else { only(0) }
 }

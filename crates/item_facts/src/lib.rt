@@ -1,4 +1,5 @@
-//! The facts of the items of a board, and how far checks of it reach.
+//! The facts of the items of a board, found one after the other or side by side. How far checks of it reach is found in
+//! `rule_pick`, and can be called here too.
 //!
 //! Which facts an item has is defined in `rule_pick`, in its `specs/FactsOf`; the reach in its `specs/Reach`.
 #![tactic(auto)]
@@ -9,16 +10,16 @@ mod equality;
 mod kinds;
 pub mod laws;
 mod layers;
-mod lengths;
 mod meets;
 mod names;
 mod near;
 mod of_item;
-mod reaching;
+mod threads;
 
 pub use all::{all_facts, facts, facts_among, facts_near, known_class};
 pub use classes::class_of_net;
 pub use equality::same;
 pub use meets::{area_met, courtyard_met};
 pub use near::{index_marks, marks_near};
-pub use reaching::reach;
+pub use rule_pick::reach;
+pub use threads::all_facts_by;

@@ -83,7 +83,8 @@ fn hole_touches(hole: &Option<Hole>, area: &Part) -> bool
 
 /// Whether the copper, or without copper the hole, touches the area.
 fn placed_touches(copper: &[Part], hole: &Option<Hole>, area: &Part) -> bool
-    ensures { IsTrue result ↔ Any (λ part. PartsMeet part area.now) (placed_parts copper.now hole.now) }
+    ensures { IsTrue result
+        ↔ Any (λ part. PartsMeet part area.now) (placed_parts copper.now hole.now) }
 {
     if copper.len() == 0 {
         hole_touches(hole, area)
@@ -106,7 +107,8 @@ fn meets_part(item: &Item, area: &Part) -> bool
 
 /// The title of the other item, where it is a rule area that the item meets.
 pub fn area_met<'o>(item: &Item, other: &'o Item) -> Option<&'o Name>
-    ensures { MatchOption result ((name : List ℕ) → ¬ (MeetsArea item.now other.now.what name)) (λ name. MeetsArea item.now other.now.what name.now) }
+    ensures { MatchOption result ((name : List ℕ) → ¬ (MeetsArea item.now other.now.what name))
+        (λ name. MeetsArea item.now other.now.what name.now) }
 {
     match &other.what {
         What::Area { title, shape, .. } if meets_part(item, shape.get()) => Some(title.get()),
@@ -128,7 +130,8 @@ fn hole_meets_on(layer: u32, hole: &Option<Hole>, others: &[Part]) -> bool
 /// Whether the copper, or without copper the hole, meets one of the others on the layer.
 fn placed_meets_on(layer: u32, copper: &[Part], hole: &Option<Hole>, others: &[Part]) -> bool
     requires { layer < 32 }
-    ensures { IsTrue result ↔ SomeMeet (on_layer layer (placed_parts copper.now hole.now)) others.now }
+    ensures { IsTrue result
+        ↔ SomeMeet (on_layer layer (placed_parts copper.now hole.now)) others.now }
 {
     if copper.len() == 0 {
         hole_meets_on(layer, hole, others)
@@ -147,7 +150,8 @@ fn meets_either(item: &Item, front: &[Part], back: &[Part]) -> bool
 
 /// The reference of the other item, where it is a body and the item meets one of its courtyards.
 pub fn courtyard_met<'o>(item: &Item, other: &'o Item) -> Option<&'o Name>
-    ensures { MatchOption result ((name : List ℕ) → ¬ (MeetsCourtyard item.now other.now.what name)) (λ name. MeetsCourtyard item.now other.now.what name.now) }
+    ensures { MatchOption result ((name : List ℕ) → ¬ (MeetsCourtyard item.now other.now.what name))
+        (λ name. MeetsCourtyard item.now other.now.what name.now) }
 {
     match &other.what {
         What::Body {

@@ -14,7 +14,8 @@ use std::alloc::{AllocError, Global};
 
 /// Appends an equal name, if there is one.
 fn push_if(names: &mut Vec<Name>, name: Option<&Name>) -> Result<(), AllocError>
-    ensures { OnOk result (names.new.items ≡ names.old.items ++ name_if (option_copied name.entry)) }
+    ensures { OnOk result
+        (names.new.items ≡ names.old.items ++ name_if (option_copied name.entry)) }
 {
     match name {
         None => Ok(()),

@@ -1,7 +1,7 @@
 //! The areas and bodies near an item. An index of boxes tells them, so that an item is not asked against all of them.
 
-ghost use Rattle.std.specs.Prelude.{◌≡◌, pos, [], filter, IfOk, OnOk, IfSome};
-ghost use Rattle.geo_seg.specs.Boxes.{FitsWithin};
+ghost use Rattle.std.specs.Prelude.{◌≡◌, [], filter, IfOk, OnOk, IfSome};
+ghost use Rattle.geo_seg.specs.Boxes.{FitsIndex};
 ghost use Rattle.board_items.specs.Boards.{IsSound, is_mark, marks_of};
 ghost use Rattle.board_items.specs.Parts.{parts_of};
 ghost use Rattle.board_items.specs.Extents.{AreBoundsOf};
@@ -25,7 +25,7 @@ fn is_mark(what: &What) -> bool
 /// The bounds, which the index takes.
 fn bounds_of(item: &Item) -> Option<Bounds>
     ensures least { AreBoundsOf (parts_of item.now) result }
-    ensures fits { IfSome result (FitsWithin (pos 2000000000)) }
+    ensures fits { IfSome result FitsIndex }
 {
     item.bounds()
 }
@@ -75,9 +75,10 @@ fn keep_marks(board: &Board, ids: &mut Vec<u32>)
     ids.retain(|id| is_mark_of(board, *id));
 }
 
-/// Whether the box meets more tiles than this.
+/// Whether the box meets more tiles than this. It decides how the areas and bodies near it are found, and not which: no clause needs
+/// more of it.
 fn spans_more(index: &TileIndex, bounds: Bounds, count: usize) -> bool
-    requires { FitsWithin (pos 2000000000) bounds }
+    requires { FitsIndex bounds }
 {
     let area = index.area(bounds);
     let first = area.first();

@@ -38,7 +38,9 @@ pub(crate) fn facts_with(
 ) -> Result<Facts, AllocError>
     requires areas { AreNamesOf (MeetsArea item.now) board.now.items areas }
     requires courtyards { AreNamesOf (MeetsCourtyard item.now) board.now.items courtyards }
-    ensures { (classes : PlainClasses) → plain_class class.now ≡ class_of_net classes board.now item.now.net → IfOk result (λ facts. AreFactsOf board.now classes item.now facts) }
+    ensures { (classes : PlainClasses) → plain_class class.now
+        ≡ class_of_net classes board.now item.now.net
+        → IfOk result (λ facts. AreFactsOf board.now classes item.now facts) }
 {
     Ok(Facts {
         kind: kind_of(&item.what),

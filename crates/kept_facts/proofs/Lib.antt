@@ -4,4 +4,3 @@ mod Keeps
 mod Rising
 mod Again
 mod Concerns
-mod Filled

@@ -2,12 +2,10 @@
 //! body of the edit gives another name than before, are found again.
 #![tactic(auto)]
 
-mod all;
 mod asking;
 pub mod laws;
 mod marks;
 mod renewing;
 
-pub use all::all_facts_by;
 pub use marks::marks_before;
 pub use renewing::renew_facts;

@@ -30,7 +30,8 @@ pub(crate) fn layers_of(parts: &[Part]) -> LayerSet
 
 /// The layers of both sets.
 fn both(a: LayerSet, b: LayerSet) -> LayerSet
-    ensures { (layer : ℕ) → IsTrue (has_layer a layer) → IsTrue (has_layer b layer) → IsTrue (has_layer result layer) }
+    ensures { (layer : ℕ) → IsTrue (has_layer a layer) → IsTrue (has_layer b layer)
+        → IsTrue (has_layer result layer) }
 {
     LayerSet {
         bits: a.bits & b.bits,
@@ -50,7 +51,8 @@ fn layers_through(hole: &Option<Hole>) -> LayerSet
 /// The layers on which copper of both lies.
 #[inline(always)]
 fn shared_copper(a: &Item, b: &Item) -> LayerSet
-    ensures { (layer : ℕ) → IsUnfaced (facing (copper_on layer a.now) (copper_on layer b.now)) ⊎ IsTrue (has_layer result layer) }
+    ensures { (layer : ℕ) → IsUnfaced (facing (copper_on layer a.now) (copper_on layer b.now))
+        ⊎ IsTrue (has_layer result layer) }
 {
     let own = layers_of(a.copper.as_slice());
     both(own, layers_of(b.copper.as_slice()))
@@ -59,7 +61,8 @@ fn shared_copper(a: &Item, b: &Item) -> LayerSet
 /// The layers of the other's copper that the hole of the one goes through.
 #[inline(always)]
 fn holed_copper(a: &Item, b: &Item) -> LayerSet
-    ensures { (layer : ℕ) → IsUnfaced (facing (hole_on layer a.now) (copper_on layer b.now)) ⊎ IsTrue (has_layer result layer) }
+    ensures { (layer : ℕ) → IsUnfaced (facing (hole_on layer a.now) (copper_on layer b.now))
+        ⊎ IsTrue (has_layer result layer) }
 {
     let own = layers_through(&a.hole);
     both(own, layers_of(b.copper.as_slice()))
@@ -68,8 +71,10 @@ fn holed_copper(a: &Item, b: &Item) -> LayerSet
 /// The layers of copper of one of them that the hole of the other goes through.
 #[inline(always)]
 fn holed_beside(a: &Item, b: &Item) -> LayerSet
-    ensures there { (layer : ℕ) → IsUnfaced (facing (hole_on layer a.now) (copper_on layer b.now)) ⊎ IsTrue (has_layer result layer) }
-    ensures back { (layer : ℕ) → IsUnfaced (facing (hole_on layer b.now) (copper_on layer a.now)) ⊎ IsTrue (has_layer result layer) }
+    ensures there { (layer : ℕ) → IsUnfaced (facing (hole_on layer a.now) (copper_on layer b.now))
+        ⊎ IsTrue (has_layer result layer) }
+    ensures back { (layer : ℕ) → IsUnfaced (facing (hole_on layer b.now) (copper_on layer a.now))
+        ⊎ IsTrue (has_layer result layer) }
 {
     let there = holed_copper(a, b);
     there.union(holed_copper(b, a))
@@ -78,7 +83,8 @@ fn holed_beside(a: &Item, b: &Item) -> LayerSet
 /// The places from the first layer of the set to the last.
 pub(crate) fn places_in(layers: LayerSet) -> Places
     ensures bound { result.to ≤ 32 }
-    ensures each { (layer : ℕ) → IsTrue (has_layer layers layer) → (result.from ≤ layer) × (layer < result.to) }
+    ensures each { (layer : ℕ) → IsTrue (has_layer layers layer) → (result.from ≤ layer)
+        × (layer < result.to) }
 {
     Places {
         from: layers.bits.trailing_zeros(),
@@ -95,7 +101,8 @@ fn has_lines(item: &Item) -> bool
 /// The places on which an edge may be near: none where neither is one.
 fn places_of_lines(a: &Item, b: &Item) -> Places
     ensures bound { result.to ≤ 35 }
-    ensures each { (copper : LayerSet) (layer : RowLayer) → IsTried copper layer → AreFacedWithin (faced EdgesAndCopper layer a.now b.now) result.from result.to layer }
+    ensures each { (copper : LayerSet) (layer : RowLayer) → IsTried copper layer
+        → AreFacedWithin (faced EdgesAndCopper layer a.now b.now) result.from result.to layer }
 {
     if has_lines(a) || has_lines(b) {
         places_of_faces(Faces::EdgesAndCopper)
@@ -108,7 +115,8 @@ fn places_of_lines(a: &Item, b: &Item) -> Places
 #[inline(always)]
 fn places_of_sides(faces: Faces, a: &Item, b: &Item) -> Places
     ensures bound { result.to ≤ 35 }
-    ensures each { (copper : LayerSet) (layer : RowLayer) → IsTried copper layer → AreFacedWithin (faced faces layer a.now b.now) result.from result.to layer }
+    ensures each { (copper : LayerSet) (layer : RowLayer) → IsTried copper layer
+        → AreFacedWithin (faced faces layer a.now b.now) result.from result.to layer }
 {
     match faces {
         Faces::Coppers => places_in(shared_copper(a, b)),
@@ -122,7 +130,8 @@ fn places_of_sides(faces: Faces, a: &Item, b: &Item) -> Places
 #[inline(always)]
 pub fn places_between(kind: Kind, a: &Item, b: &Item) -> Places
     ensures bound { result.to ≤ 35 }
-    ensures each { (copper : LayerSet) (layer : RowLayer) → IsTried copper layer → FaceWithin kind a.now b.now result.from result.to layer }
+    ensures each { (copper : LayerSet) (layer : RowLayer) → IsTried copper layer
+        → FaceWithin kind a.now b.now result.from result.to layer }
 {
     match subject_of(kind) {
         Subject::Sides(faces) => places_of_sides(faces, a, b),

@@ -26,7 +26,7 @@ pub use near::{are_kept, gap_if_near, may_not_meet};
 pub use places::{Places, places_of_items, tried_at};
 use plain_types::crosses_threads;
 pub use single_layers::{is_asked_at, is_measured_at, places_measured};
-pub use subject::{Faces, Measure, Subject, subject_of};
+pub use subject::{Faces, Measure, Subject};
 
 fn layers_cross() {
     crosses_threads::<RowLayer>();

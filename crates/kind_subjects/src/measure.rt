@@ -215,7 +215,9 @@ fn holes_facing<'a>(a: &'a Item, b: &'a Item, layer: u32) -> Facings<'a>
 /// The lines of an edge and copper on the layer.
 fn edges_facing<'a>(a: &'a Item, b: &'a Item, layer: u32) -> Facings<'a>
     requires { layer < 32 }
-    ensures { facings_of result ≡ both_ways (lines_of a.now.what) (copper_on layer b.now) (lines_of b.now.what) (copper_on layer a.now) }
+    ensures { facings_of result
+        ≡ both_ways (lines_of a.now.what) (copper_on layer b.now) (lines_of b.now.what)
+        (copper_on layer a.now) }
 {
     let there = Faced {
         own: lines_of(&a.what),
@@ -230,7 +232,9 @@ fn edges_facing<'a>(a: &'a Item, b: &'a Item, layer: u32) -> Facings<'a>
 
 /// The lines of an edge and the hole of an item without copper.
 fn edges_facing_holes<'a>(a: &'a Item, b: &'a Item) -> Facings<'a>
-    ensures { facings_of result ≡ both_ways (lines_of a.now.what) (hole_alone b.now) (lines_of b.now.what) (hole_alone a.now) }
+    ensures { facings_of result
+        ≡ both_ways (lines_of a.now.what) (hole_alone b.now) (lines_of b.now.what)
+        (hole_alone a.now) }
 {
     let there = Faced {
         own: lines_of(&a.what),
@@ -246,7 +250,9 @@ fn edges_facing_holes<'a>(a: &'a Item, b: &'a Item) -> Facings<'a>
 /// A rule area and where the other is on the layer.
 fn areas_facing<'a>(a: &'a Item, b: &'a Item, layer: u32) -> Facings<'a>
     requires { layer < 32 }
-    ensures { facings_of result ≡ both_ways (area_on layer a.now.what) (placed_on layer b.now b.now.what) (area_on layer b.now.what) (placed_on layer a.now a.now.what) }
+    ensures { facings_of result
+        ≡ both_ways (area_on layer a.now.what) (placed_on layer b.now b.now.what)
+        (area_on layer b.now.what) (placed_on layer a.now a.now.what) }
 {
     let there = Faced {
         own: area_on(&a.what, layer),
@@ -400,20 +406,29 @@ fn gap_of(facings: &Facings<'_>, most: Nm) -> Nm
     }
 }
 
-/// Whether anything may face anything. It is a quick test: only what it answers no to is sure.
+// The kind, the layer and the items of the next three tell the contract alone what the facings are of: so each of their callers is told
+// of these, and not of facings.
+
+/// Whether anything may face anything. It is a quick test: only a no is sure.
 #[inline(always)]
-pub fn may_face(faced: &Facings<'_>, kind: Kind, layer: RowLayer, a: &Item, b: &Item) -> bool
-    requires { facings_of faced.now ≡ facings kind layer a.now b.now }
-    ensures meet { result ≡ false → ¬ (MeetAt kind layer a.now b.now) }
-    ensures keep { result ≡ false → (v : ℤ) → KeepAt kind layer a.now b.now v }
+pub fn may_face(faced: &Facings<'_>, _kind: Kind, _layer: RowLayer, _a: &Item, _b: &Item) -> bool
+    requires { facings_of faced.now ≡ facings _kind _layer _a.now _b.now }
+    ensures meet { result ≡ false → ¬ (MeetAt _kind _layer _a.now _b.now) }
+    ensures keep { result ≡ false → (v : ℤ) → KeepAt _kind _layer _a.now _b.now v }
 {
     may_meet(faced)
 }
 
 /// Whether some of what faces each other touches or overlaps.
-pub(crate) fn meet_at(faced: &Facings<'_>, kind: Kind, layer: RowLayer, a: &Item, b: &Item) -> bool
-    requires { facings_of faced.now ≡ facings kind layer a.now b.now }
-    ensures { IsTrue result ↔ MeetAt kind layer a.now b.now }
+pub(crate) fn meet_at(
+    faced: &Facings<'_>,
+    _kind: Kind,
+    _layer: RowLayer,
+    _a: &Item,
+    _b: &Item,
+) -> bool
+    requires { facings_of faced.now ≡ facings _kind _layer _a.now _b.now }
+    ensures { IsTrue result ↔ MeetAt _kind _layer _a.now _b.now }
 {
     do_meet(faced)
 }
@@ -421,15 +436,15 @@ pub(crate) fn meet_at(faced: &Facings<'_>, kind: Kind, layer: RowLayer, a: &Item
 /// The greatest whole number of nanometres from 1 to `most` that all that faces each other keeps, or 0.
 pub(crate) fn gap_at(
     faced: &Facings<'_>,
-    kind: Kind,
-    layer: RowLayer,
-    a: &Item,
-    b: &Item,
+    _kind: Kind,
+    _layer: RowLayer,
+    _a: &Item,
+    _b: &Item,
     most: Nm,
 ) -> Nm
-    requires same { facings_of faced.now ≡ facings kind layer a.now b.now }
+    requires same { facings_of faced.now ≡ facings _kind _layer _a.now _b.now }
     requires most { IsLength most }
-    ensures { IsGap (KeepAt kind layer a.now b.now) most result }
+    ensures { IsGap (KeepAt _kind _layer _a.now _b.now) most result }
 {
     gap_of(faced, most)
 }

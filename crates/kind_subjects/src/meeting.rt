@@ -26,7 +26,8 @@ fn meet_on(kind: Kind, layer: RowLayer, a: &Item, b: &Item) -> bool
 /// The first layer on which the two meet.
 #[inline(always)]
 pub fn first_meeting(copper: LayerSet, kind: Kind, a: &Item, b: &Item) -> Option<RowLayer>
-    ensures { MatchOption result (HoldsNowhere copper (λ layer. MeetAt kind layer a.now b.now)) (IsFirst copper (λ layer. MeetAt kind layer a.now b.now)) }
+    ensures { MatchOption result (HoldsNowhere copper (λ layer. MeetAt kind layer a.now b.now))
+        (IsFirst copper (λ layer. MeetAt kind layer a.now b.now)) }
 {
     let places = places_between(kind, a, b);
     for place in places.from..places.to {

@@ -49,7 +49,9 @@ pub fn gap_if_near(
 ) -> Option<Nm>
     requires same { facings_of faced.now ≡ facings kind layer a.now b.now }
     requires least { IsLength least }
-    ensures { MatchOption result (¬ (TooNear kind layer a.now b.now least)) (λ gap. TooNear kind layer a.now b.now least × IsGap (KeepAt kind layer a.now b.now) least gap) }
+    ensures { MatchOption result (¬ (TooNear kind layer a.now b.now least))
+        (λ gap. TooNear kind layer a.now b.now least
+        × IsGap (KeepAt kind layer a.now b.now) least gap) }
 {
     let apart = may_not_meet(kind);
     // nothing has to be kept

@@ -19,7 +19,8 @@ pub struct Places {
 /// The places of all layers on which these parts face each other.
 pub(crate) fn places_of_faces(faces: Faces) -> Places
     ensures bound { result.to ≤ 35 }
-    ensures all { (layer : RowLayer) → IsFacedOn faces layer → (result.from ≤ rank layer) × (rank layer < result.to) }
+    ensures all { (layer : RowLayer) → IsFacedOn faces layer → (result.from ≤ rank layer)
+        × (rank layer < result.to) }
 {
     match faces {
         Faces::Coppers | Faces::HolesAndCopper | Faces::Areas => Places { from: 0, to: 32 },
@@ -32,7 +33,8 @@ pub(crate) fn places_of_faces(faces: Faces) -> Places
 /// The places of all copper layers, and of none.
 pub fn places_of_items() -> Places
     ensures bound { result.to ≤ 35 }
-    ensures all { (layer : RowLayer) → IsCopper layer ⊎ IsNowhere layer → (result.from ≤ rank layer) × (rank layer < result.to) }
+    ensures all { (layer : RowLayer) → IsCopper layer ⊎ IsNowhere layer → (result.from ≤ rank layer)
+        × (rank layer < result.to) }
 {
     Places { from: 0, to: 35 }
 }
@@ -41,7 +43,8 @@ pub fn places_of_items() -> Places
 #[inline(always)]
 pub fn tried_at(copper: LayerSet, place: u32) -> Option<RowLayer>
     requires { place < 35 }
-    ensures { MatchOption result ((layer : RowLayer) → rank layer ≡ place → ¬ (IsTried copper layer))
+    ensures { MatchOption result
+        ((layer : RowLayer) → rank layer ≡ place → ¬ (IsTried copper layer))
         (λ layer. (rank layer ≡ place) × IsTried copper layer) }
 {
     if place < 32 {

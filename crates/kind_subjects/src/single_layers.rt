@@ -49,7 +49,8 @@ fn side(on_back: bool) -> u32
 
 /// Whether the layer is the copper layer of the side.
 fn is_side(on_back: bool, layer: RowLayer) -> bool
-    ensures { IsTrue result ↔ (layer ≡ (if on_back then RowLayer.Copper 31 else RowLayer.Copper 0)) }
+    ensures { IsTrue result
+        ↔ (layer ≡ (if on_back then RowLayer.Copper 31 else RowLayer.Copper 0)) }
 {
     match layer {
         RowLayer::Copper(number) => number == side(on_back),
@@ -103,7 +104,8 @@ pub fn is_measured_at(copper: LayerSet, kind: Kind, item: &Item, layer: RowLayer
 /// The places of all layers on which the kind is measured.
 pub fn places_measured(kind: Kind, parts: &[Part]) -> Places
     ensures bound { result.to ≤ 35 }
-    ensures each { (item : Item) → item.copper ≡ parts.now → (layer : RowLayer) → IsMeasuredAt kind item layer → (result.from ≤ rank layer) × (rank layer < result.to) }
+    ensures each { (item : Item) → item.copper ≡ parts.now → (layer : RowLayer)
+        → IsMeasuredAt kind item layer → (result.from ≤ rank layer) × (rank layer < result.to) }
 {
     match subject_of(kind) {
         Subject::Length(Measure::Width) => places_in(layers_of(parts)),

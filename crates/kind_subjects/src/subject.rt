@@ -48,7 +48,7 @@ pub enum Subject {
 
 /// What the kind looks at.
 #[inline(always)]
-pub fn subject_of(kind: Kind) -> Subject
+pub(crate) fn subject_of(kind: Kind) -> Subject
     ensures { result ≡ subject_of kind }
 {
     match kind {

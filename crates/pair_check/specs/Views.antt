@@ -1,5 +1,6 @@
 -- What a view lends.
-use Rattle.std.specs.Prelude.{ℤ, ◌<◌, length, map}
+use Rattle.std.specs.Prelude.{ℤ, map}
+use Rattle.plain_types.specs.Limits.{AreCounted}
 use Rattle.cond_lang.specs.Rules.{plain_rule}
 use Rattle.rule_pick.specs.AllFacts.{HasFacts}
 use Rattle.pair_check.specs.declared.view.CheckView.{CheckView}
@@ -14,10 +15,10 @@ use Rattle.pair_check.specs.Rows.{Checked, deciders}
 abbrev pub checked_by : CheckView → Checked
 checked_by view = record { board = view.board.now; classes = view.classes.now; rules = map plain_rule view.rules.now }
 
--- the facts are those of all items of the board under its classes, and rules have numbers below 2 ^ 32 - 1
+-- the facts are those of all items of the board under its classes, and rules can be counted
 pub record IsWholeView (view : CheckView) : Type 0 where
   pub facts : HasFacts view.board.now view.classes.now view.facts.now
-  pub few_rules : length view.rules.now < 4294967295
+  pub few_rules : AreCounted view.rules.now
 
 -- what decides of what is checked through a view
 abbrev pub deciders_of : CheckView → Deciders

@@ -74,7 +74,8 @@ fn has_enough(kind: Kind, least: &Nm, item: &Item) -> bool
 impl Enough {
     /// Whether the item has enough of all that it has. Only what it answers yes to is sure to break nothing.
     pub fn is_had_by(&self, item: &Item) -> bool
-        ensures { (d : Deciders) → AreEnoughAlone d self.now → result ≡ true → BreaksNothing d item.now }
+        ensures { (d : Deciders) → AreEnoughAlone d self.now → result ≡ true
+            → BreaksNothing d item.now }
     {
         if !has_enough(Kind::TrackWidth, &self.width, item) {
             return false;

@@ -3,6 +3,7 @@
 //! The walks over layers are laid into their callers, which know the kind, and with it what faces what.
 
 ghost use Rattle.std.specs.Prelude.{◌≡◌, ◌+◌, ◌<◌, ◌≤◌, true, false, IsTrue, IsSome, [], length, MatchOption};
+ghost use Rattle.plain_types.specs.Limits.{AreCounted};
 ghost use Rattle.board_items.specs.Boards.{item_at};
 ghost use Rattle.cond_lang.specs.declared.kind.Family.{Family};
 ghost use Rattle.cond_lang.specs.declared.kind.Kind.TheVariants.{HoleClearance};
@@ -45,11 +46,12 @@ fn picked_at(
     layer: RowLayer,
     faced: &Facings<'_>,
 ) -> Option<Picked>
-    requires few { length view.now.rules.now < 4294967295 }
+    requires few { AreCounted view.now.rules.now }
     requires measured { family kind ≡ Family.Keeps }
     requires same { facings_of faced.now ≡ facings kind layer pair.a.now pair.b.now }
     ensures { MatchOption result (AreUnfaced kind (pair_of pair.entry) layer)
-        (λ picked. IsPickOf (deciders_of view.now) kind (pair_of pair.entry) layer (pick_of picked)) }
+        (λ picked. IsPickOf (deciders_of view.now) kind (pair_of pair.entry) layer
+        (pick_of picked)) }
 {
     if !may_face(faced, kind, layer, pair.a, pair.b) {
         return None;
@@ -68,11 +70,13 @@ fn picked_at(
 /// What is broken on the layer, if anything is.
 #[inline(always)]
 fn near_at(view: &CheckView, kind: Kind, pair: Pair<'_>, layer: RowLayer) -> Option<Near>
-    requires few { length view.now.rules.now < 4294967295 }
+    requires few { AreCounted view.now.rules.now }
     requires measured { family kind ≡ Family.Keeps }
     requires tried { IsTried view.now.board.now.copper layer }
-    ensures { MatchOption result (¬ (IsNearAt (deciders_of view.now) kind (pair_of pair.entry) layer))
-        (λ near. (near.layer ≡ layer) × IsNear (deciders_of view.now) kind (pair_of pair.entry) near) }
+    ensures { MatchOption result
+        (¬ (IsNearAt (deciders_of view.now) kind (pair_of pair.entry) layer))
+        (λ near. (near.layer ≡ layer)
+        × IsNear (deciders_of view.now) kind (pair_of pair.entry) near) }
 {
     let faced = facings_at(kind, layer, pair.a, pair.b);
     let picked = picked_at(view, kind, pair, layer, &faced)?;
@@ -86,10 +90,14 @@ fn near_at(view: &CheckView, kind: Kind, pair: Pair<'_>, layer: RowLayer) -> Opt
 /// The first layer on which the two are too near. No layer is tried before the first on which they face each other, or after the last.
 #[inline(always)]
 fn first_near(view: &CheckView, kind: Kind, pair: Pair<'_>) -> Option<Near>
-    requires few { length view.now.rules.now < 4294967295 }
+    requires few { AreCounted view.now.rules.now }
     requires measured { family kind ≡ Family.Keeps }
-    ensures { MatchOption result (HoldsNowhere view.now.board.now.copper (IsNearAt (deciders_of view.now) kind (pair_of pair.entry)))
-        (λ near. IsNear (deciders_of view.now) kind (pair_of pair.entry) near × IsFirst view.now.board.now.copper (IsNearAt (deciders_of view.now) kind (pair_of pair.entry)) near.layer) }
+    ensures { MatchOption result
+        (HoldsNowhere view.now.board.now.copper
+        (IsNearAt (deciders_of view.now) kind (pair_of pair.entry)))
+        (λ near. IsNear (deciders_of view.now) kind (pair_of pair.entry) near
+        × IsFirst view.now.board.now.copper
+        (IsNearAt (deciders_of view.now) kind (pair_of pair.entry)) near.layer) }
 {
     let places = places_between(kind, pair.a, pair.b);
     for place in places.from..places.to {
@@ -107,8 +115,11 @@ fn first_near(view: &CheckView, kind: Kind, pair: Pair<'_>) -> Option<Near>
 fn meeting_row(view: &CheckView, kind: Kind, first: u32, second: u32, pair: Pair<'_>) -> Option<Row>
     requires meets { family kind ≡ Family.Meets }
     requires ordered { first < second }
-    ensures { MatchOption result ((row : PlainRow) → ¬ (IsOfKind (IsOfPair (deciders_of view.now) (pair_of pair.entry) first second) kind row))
-        (λ row. IsOfKind (IsOfPair (deciders_of view.now) (pair_of pair.entry) first second) kind row) }
+    ensures { MatchOption result
+        ((row : PlainRow)
+        → ¬ (IsOfKind (IsOfPair (deciders_of view.now) (pair_of pair.entry) first second) kind row))
+        (λ row. IsOfKind (IsOfPair (deciders_of view.now) (pair_of pair.entry) first second) kind
+        row) }
 {
     if !is_compared(kind, pair.a, pair.b) {
         return None;
@@ -130,13 +141,16 @@ fn meeting_row(view: &CheckView, kind: Kind, first: u32, second: u32, pair: Pair
 /// The row that the two are too near, if they are.
 #[inline(always)]
 fn near_row(view: &CheckView, kind: Kind, first: u32, second: u32, pair: Pair<'_>) -> Option<Row>
-    requires few { length view.now.rules.now < 4294967295 }
+    requires few { AreCounted view.now.rules.now }
     requires measured { family kind ≡ Family.Keeps }
     requires place { IsGivenPlace (deciders_of view.now) kind (pair_of pair) }
     requires compared { IsTrue (is_compared kind pair.a.now pair.b.now) }
     requires ordered { first < second }
-    ensures { MatchOption result ((row : PlainRow) → ¬ (IsOfKind (IsOfPair (deciders_of view.now) (pair_of pair.entry) first second) kind row))
-        (λ row. IsOfKind (IsOfPair (deciders_of view.now) (pair_of pair.entry) first second) kind row) }
+    ensures { MatchOption result
+        ((row : PlainRow)
+        → ¬ (IsOfKind (IsOfPair (deciders_of view.now) (pair_of pair.entry) first second) kind row))
+        (λ row. IsOfKind (IsOfPair (deciders_of view.now) (pair_of pair.entry) first second) kind
+        row) }
 {
     let near = first_near(view, kind, pair)?;
     Some(Row {
@@ -162,14 +176,16 @@ fn add_measured(
     pair: Pair<'_>,
     rows: &mut PairRows,
 )
-    requires few { length view.now.rules.now < 4294967295 }
+    requires few { AreCounted view.now.rules.now }
     requires measured { family kind ≡ Family.Keeps }
     requires place { IsGivenPlace (deciders_of view.now) kind (pair_of pair) }
     requires compared { IsTrue (is_compared kind pair.a.now pair.b.now) }
     requires ordered { first < second }
     requires room { length rows.old < 8 }
-    requires below { AreRowsBelow (IsOfPair (deciders_of view.now) (pair_of pair) first second) (kind_number kind) rows.old }
-    ensures rows { AreRowsBelow (IsOfPair (deciders_of view.now) (pair_of pair.entry) first second) (kind_number kind + 1) rows.new }
+    requires below { AreRowsBelow (IsOfPair (deciders_of view.now) (pair_of pair) first second)
+        (kind_number kind) rows.old }
+    ensures rows { AreRowsBelow (IsOfPair (deciders_of view.now) (pair_of pair.entry) first second)
+        (kind_number kind + 1) rows.new }
     ensures count { length rows.new ≤ length rows.old + 1 }
 {
     if let Some(row) = near_row(view, kind, first, second, pair) {
@@ -177,7 +193,8 @@ fn add_measured(
     }
 }
 
-/// As `add_measured`, where anything is asked of the kind and the two are compared for it.
+/// Appends the row of a kind that measures gaps, where anything is asked of the kind, the two are compared for it, and they are nearer
+/// than is picked.
 #[inline(always)]
 fn add_near(
     view: &CheckView,
@@ -188,14 +205,16 @@ fn add_near(
     pair: Pair<'_>,
     rows: &mut PairRows,
 )
-    requires few { length view.now.rules.now < 4294967295 }
+    requires few { AreCounted view.now.rules.now }
     requires asked { asked ≡ false → AsksNothing (deciders_of view.now) kind }
     requires measured { family kind ≡ Family.Keeps }
     requires place { IsGivenPlace (deciders_of view.now) kind (pair_of pair) }
     requires ordered { first < second }
     requires room { length rows.old < 8 }
-    requires below { AreRowsBelow (IsOfPair (deciders_of view.now) (pair_of pair) first second) (kind_number kind) rows.old }
-    ensures rows { AreRowsBelow (IsOfPair (deciders_of view.now) (pair_of pair.entry) first second) (kind_number kind + 1) rows.new }
+    requires below { AreRowsBelow (IsOfPair (deciders_of view.now) (pair_of pair) first second)
+        (kind_number kind) rows.old }
+    ensures rows { AreRowsBelow (IsOfPair (deciders_of view.now) (pair_of pair.entry) first second)
+        (kind_number kind + 1) rows.new }
     ensures count { length rows.new ≤ length rows.old + 1 }
 {
     if asked && is_compared(kind, pair.a, pair.b) {
@@ -207,7 +226,7 @@ fn add_near(
 /// Only a yes is sure.
 #[inline(always)]
 fn is_kept_at(view: &CheckView, pair: Pair<'_>, layer: RowLayer) -> bool
-    requires few { length view.now.rules.now < 4294967295 }
+    requires few { AreCounted view.now.rules.now }
     requires tried { IsTried view.now.board.now.copper layer }
     ensures { result ≡ true → ¬ (IsNearOrMeets (deciders_of view.now) (pair_of pair.entry) layer) }
 {
@@ -222,8 +241,10 @@ fn is_kept_at(view: &CheckView, pair: Pair<'_>, layer: RowLayer) -> bool
 /// Whether it does on each layer. Most pairs do, and one walk over the layers and over what is there tells so of both kinds. Only a
 /// yes is sure.
 fn is_kept(view: &CheckView, pair: Pair<'_>) -> bool
-    requires few { length view.now.rules.now < 4294967295 }
-    ensures { result ≡ true → HoldsNowhere view.now.board.now.copper (IsNearOrMeets (deciders_of view.now) (pair_of pair.entry)) }
+    requires few { AreCounted view.now.rules.now }
+    ensures { result ≡ true
+        → HoldsNowhere view.now.board.now.copper
+        (IsNearOrMeets (deciders_of view.now) (pair_of pair.entry)) }
 {
     let places = places_between(Kind::Clearance, pair.a, pair.b);
     for place in places.from..places.to {
@@ -245,13 +266,15 @@ fn add_of_hole(
     pair: Pair<'_>,
     rows: &mut PairRows,
 )
-    requires few { length view.now.rules.now < 4294967295 }
+    requires few { AreCounted view.now.rules.now }
     requires asked { IsNoteOf (deciders_of view.now) asked }
     requires place { IsGivenPlace (deciders_of view.now) HoleClearance (pair_of pair) }
     requires ordered { first < second }
     requires room { length rows.old < 8 }
-    requires below { AreRowsBelow (IsOfPair (deciders_of view.now) (pair_of pair) first second) 3 rows.old }
-    ensures rows { AreRowsBelow (IsOfPair (deciders_of view.now) (pair_of pair.entry) first second) 4 rows.new }
+    requires below { AreRowsBelow
+        (IsOfPair (deciders_of view.now) (pair_of pair) first second) 3 rows.old }
+    ensures rows { AreRowsBelow
+        (IsOfPair (deciders_of view.now) (pair_of pair.entry) first second) 4 rows.new }
     ensures count { length rows.new ≤ length rows.old + 1 }
 {
     add_near(
@@ -274,12 +297,14 @@ fn add_of_nets(
     pair: Pair<'_>,
     rows: &mut PairRows,
 )
-    requires few { length view.now.rules.now < 4294967295 }
+    requires few { AreCounted view.now.rules.now }
     requires asked { IsNoteOf (deciders_of view.now) asked }
     requires ordered { first < second }
     requires none { length rows.old ≡ 0 }
-    requires below { AreRowsBelow (IsOfPair (deciders_of view.now) (pair_of pair) first second) 1 rows.old }
-    ensures rows { AreRowsBelow (IsOfPair (deciders_of view.now) (pair_of pair.entry) first second) 4 rows.new }
+    requires below { AreRowsBelow
+        (IsOfPair (deciders_of view.now) (pair_of pair) first second) 1 rows.old }
+    ensures rows { AreRowsBelow
+        (IsOfPair (deciders_of view.now) (pair_of pair.entry) first second) 4 rows.new }
     ensures count { length rows.new ≤ 2 }
 {
     if share_net(pair.a, pair.b) {
@@ -302,8 +327,10 @@ fn add_of_nets(
 fn add_keepout(view: &CheckView, first: u32, second: u32, pair: Pair<'_>, rows: &mut PairRows)
     requires ordered { first < second }
     requires room { length rows.old < 8 }
-    requires below { AreRowsBelow (IsOfPair (deciders_of view.now) (pair_of pair) first second) 7 rows.old }
-    ensures rows { AreRowsBelow (IsOfPair (deciders_of view.now) (pair_of pair.entry) first second) 8 rows.new }
+    requires below { AreRowsBelow
+        (IsOfPair (deciders_of view.now) (pair_of pair) first second) 7 rows.old }
+    ensures rows { AreRowsBelow
+        (IsOfPair (deciders_of view.now) (pair_of pair.entry) first second) 8 rows.new }
     ensures count { length rows.new ≤ length rows.old + 1 }
 {
     if let Some(row) = meeting_row(view, Kind::Keepout, first, second, pair) {
@@ -320,12 +347,14 @@ fn add_of_holes(
     pair: Pair<'_>,
     rows: &mut PairRows,
 )
-    requires few { length view.now.rules.now < 4294967295 }
+    requires few { AreCounted view.now.rules.now }
     requires asked { IsNoteOf (deciders_of view.now) asked }
     requires ordered { first < second }
     requires room { length rows.old < 8 }
-    requires below { AreRowsBelow (IsOfPair (deciders_of view.now) (pair_of pair) first second) 4 rows.old }
-    ensures rows { AreRowsBelow (IsOfPair (deciders_of view.now) (pair_of pair.entry) first second) 5 rows.new }
+    requires below { AreRowsBelow
+        (IsOfPair (deciders_of view.now) (pair_of pair) first second) 4 rows.old }
+    ensures rows { AreRowsBelow
+        (IsOfPair (deciders_of view.now) (pair_of pair.entry) first second) 5 rows.new }
     ensures count { length rows.new ≤ length rows.old + 1 }
 {
     if have_holes(pair.a, pair.b) {
@@ -350,12 +379,14 @@ fn add_of_outlines(
     pair: Pair<'_>,
     rows: &mut PairRows,
 )
-    requires few { length view.now.rules.now < 4294967295 }
+    requires few { AreCounted view.now.rules.now }
     requires asked { IsNoteOf (deciders_of view.now) asked }
     requires ordered { first < second }
     requires room { length rows.old < 6 }
-    requires below { AreRowsBelow (IsOfPair (deciders_of view.now) (pair_of pair) first second) 5 rows.old }
-    ensures rows { AreRowsBelow (IsOfPair (deciders_of view.now) (pair_of pair.entry) first second) 8 rows.new }
+    requires below { AreRowsBelow
+        (IsOfPair (deciders_of view.now) (pair_of pair) first second) 5 rows.old }
+    ensures rows { AreRowsBelow
+        (IsOfPair (deciders_of view.now) (pair_of pair.entry) first second) 8 rows.new }
     ensures count { length rows.new ≤ length rows.old + 3 }
 {
     if are_copper(pair.a, pair.b) {
@@ -391,12 +422,14 @@ fn add_physical(
     pair: Pair<'_>,
     rows: &mut PairRows,
 )
-    requires few { length view.now.rules.now < 4294967295 }
+    requires few { AreCounted view.now.rules.now }
     requires asked { IsNoteOf (deciders_of view.now) asked }
     requires ordered { first < second }
     requires room { length rows.old < 7 }
-    requires below { AreRowsBelow (IsOfPair (deciders_of view.now) (pair_of pair) first second) 8 rows.old }
-    ensures { AreRowsWhere (IsOfPair (deciders_of view.now) (pair_of pair.entry) first second) rows.new }
+    requires below { AreRowsBelow
+        (IsOfPair (deciders_of view.now) (pair_of pair) first second) 8 rows.old }
+    ensures { AreRowsWhere
+        (IsOfPair (deciders_of view.now) (pair_of pair.entry) first second) rows.new }
 {
     if !asked.physical_clearance && !asked.physical_hole_clearance {
         return;
@@ -430,11 +463,12 @@ fn add_all(
     pair: Pair<'_>,
     rows: &mut PairRows,
 )
-    requires few { length view.now.rules.now < 4294967295 }
+    requires few { AreCounted view.now.rules.now }
     requires asked { IsNoteOf (deciders_of view.now) asked }
     requires ordered { first < second }
     requires none { rows.old ≡ [] }
-    ensures { AreRowsWhere (IsOfPair (deciders_of view.now) (pair_of pair.entry) first second) rows.new }
+    ensures { AreRowsWhere
+        (IsOfPair (deciders_of view.now) (pair_of pair.entry) first second) rows.new }
 {
     add_of_nets(view, asked, first, second, pair, rows);
     add_of_holes(view, asked, first, second, pair, rows);
@@ -442,8 +476,8 @@ fn add_all(
     add_physical(view, asked, first, second, pair, rows);
 }
 
-/// As `test_pair`, where both items are at hand, with what the board and the rules ask for. What the list had before goes. It takes
-/// no step, and no memory.
+/// Leaves in the list all rows of a pair of items that are at hand, the one with the lesser id first, by rising kinds; they are those
+/// of `test_pair`. `asked` is what the board and the rules ask for. What the list had before goes. It takes no step, and no memory.
 pub fn test_two(
     view: &CheckView,
     asked: Asked,

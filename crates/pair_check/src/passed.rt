@@ -23,14 +23,14 @@ pub fn are_copper(a: &Item, b: &Item) -> bool
     is_copper(&a.what) && is_copper(&b.what)
 }
 
-/// Whether both have holes.
+/// Whether both have holes. Only a no is sure.
 pub(crate) fn have_holes(a: &Item, b: &Item) -> bool
     ensures { result ≡ false → (a.now.hole ≡ None) ⊎ (b.now.hole ≡ None) }
 {
     a.hole.is_some() && b.hole.is_some()
 }
 
-/// Whether one of them is a fill, whose outline may be long.
+/// Whether one of them is a fill, whose outline may be long. It decides how rows are found, and not which: no clause needs more of it.
 pub(crate) fn is_one_fill(a: &Item, b: &Item) -> bool {
     matches!(a.what, What::Fill) || matches!(b.what, What::Fill)
 }

@@ -1,6 +1,7 @@
 //! What a single item breaks.
 
 ghost use Rattle.std.specs.Prelude.{◌≡◌, ◌↔◌, ◌+◌, ◌<◌, ◌≤◌, ℤ, Bool, IsTrue, IsSome, IfSome, None, length, MatchOption};
+ghost use Rattle.plain_types.specs.Limits.{AreCounted};
 ghost use Rattle.plain_types.specs.Lengths.{IsLength};
 ghost use Rattle.board_items.specs.declared.item.Item.{Item};
 ghost use Rattle.board_items.specs.Boards.{item_at};
@@ -34,7 +35,8 @@ use std::alloc::Global;
 /// The item of the id, with its facts, if the board has it. It takes no memory.
 pub fn single_at<'a>(view: &CheckView<'a>, id: u32) -> Option<Single<'a>>
     requires { IsWholeView view.now }
-    ensures { MatchOption result (item_at (checked_by view.now).board.items id ≡ None) (λ s. Stands (checked_by view.now) id s.item.now s.facts.now) }
+    ensures { MatchOption result (item_at (checked_by view.now).board.items id ≡ None)
+        (λ s. Stands (checked_by view.now) id s.item.now s.facts.now) }
 {
     let item = view.board.get(id)?;
     let facts = view.facts.get(id)?;
@@ -44,7 +46,9 @@ pub fn single_at<'a>(view: &CheckView<'a>, id: u32) -> Option<Single<'a>>
 /// The limit that the measured length breaks.
 fn broken_limit(kind: Kind, n: Nm, picked: Picked) -> Option<Limit>
     requires { IsNearZero n }
-    ensures broken { MatchOption result ((over : Bool) (limit : ℤ) → ¬ (BreaksLimit kind n (pick_of picked) over limit)) (λ l. BreaksLimit kind n (pick_of picked) l.over l.nm) }
+    ensures broken { MatchOption result
+        ((over : Bool) (limit : ℤ) → ¬ (BreaksLimit kind n (pick_of picked) over limit))
+        (λ l. BreaksLimit kind n (pick_of picked) l.over l.nm) }
     ensures range { IfSome result (λ l. IsLength l.nm) }
 {
     if n < counted(kind, picked.least) {
@@ -70,12 +74,13 @@ fn broken_limit(kind: Kind, n: Nm, picked: Picked) -> Option<Limit>
 
 /// The limit that is broken on the layer, if one is.
 fn off_at(view: &CheckView, kind: Kind, single: Single<'_>, n: Nm, layer: RowLayer) -> Option<Off>
-    requires few { length view.now.rules.now < 4294967295 }
+    requires few { AreCounted view.now.rules.now }
     requires limit { family kind ≡ Family.Limits }
     requires within { IsNearZero n }
     requires tried { IsTried view.now.board.now.copper layer }
     ensures broken { MatchOption result (¬ (IsOffIn view.now kind single.entry n layer))
-        (λ off. (off.layer ≡ layer) × IsMeasuredAt kind single.entry.item.now layer × IsOff (deciders_of view.now) kind single.entry.facts.now n off) }
+        (λ off. (off.layer ≡ layer) × IsMeasuredAt kind single.entry.item.now layer
+        × IsOff (deciders_of view.now) kind single.entry.facts.now n off) }
     ensures range { IfSome result (λ off. IsLength off.limit.nm) }
 {
     if !is_measured_at(view.board.copper(), kind, single.item, layer) {
@@ -102,11 +107,13 @@ fn off_at(view: &CheckView, kind: Kind, single: Single<'_>, n: Nm, layer: RowLay
 
 /// The first layer on which a limit is broken. Only places where the kind is measured are tried.
 fn first_off(view: &CheckView, kind: Kind, single: Single<'_>, n: Nm) -> Option<Off>
-    requires few { length view.now.rules.now < 4294967295 }
+    requires few { AreCounted view.now.rules.now }
     requires limit { family kind ≡ Family.Limits }
     requires within { IsNearZero n }
-    ensures broken { MatchOption result (HoldsNowhere view.now.board.now.copper (IsOffIn view.now kind single.entry n))
-        (λ off. IsOff (deciders_of view.now) kind single.entry.facts.now n off × IsFirst view.now.board.now.copper (IsOffIn view.now kind single.entry n) off.layer) }
+    ensures broken { MatchOption result
+        (HoldsNowhere view.now.board.now.copper (IsOffIn view.now kind single.entry n))
+        (λ off. IsOff (deciders_of view.now) kind single.entry.facts.now n off
+        × IsFirst view.now.board.now.copper (IsOffIn view.now kind single.entry n) off.layer) }
     ensures range { IfSome result (λ off. IsLength off.limit.nm) }
 {
     let places = places_measured(kind, single.item.copper.as_slice());
@@ -122,10 +129,14 @@ fn first_off(view: &CheckView, kind: Kind, single: Single<'_>, n: Nm) -> Option<
 
 /// The row of a limit that is broken, if one is.
 fn limit_row(view: &CheckView, kind: Kind, id: u32, single: Single<'_>) -> Option<Row>
-    requires few { length view.now.rules.now < 4294967295 }
+    requires few { AreCounted view.now.rules.now }
     requires limit { family kind ≡ Family.Limits }
-    ensures { MatchOption result ((row : PlainRow) → ¬ (IsOfKind (IsOfSingle (deciders_of view.now) single.entry.item.now single.entry.facts.now id) kind row))
-        (λ row. IsOfKind (IsOfSingle (deciders_of view.now) single.entry.item.now single.entry.facts.now id) kind row) }
+    ensures { MatchOption result
+        ((row : PlainRow)
+        → ¬ (IsOfKind (IsOfSingle
+        (deciders_of view.now) single.entry.item.now single.entry.facts.now id) kind row))
+        (λ row. IsOfKind (IsOfSingle
+        (deciders_of view.now) single.entry.item.now single.entry.facts.now id) kind row) }
 {
     let n = length_of(kind, single.item)?;
     let off = first_off(view, kind, single, n)?;
@@ -184,11 +195,14 @@ fn forbidden_at(
     single: Single<'_>,
     layer: RowLayer,
 ) -> Option<Forbidden>
-    requires few { length view.now.rules.now < 4294967295 }
+    requires few { AreCounted view.now.rules.now }
     requires ban { family kind ≡ Family.Forbids }
     requires tried { IsTried view.now.board.now.copper layer }
     ensures { MatchOption result (¬ (IsForbiddenIn view.now kind single.entry layer))
-        (λ found. (found.layer ≡ layer) × IsAskedAt single.entry.item.now single.entry.item.now.what layer × IsForbidden (deciders_of view.now) kind single.entry.item.now single.entry.facts.now found) }
+        (λ found. (found.layer ≡ layer)
+        × IsAskedAt single.entry.item.now single.entry.item.now.what layer
+        × IsForbidden (deciders_of view.now) kind single.entry.item.now single.entry.facts.now
+        found) }
 {
     if !is_asked_at(view.board.copper(), single.item, layer) {
         return None;
@@ -210,11 +224,14 @@ fn forbidden_at(
 
 /// The first layer on which the item is forbidden.
 fn first_forbidden(view: &CheckView, kind: Kind, single: Single<'_>) -> Option<Forbidden>
-    requires few { length view.now.rules.now < 4294967295 }
+    requires few { AreCounted view.now.rules.now }
     requires ban { family kind ≡ Family.Forbids }
-    ensures { MatchOption result (HoldsNowhere view.now.board.now.copper (IsForbiddenIn view.now kind single.entry))
-        (λ found. IsForbidden (deciders_of view.now) kind single.entry.item.now single.entry.facts.now found
-        × IsFirst view.now.board.now.copper (IsForbiddenIn view.now kind single.entry) found.layer) }
+    ensures { MatchOption result
+        (HoldsNowhere view.now.board.now.copper (IsForbiddenIn view.now kind single.entry))
+        (λ found. IsForbidden
+        (deciders_of view.now) kind single.entry.item.now single.entry.facts.now found
+        × IsFirst view.now.board.now.copper
+        (IsForbiddenIn view.now kind single.entry) found.layer) }
 {
     let places = places_of_items();
     for place in places.from..places.to {
@@ -229,10 +246,14 @@ fn first_forbidden(view: &CheckView, kind: Kind, single: Single<'_>) -> Option<F
 
 /// The row that the item is forbidden, if it is.
 fn ban_row(view: &CheckView, kind: Kind, id: u32, single: Single<'_>) -> Option<Row>
-    requires few { length view.now.rules.now < 4294967295 }
+    requires few { AreCounted view.now.rules.now }
     requires ban { family kind ≡ Family.Forbids }
-    ensures { MatchOption result ((row : PlainRow) → ¬ (IsOfKind (IsOfSingle (deciders_of view.now) single.entry.item.now single.entry.facts.now id) kind row))
-        (λ row. IsOfKind (IsOfSingle (deciders_of view.now) single.entry.item.now single.entry.facts.now id) kind row) }
+    ensures { MatchOption result
+        ((row : PlainRow)
+        → ¬ (IsOfKind (IsOfSingle
+        (deciders_of view.now) single.entry.item.now single.entry.facts.now id) kind row))
+        (λ row. IsOfKind (IsOfSingle
+        (deciders_of view.now) single.entry.item.now single.entry.facts.now id) kind row) }
 {
     let found = first_forbidden(view, kind, single)?;
     Some(Row {
@@ -250,11 +271,15 @@ fn ban_row(view: &CheckView, kind: Kind, id: u32, single: Single<'_>) -> Option<
 
 /// Appends the row of a kind that limits a length, if the item breaks it.
 fn add_limit(view: &CheckView, kind: Kind, id: u32, single: Single<'_>, rows: &mut PairRows)
-    requires few { length view.now.rules.now < 4294967295 }
+    requires few { AreCounted view.now.rules.now }
     requires limit { family kind ≡ Family.Limits }
     requires room { length rows.old < 8 }
-    requires below { AreRowsBelow (IsOfSingle (deciders_of view.now) single.item.now single.facts.now id) (kind_number kind) rows.old }
-    ensures rows { AreRowsBelow (IsOfSingle (deciders_of view.now) single.entry.item.now single.entry.facts.now id) (kind_number kind + 1) rows.new }
+    requires below { AreRowsBelow
+        (IsOfSingle (deciders_of view.now) single.item.now single.facts.now id)
+        (kind_number kind) rows.old }
+    ensures rows { AreRowsBelow
+        (IsOfSingle (deciders_of view.now) single.entry.item.now single.entry.facts.now id)
+        (kind_number kind + 1) rows.new }
     ensures count { length rows.new ≤ length rows.old + 1 }
 {
     if let Some(row) = limit_row(view, kind, id, single) {
@@ -265,11 +290,15 @@ fn add_limit(view: &CheckView, kind: Kind, id: u32, single: Single<'_>, rows: &m
 /// Appends the row of a kind that forbids, if the item is forbidden.
 #[inline(never)]
 fn add_forbidden(view: &CheckView, kind: Kind, id: u32, single: Single<'_>, rows: &mut PairRows)
-    requires few { length view.now.rules.now < 4294967295 }
+    requires few { AreCounted view.now.rules.now }
     requires ban { family kind ≡ Family.Forbids }
     requires room { length rows.old < 8 }
-    requires below { AreRowsBelow (IsOfSingle (deciders_of view.now) single.item.now single.facts.now id) (kind_number kind) rows.old }
-    ensures rows { AreRowsBelow (IsOfSingle (deciders_of view.now) single.entry.item.now single.entry.facts.now id) (kind_number kind + 1) rows.new }
+    requires below { AreRowsBelow
+        (IsOfSingle (deciders_of view.now) single.item.now single.facts.now id)
+        (kind_number kind) rows.old }
+    ensures rows { AreRowsBelow
+        (IsOfSingle (deciders_of view.now) single.entry.item.now single.entry.facts.now id)
+        (kind_number kind + 1) rows.new }
     ensures count { length rows.new ≤ length rows.old + 1 }
 {
     if let Some(row) = ban_row(view, kind, id, single) {
@@ -277,14 +306,18 @@ fn add_forbidden(view: &CheckView, kind: Kind, id: u32, single: Single<'_>, rows
     }
 }
 
-/// As `add_forbidden`; where no rule asks for the kind nothing is forbidden.
+/// Appends the row of a kind that forbids, if the item is forbidden. Where no rule asks for the kind nothing is.
 #[inline(always)]
 fn add_ban(view: &CheckView, kind: Kind, id: u32, single: Single<'_>, rows: &mut PairRows)
-    requires few { length view.now.rules.now < 4294967295 }
+    requires few { AreCounted view.now.rules.now }
     requires ban { family kind ≡ Family.Forbids }
     requires room { length rows.old < 8 }
-    requires below { AreRowsBelow (IsOfSingle (deciders_of view.now) single.item.now single.facts.now id) (kind_number kind) rows.old }
-    ensures rows { AreRowsBelow (IsOfSingle (deciders_of view.now) single.entry.item.now single.entry.facts.now id) (kind_number kind + 1) rows.new }
+    requires below { AreRowsBelow
+        (IsOfSingle (deciders_of view.now) single.item.now single.facts.now id)
+        (kind_number kind) rows.old }
+    ensures rows { AreRowsBelow
+        (IsOfSingle (deciders_of view.now) single.entry.item.now single.entry.facts.now id)
+        (kind_number kind + 1) rows.new }
     ensures count { length rows.new ≤ length rows.old + 1 }
 {
     if some_asks(view.rules, kind) {
@@ -294,8 +327,9 @@ fn add_ban(view: &CheckView, kind: Kind, id: u32, single: Single<'_>, rows: &mut
 
 /// The rows of the item.
 fn rows_of(alloc: Global, view: &CheckView, id: u32, single: Single<'_>) -> PairRows
-    requires few { length view.now.rules.now < 4294967295 }
-    ensures { AreRowsWhere (IsOfSingle (deciders_of view.now) single.entry.item.now single.entry.facts.now id) result }
+    requires few { AreCounted view.now.rules.now }
+    ensures { AreRowsWhere
+        (IsOfSingle (deciders_of view.now) single.entry.item.now single.entry.facts.now id) result }
 {
     let mut rows = PairRows::new(alloc);
     add_limit(view, Kind::TrackWidth, id, single, &mut rows);

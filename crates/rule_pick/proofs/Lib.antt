@@ -4,3 +4,5 @@ pub mod OneFacts
 pub mod OnePick
 pub mod Slots
 pub mod KeptLengths
+pub mod Raising
+pub mod CopperAsked

@@ -7,3 +7,5 @@ pub mod Reach
 pub mod ById
 pub mod AllFacts
 pub mod KeptLengths
+pub mod Raised
+pub mod Copper

@@ -5,10 +5,13 @@ use Rattle.board_items.specs.declared.item.Item.{Item}
 use Rattle.board_items.specs.Boards.{PlainBoard}
 use Rattle.net_class.specs.Classes.{PlainMins, PlainClasses}
 use Rattle.cond_lang.specs.declared.kind.Kind.{Kind}
+use Rattle.cond_lang.specs.declared.kind.Kind.TheVariants.{Clearance, HoleClearance, HoleToHole, PhysicalClearance, PhysicalHoleClearance}
 use Rattle.cond_lang.specs.declared.kind.Family.{Family}
 use Rattle.cond_lang.specs.declared.kind.Family.TheVariants.{Meets, Keeps, Limits, Forbids}
 use Rattle.cond_lang.specs.Kinds.{family}
 use Rattle.cond_lang.specs.Rules.{PlainConstraint, PlainRule}
+use Rattle.rule_pick.specs.declared.asking.Between.{Between}
+use Rattle.rule_pick.specs.declared.asking.Between.TheVariants.{Items, Coppers}
 use Rattle.rule_pick.specs.Deciding.{asked_least}
 
 abbrev pub asks_distance : Family → Bool
@@ -21,9 +24,30 @@ asks_distance Forbids = false
 abbrev pub is_between_two : Kind → Bool
 is_between_two kind = asks_distance (family kind)
 
+-- the kinds that ask two pieces of copper to keep a distance
+abbrev pub is_of_copper : Kind → Bool
+is_of_copper Clearance = true
+is_of_copper HoleClearance = true
+is_of_copper HoleToHole = true
+is_of_copper PhysicalClearance = true
+is_of_copper PhysicalHoleClearance = true
+is_of_copper _ = false
+
+-- the kinds that ask any two items, or two pieces of copper, to keep a distance
+abbrev pub is_between : Between → Kind → Bool
+is_between Items kind = is_between_two kind
+is_between Coppers kind = is_of_copper kind
+
 -- the least value, where the kind is such a one
+abbrev pub asked_between : Between → PlainConstraint → List ℤ
+asked_between between c = if is_between between c.kind then asked_least c ∷ [] else []
+
+abbrev pub distances_between : Between → PlainRule → List ℤ
+distances_between between rule = flat_map (asked_between between) rule.constraints
+
+-- what is asked of any two items
 abbrev pub distance_asked : PlainConstraint → List ℤ
-distance_asked c = if is_between_two c.kind then asked_least c ∷ [] else []
+distance_asked c = asked_between Items c
 
 abbrev pub distances_of : PlainRule → List ℤ
 distances_of rule = flat_map distance_asked rule.constraints

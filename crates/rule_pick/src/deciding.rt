@@ -1,7 +1,8 @@
 //! Which rule decides.
 
-ghost use Rattle.std.specs.Prelude.{◌≡◌, ◌<◌, map, length, false, IsTrue, MatchOption};
+ghost use Rattle.std.specs.Prelude.{◌≡◌, map, false, IsTrue, MatchOption};
 ghost use Rattle.std.specs.Option.{option_map, option_copied};
+ghost use Rattle.plain_types.specs.Limits.{AreCounted};
 ghost use Rattle.cond_lang.specs.Rules.{plain_constraint, plain_rule};
 ghost use Rattle.cond_lang.specs.Trees.{cond_tree_of};
 ghost use Rattle.rule_pick.specs.Deciding.{asked_by, Asks, is_outer, admits, holds_either_way, applies, matches_rule, IsDeciding, NoneMatches};
@@ -20,7 +21,8 @@ pub(crate) struct Decided<'r> {
 
 /// What the rule asks of the kind.
 fn asked_by(kind: Kind, rule: &Rule) -> Option<&Constraint>
-    ensures { option_map (λ c. plain_constraint c.now) result ≡ asked_by kind (plain_rule rule.now) }
+    ensures { option_map (λ c. plain_constraint c.now) result
+        ≡ asked_by kind (plain_rule rule.now) }
 {
     for constraint in rule.constraints.as_slice() {
         if constraint.kind.number() == kind.number() {
@@ -76,8 +78,10 @@ fn matching<'r>(
     layer: Option<u32>,
     rule: &'r Rule,
 ) -> Option<&'r Constraint>
-    ensures { MatchOption result (matches_rule kind a.now (option_copied b.entry) layer (plain_rule rule.now) ≡ false)
-        (λ c. IsTrue (matches_rule kind a.now (option_copied b.entry) layer (plain_rule rule.now)) × Asks kind (plain_rule rule.now) (plain_constraint c.now)) }
+    ensures { MatchOption result
+        (matches_rule kind a.now (option_copied b.entry) layer (plain_rule rule.now) ≡ false)
+        (λ c. IsTrue (matches_rule kind a.now (option_copied b.entry) layer (plain_rule rule.now))
+        × Asks kind (plain_rule rule.now) (plain_constraint c.now)) }
 {
     let constraint = asked_by(kind, rule)?;
     if admits(rule.layer, layer) && applies(&rule.cond, a, b) {
@@ -95,9 +99,12 @@ pub(crate) fn deciding<'r>(
     b: Option<&Facts>,
     layer: Option<u32>,
 ) -> Option<Decided<'r>>
-    requires { length rules.now < 4294967295 }
-    ensures { MatchOption result (NoneMatches (map plain_rule rules.now) kind a.now (option_copied b.entry) layer)
-        (λ d. IsDeciding (map plain_rule rules.now) kind a.now (option_copied b.entry) layer d.place (plain_rule d.rule.now) × Asks kind (plain_rule d.rule.now) (plain_constraint d.constraint.now)) }
+    requires { AreCounted rules.now }
+    ensures { MatchOption result
+        (NoneMatches (map plain_rule rules.now) kind a.now (option_copied b.entry) layer)
+        (λ d. IsDeciding (map plain_rule rules.now) kind a.now (option_copied b.entry) layer d.place
+        (plain_rule d.rule.now)
+        × Asks kind (plain_rule d.rule.now) (plain_constraint d.constraint.now)) }
 {
     let mut left = rules.len();
     while 0 < left {

@@ -1,4 +1,4 @@
-//! Lengths.
+//! Lengths that may be missing.
 
 ghost use Rattle.std.specs.Prelude.{◌≡◌, Some};
 ghost use Rattle.plain_types.specs.Lengths.{IsLength, IsLengthIfSome};
@@ -7,13 +7,6 @@ ghost use Rattle.rule_pick.specs.KeptLengths.{length_of};
 use board_items::Nm;
 use std::marker::Model;
 use std::mem::size_of;
-
-/// A length in nanometres, from 0 to 500 mm.
-#[derive(Clone, Copy, Drop)]
-pub(crate) struct Length {
-    pub(crate) nm: Nm,
-    pub(crate) ghost in_range: { IsLength nm },
-}
 
 /// A length in nanometres that may be missing, from 0 to 500 mm. Contracts see the option.
 #[derive(Debug, Drop)]
@@ -71,7 +64,8 @@ impl LengthIf {
             Some(self.kept as i64)
         }
     }
-    /// The same length.
+
+    /// An equal length, or none where there is none.
     pub fn copy(&self) -> LengthIf
         ensures { result ≡ self.now }
     {

@@ -2,10 +2,12 @@
 //!
 //! The facts of items are what rules may ask of them. [`holds`] says whether a condition holds of them, and [`pick`] which
 //! value a kind of check has between two items or of one: a value of their own, that of a rule, or the default of the board.
-//! The facts of an item of a board, and how far checks reach, are defined here too. No call takes memory but
-//! those that copy facts or put them by id.
+//! The facts of an item of a board are defined here too, and [`reach`] finds how far checks of a board reach.
+//! No call takes memory but those that copy facts or put them by id.
 #![tactic(auto)]
 
+mod asking;
+mod copper;
 mod copying;
 mod deciding;
 mod facts;
@@ -18,8 +20,10 @@ mod minimums;
 mod names;
 mod picked;
 mod picking;
+mod reaching;
 mod values;
 
+pub use copper::{asked_of_copper, with_own};
 pub use facts::Facts;
 pub use facts_by_id::FactsById;
 pub use kinds::{ItemKind, Source};
@@ -30,6 +34,7 @@ pub use names::Names;
 pub use picked::Picked;
 pub use picking::pick;
 use plain_types::crosses_threads;
+pub use reaching::reach;
 
 fn all_cross() {
     crosses_threads::<Facts>();

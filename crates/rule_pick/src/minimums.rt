@@ -1,19 +1,21 @@
 //! What a board allows at least.
 
-ghost use Rattle.std.specs.Prelude.{◌≡◌, pos, false, if◌then◌else◌};
+ghost use Rattle.std.specs.Prelude.{◌≡◌, ◌≤ℤ◌, pos, false, if◌then◌else◌};
 ghost use Rattle.std.specs.Int.{int_max};
 ghost use Rattle.plain_types.specs.Lengths.{IsLength};
 ghost use Rattle.net_class.specs.Views.{mins_of};
 ghost use Rattle.rule_pick.specs.Deciding.{minimum, has_default};
 
-use crate::lengths::Length;
 use board_items::Nm;
 use cond_lang::Kind;
 use net_class::Mins;
+use plain_types::Length;
 
 /// The greater of the two.
 pub(crate) fn greater(a: Length, b: Length) -> Length
-    ensures { result.nm ≡ int_max a.nm b.nm }
+    ensures value { result.nm ≡ int_max a.nm b.nm }
+    ensures first { a.nm ≤ℤ result.nm }
+    ensures second { b.nm ≤ℤ result.nm }
 {
     if b.nm < a.nm { a } else { b }
 }

@@ -1,7 +1,8 @@
 //! What is picked: a clearance of the items' own, what the deciding rule asks, or the default.
 
-ghost use Rattle.std.specs.Prelude.{◌≡◌, ◌≢◌, ◌<◌, map, length};
+ghost use Rattle.std.specs.Prelude.{◌≡◌, ◌≢◌, map};
 ghost use Rattle.std.specs.Option.{option_map, option_copied};
+ghost use Rattle.plain_types.specs.Limits.{AreCounted};
 ghost use Rattle.net_class.specs.Views.{mins_of};
 ghost use Rattle.cond_lang.specs.declared.kind.Family.{Family};
 ghost use Rattle.cond_lang.specs.Kinds.{family};
@@ -12,12 +13,12 @@ ghost use Rattle.rule_pick.specs.Picks.{pick_of};
 use crate::deciding::{Decided, deciding};
 use crate::facts::Facts;
 use crate::kinds::Source;
-use crate::lengths::Length;
 use crate::meaning::holds;
 use crate::minimums::{greater, minimum};
 use crate::picked::Picked;
 use cond_lang::{Constraint, Disallow, Kind, Rule, Severity};
 use net_class::Mins;
+use plain_types::Length;
 
 fn own_clearance(facts: &Facts) -> Option<Length>
     ensures { option_map (λ l. l.nm) result ≡ facts.now.local }
@@ -39,7 +40,8 @@ fn local_if(facts: Option<&Facts>) -> Option<Length>
 
 /// The greater, where there are two.
 fn greater_if(nm: Option<Length>, other: Option<Length>) -> Option<Length>
-    ensures { option_map (λ l. l.nm) result ≡ greater_if (option_map (λ l. l.nm) nm) (option_map (λ l. l.nm) other) }
+    ensures { option_map (λ l. l.nm) result
+        ≡ greater_if (option_map (λ l. l.nm) nm) (option_map (λ l. l.nm) other) }
 {
     match (nm, other) {
         (None, other) => other,
@@ -122,7 +124,9 @@ fn asked_least(constraint: &Constraint) -> Length
 
 /// What the rule asks, but not below the board's minimum.
 fn pick_of_rule(least: Length, a: &Facts, decided: Decided<'_>) -> Picked
-    ensures { pick_of result ≡ pick_of_rule least.nm a.now decided.entry.place (plain_rule decided.entry.rule.now) (plain_constraint decided.entry.constraint.now) }
+    ensures { pick_of result
+        ≡ pick_of_rule least.nm a.now decided.entry.place (plain_rule decided.entry.rule.now)
+        (plain_constraint decided.entry.constraint.now) }
 {
     Picked {
         least: greater(asked_least(decided.constraint), least).nm,
@@ -148,9 +152,10 @@ pub fn pick(
     b: Option<&Facts>,
     layer: Option<u32>,
 ) -> Picked
-    requires few { length rules.now < 4294967295 }
+    requires few { AreCounted rules.now }
     requires limited { family kind ≢ Family.Meets }
-    ensures { IsPick (map plain_rule rules.now) (mins_of mins.now) kind a.now (option_copied b.entry) layer (pick_of result) }
+    ensures { IsPick (map plain_rule rules.now) (mins_of mins.now) kind a.now
+        (option_copied b.entry) layer (pick_of result) }
 {
     let least = minimum(mins, a.micro, kind);
     if let Some(nm) = local_of(kind, a, b) {

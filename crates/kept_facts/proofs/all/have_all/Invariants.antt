@@ -1,7 +1,0 @@
-use Rattle.board_items.specs.Walks.{items_left}
-use Rattle.kept_facts.proofs.Filled.{HaveSoFar}
-use Rattle.kept_facts.proofs.all.have_all.Given as goal
-
--- each item is left, or has facts
-abbrev pub invariant-loop-id : goal.invariant-loop-id
-invariant-loop-id l = HaveSoFar l.board l.facts (items_left l.id-iterator)
