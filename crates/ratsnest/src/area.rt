@@ -69,7 +69,8 @@ fn with_anchor(area: Area, anchor: Anchor) -> Area
 
 /// The area of the anchors from one place to another.
 pub(crate) fn area_of(spots: &[Spot], low: usize, high: usize) -> Area
-    ensures { (i : ℕ) → low ≤ i → i < high → i < length spots.now → IsInside result (spot_at spots.now i).anchor }
+    ensures { (i : ℕ) → low ≤ i → i < high → i < length spots.now
+        → IsInside result (spot_at spots.now i).anchor }
 {
     let mut area = Area {
         x: empty(),

@@ -99,7 +99,9 @@ fn all_links(alloc: Global, anchors: &[Anchor]) -> Result<Vec<Link>, AllocError>
 
 /// Puts one label for another.
 fn relabel(labels: &mut [usize], from: usize, to: usize)
-    ensures { (k : ℕ) → k < length labels.new → slice_index labels.new k ≡ (if slice_index labels.old k == from then to else slice_index labels.old k) }
+    ensures { (k : ℕ) → k < length labels.new
+        → slice_index labels.new k
+        ≡ (if slice_index labels.old k == from then to else slice_index labels.old k) }
 {
     for label in labels.iter_mut() {
         if *label == from {

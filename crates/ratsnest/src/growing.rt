@@ -25,8 +25,10 @@ const FEW: usize = 800;
 fn place_for(links: &[Link], link: Link) -> usize
     requires { Climbs rank links.now }
     ensures within { result ≤ length links.now }
-    ensures below { (k : ℕ) (d : Link) → k < result → rank (slice_index_or links.now k d) < rank link }
-    ensures stop { (d : Link) → result < length links.now → rank link ≤ rank (slice_index_or links.now result d) }
+    ensures below { (k : ℕ) (d : Link) → k < result
+        → rank (slice_index_or links.now k d) < rank link }
+    ensures stop { (d : Link) → result < length links.now
+        → rank link ≤ rank (slice_index_or links.now result d) }
 {
     let mut low = 0;
     let mut high = links.len();
@@ -47,8 +49,10 @@ fn add_link(links: &mut Vec<Link>, link: Link) -> Result<(), AllocError>
     requires other { (l : Link) → Mem l links.old.items → rank l ≢ rank link }
     ensures climbs { OnOk result (Climbs rank links.new.items) }
     ensures len { OnOk result (length links.new.items ≡ length links.old.items + 1) }
-    ensures whole { OnOk result ((l : Link) → (Mem l links.old.items ⊎ (l ≡ link)) → Mem l links.new.items) }
-    ensures sound { OnOk result ((l : Link) → Mem l links.new.items → Mem l links.old.items ⊎ (l ≡ link)) }
+    ensures whole { OnOk result
+        ((l : Link) → (Mem l links.old.items ⊎ (l ≡ link)) → Mem l links.new.items) }
+    ensures sound { OnOk result
+        ((l : Link) → Mem l links.new.items → Mem l links.old.items ⊎ (l ≡ link)) }
 {
     let place = place_for(links, link);
     links.insert(place, link)?;
@@ -67,7 +71,8 @@ fn take_in(
     requires few { length anchors.now < 2 ^ 32 }
     requires grown { IsGrown anchors.now reached.old waiting.old.items links.old.items }
     requires some { 0 < length waiting.old.items }
-    ensures grown { OnOk result (IsGrown anchors.now reached.new waiting.new.items links.new.items) }
+    ensures grown { OnOk result
+        (IsGrown anchors.now reached.new waiting.new.items links.new.items) }
     ensures len { OnOk result (length links.new.items ≡ length links.old.items + 1) }
 {
     let next = waiting[least(waiting)];

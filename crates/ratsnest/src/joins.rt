@@ -21,8 +21,10 @@ pub(crate) struct Members {
 /// Gives the label to these groups.
 fn relabel(labels: &mut [usize], groups: &[usize], to: usize)
     requires { (k : ℕ) → k < length groups.now → slice_index_or groups.now k 0 < length labels.old }
-    ensures given { (k : ℕ) → k < length groups.now → label_at labels.new (slice_index_or groups.now k 0) ≡ to }
-    ensures others { (g : ℕ) → ((k : ℕ) → k < length groups.now → slice_index_or groups.now k 0 ≢ g) → label_at labels.new g ≡ label_at labels.old g }
+    ensures given { (k : ℕ) → k < length groups.now
+        → label_at labels.new (slice_index_or groups.now k 0) ≡ to }
+    ensures others { (g : ℕ) → ((k : ℕ) → k < length groups.now → slice_index_or groups.now k 0 ≢ g)
+        → label_at labels.new g ≡ label_at labels.old g }
 {
     for group in groups {
         labels[*group] = to;
@@ -62,7 +64,8 @@ fn merge_smaller(
     requires a { a < length labels.old }
     requires b { b < length labels.old }
     requires apart { a ≢ b }
-    ensures relabeled { OnOk result (IsRelabeled a b labels.old labels.new ⊎ IsRelabeled b a labels.old labels.new) }
+    ensures relabeled { OnOk result
+        (IsRelabeled a b labels.old labels.new ⊎ IsRelabeled b a labels.old labels.new) }
     ensures kept { OnOk result (AreKept labels.new members.new) }
 {
     if members[a].groups.len() < members[b].groups.len() {
@@ -97,7 +100,8 @@ fn join(
     requires usable { IsUsable anchors.now link }
     ensures kept { OnOk result (AreKept labels.new members.new) }
     ensures forest { OnOk result (IsForest anchors.now labels.new links.new.items) }
-    ensures grown { OnOk result (HasGrown anchors.now link labels.old links.old.items labels.new links.new.items) }
+    ensures grown { OnOk result
+        (HasGrown anchors.now link labels.old links.old.items labels.new links.new.items) }
 {
     if link.square == u64::MAX {
         return Ok(());
@@ -127,7 +131,9 @@ pub(crate) fn join_all(
     requires usable { All (IsUsable anchors.now) best.now }
     ensures kept { OnOk result (AreKept labels.new members.new) }
     ensures forest { OnOk result (IsForest anchors.now labels.new links.new.items) }
-    ensures grown { OnOk result (HaveGrown anchors.now best.now (length best.now) labels.old links.old.items labels.new links.new.items) }
+    ensures grown { OnOk result
+        (HaveGrown anchors.now best.now (length best.now) labels.old links.old.items
+        labels.new links.new.items) }
 {
     for link in best {
         join(alloc, anchors, labels, members, links, *link)?;
@@ -146,7 +152,8 @@ fn only_member(alloc: Global, group: usize) -> Result<Members, AllocError>
 /// Each group is the only member of its label.
 pub(crate) fn own_members(alloc: Global, count: usize) -> Result<Vec<Members>, AllocError>
     ensures count { IfOk result (λ v. length v.items ≡ count) }
-    ensures own { IfOk result (λ v. (g : ℕ) (d : Members) → g < length v.items → (slice_index_or v.items g d).groups.items ≡ g ∷ []) }
+    ensures own { IfOk result (λ v. (g : ℕ) (d : Members) → g < length v.items
+        → (slice_index_or v.items g d).groups.items ≡ g ∷ []) }
 {
     let mut members = Vec::new(alloc);
     for group in 0..count {

@@ -7,10 +7,12 @@ ghost use Rattle.ratsnest.specs.NestOf.{AnchorsRise, IsNest, IsLeast};
 
 /// Anchors have one nest.
 pub fn one_nest()
-    ensures { (anchors : List Anchor) → AnchorsRise anchors → length anchors < 2 ^ 32 → (a b : List Link) → IsNest anchors a → IsNest anchors b → a ≡ b }
+    ensures { (anchors : List Anchor) → AnchorsRise anchors → length anchors < 2 ^ 32
+        → (a b : List Link) → IsNest anchors a → IsNest anchors b → a ≡ b }
 {}
 
 /// A nest joins all groups at the least sum of squares, whoever made it.
 pub fn nests_are_least()
-    ensures { (anchors : List Anchor) → AnchorsRise anchors → length anchors < 2 ^ 32 → (links : List Link) → IsNest anchors links → IsLeast anchors links }
+    ensures { (anchors : List Anchor) → AnchorsRise anchors → length anchors < 2 ^ 32
+        → (links : List Link) → IsNest anchors links → IsLeast anchors links }
 {}

@@ -34,7 +34,8 @@ fn do_rise(anchors: &[Anchor]) -> bool
 }
 
 fn has_group(anchors: &[Anchor], group: usize) -> bool
-    ensures { IsTrue result ↔ ((i : ℕ) × (i < length anchors.now) × (group_at anchors.now i ≡ group)) }
+    ensures { IsTrue result ↔
+        ((i : ℕ) × (i < length anchors.now) × (group_at anchors.now i ≡ group)) }
 {
     for place in 0..anchors.len() {
         if group_of(anchors, place) as usize == group {

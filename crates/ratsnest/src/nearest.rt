@@ -70,7 +70,8 @@ fn name_at(names: &[Option<usize>], node: usize) -> Option<usize>
 }
 
 fn node_at(tree: &Tree, node: usize) -> Option<&Node>
-    ensures { IfSome result (λ n. (node < length tree.now.nodes.items) × ((d : Node) → slice_index_or tree.now.nodes.items node d ≡ n.now)) }
+    ensures { IfSome result (λ n. (node < length tree.now.nodes.items)
+        × ((d : Node) → slice_index_or tree.now.nodes.items node d ≡ n.now)) }
 {
     tree.nodes.get(node)
 }
@@ -92,7 +93,9 @@ fn name_of_both(
     right: usize,
 ) -> Option<usize>
     requires { AreNames tree.now.spots.items labels.now tree.now.nodes.items names.now }
-    ensures { IfSome result (λ c. (d : Node) → IsNamed tree.now.spots.items labels.now (slice_index_or tree.now.nodes.items node d).low (slice_index_or tree.now.nodes.items node d).high c) }
+    ensures { IfSome result (λ c. (d : Node)
+        → IsNamed tree.now.spots.items labels.now (slice_index_or tree.now.nodes.items node d).low
+        (slice_index_or tree.now.nodes.items node d).high c) }
 {
     let whole = node_at(tree, node)?;
     let a = node_at(tree, left)?;
@@ -115,7 +118,9 @@ fn name_of(
     node: usize,
 ) -> Option<usize>
     requires { AreNames tree.now.spots.items labels.now tree.now.nodes.items names.now }
-    ensures { IfSome result (λ c. (d : Node) → IsNamed tree.now.spots.items labels.now (slice_index_or tree.now.nodes.items node d).low (slice_index_or tree.now.nodes.items node d).high c) }
+    ensures { IfSome result (λ c. (d : Node)
+        → IsNamed tree.now.spots.items labels.now (slice_index_or tree.now.nodes.items node d).low
+        (slice_index_or tree.now.nodes.items node d).high c) }
 {
     let part = node_at(tree, node)?;
     if is_small(part.low, part.high) {
@@ -140,7 +145,8 @@ pub(crate) fn all_names(
     labels: &[usize],
     skipped: usize,
 ) -> Result<Vec<Option<usize>>, AllocError>
-    ensures { IfOk result (λ v. AreNames tree.now.spots.items labels.now tree.now.nodes.items v.items) }
+    ensures { IfOk result (λ v.
+        AreNames tree.now.spots.items labels.now tree.now.nodes.items v.items) }
 {
     let mut names = vec![in alloc; None; tree.nodes.len()]?;
     for node in (0..tree.nodes.len()).rev() {
@@ -172,7 +178,8 @@ fn is_passed(
 ) -> bool
     requires nodes { AreNodes tree.now.spots.items tree.now.nodes.items }
     requires names { AreNames tree.now.spots.items labels.now tree.now.nodes.items names.now }
-    ensures { IsTrue result → IsPassed tree.now.spots.items labels.now from.now own part.low part.high best }
+    ensures { IsTrue result
+        → IsPassed tree.now.spots.items labels.now from.now own part.low part.high best }
 {
     match node_at(tree, part.node) {
         Some(node) => {
@@ -241,7 +248,8 @@ fn look(
     requires nodes { AreNodes tree.now.spots.items tree.now.nodes.items }
     requires names { AreNames tree.now.spots.items labels.now tree.now.nodes.items names.now }
     requires fits { part.high ≤ length tree.now.spots.items }
-    ensures { IsLooked tree.now.spots.items labels.now from.now own part.low part.high best.old best.new }
+    ensures { IsLooked tree.now.spots.items labels.now from.now own part.low part.high
+        best.old best.new }
 {
     if is_passed(tree, labels, names, from, own, part, *best) {
         return;
@@ -293,7 +301,8 @@ fn seek(tree: &Tree, labels: &[usize], names: &[Option<usize>], skipped: usize, 
     requires names { AreNames tree.now.spots.items labels.now tree.now.nodes.items names.now }
     requires labels { (g : ℕ) → label_at labels.now g < length best.old }
     requires none { best.old ≡ replicate (length best.old) no_link }
-    ensures { AreBestTo tree.now.spots.items labels.now skipped (length tree.now.spots.items) best.new }
+    ensures { AreBestTo tree.now.spots.items labels.now skipped
+        (length tree.now.spots.items) best.new }
 {
     let whole = Part {
         low: 0,
@@ -319,7 +328,8 @@ pub(crate) fn all_best(
     requires nodes { AreNodes tree.now.spots.items tree.now.nodes.items }
     requires labels { (g : ℕ) → label_at labels.now g < length labels.now }
     ensures len { IfOk result (λ v. length v.items ≡ length labels.now) }
-    ensures best { IfOk result (λ v. AreBestTo tree.now.spots.items labels.now skipped (length tree.now.spots.items) v.items) }
+    ensures best { IfOk result (λ v.
+        AreBestTo tree.now.spots.items labels.now skipped (length tree.now.spots.items) v.items) }
 {
     let names = all_names(alloc, tree, labels, skipped)?;
     let mut best = vec![in alloc; no_link(); labels.len()]?;

@@ -45,7 +45,8 @@ fn take_round(
     requires forest { IsForest anchors.now labels.old links.old.items }
     ensures kept { OnOk result (AreKept labels.new members.new) }
     ensures forest { OnOk result (IsForest anchors.now labels.new links.new.items) }
-    ensures more { IfOk result (λ yes. yes ≡ true → length links.old.items < length links.new.items) }
+    ensures more { IfOk result (λ yes. yes ≡ true
+        → length links.old.items < length links.new.items) }
     ensures done { IfOk result (λ yes. yes ≡ false → AreOne labels.new) }
 {
     let before = links.len();

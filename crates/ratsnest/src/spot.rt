@@ -42,7 +42,8 @@ pub(crate) fn draw(best: &mut Link, from: &Spot, to: &Spot)
 pub(crate) fn all_spots(alloc: Global, anchors: &[Anchor]) -> Result<Vec<Spot>, AllocError>
     requires few { length anchors.now < 2 ^ 32 }
     ensures len { IfOk result (λ v. length v.items ≡ length anchors.now) }
-    ensures each { IfOk result (λ v. (k : ℕ) → k < length v.items → IsSpotOf anchors.now k (spot_at v.items k)) }
+    ensures each { IfOk result (λ v. (k : ℕ) → k < length v.items
+        → IsSpotOf anchors.now k (spot_at v.items k)) }
 {
     let mut spots = Vec::new(alloc);
     for place in 0..anchors.len() {

@@ -43,7 +43,8 @@ fn draw(held: &mut Waiting, from: &Waiting)
 }
 
 fn draw_near(waiting: &mut [Waiting], from: &Waiting)
-    ensures { (k : ℕ) (d : Waiting) → k < length waiting.new → IsDrawn from.now (slice_index_or waiting.old k d) (slice_index_or waiting.new k d) }
+    ensures { (k : ℕ) (d : Waiting) → k < length waiting.new
+        → IsDrawn from.now (slice_index_or waiting.old k d) (slice_index_or waiting.new k d) }
 {
     for held in waiting.iter_mut() {
         draw(held, from);
@@ -52,7 +53,8 @@ fn draw_near(waiting: &mut [Waiting], from: &Waiting)
 
 /// Whether the first stands at the very spot of the second, at a lower place in the list: then its links are less.
 fn is_lower_twin(first: &Waiting, second: &Waiting) -> bool
-    ensures { IsTrue result → (first.now.place < second.now.place) × (first.now.anchor.x ≡ second.now.anchor.x) × (first.now.anchor.y ≡ second.now.anchor.y) }
+    ensures { IsTrue result → (first.now.place < second.now.place)
+        × (first.now.anchor.x ≡ second.now.anchor.x) × (first.now.anchor.y ≡ second.now.anchor.y) }
 {
     first.anchor.x == second.anchor.x
         && first.anchor.y == second.anchor.y
@@ -74,7 +76,9 @@ fn is_doubled(joined: &[Waiting], from: &Waiting) -> bool
 /// Keeps the links from one of these anchors, unless those from another of them are less. Ends of tracks often stand at the
 /// spot of another end; that is looked for only where it is far cheaper than to measure.
 fn draw_once(waiting: &mut [Waiting], joined: &[Waiting], from: &Waiting)
-    ensures { (k : ℕ) (d : Waiting) → k < length waiting.new → IsTold joined.now from.now (slice_index_or waiting.old k d) (slice_index_or waiting.new k d) }
+    ensures { (k : ℕ) (d : Waiting) → k < length waiting.new
+        → IsTold joined.now from.now (slice_index_or waiting.old k d)
+        (slice_index_or waiting.new k d) }
 {
     if joined.len() <= waiting.len() / 4 && is_doubled(joined, from) {
         return;
@@ -84,7 +88,9 @@ fn draw_once(waiting: &mut [Waiting], joined: &[Waiting], from: &Waiting)
 
 /// Keeps the least of the links from these anchors and the one that is kept.
 fn draw_to_all(waiting: &mut [Waiting], joined: &[Waiting])
-    ensures { (k : ℕ) (d : Waiting) → k < length waiting.new → IsDrawnToAll joined.now (slice_index_or waiting.old k d) (slice_index_or waiting.new k d) }
+    ensures { (k : ℕ) (d : Waiting) → k < length waiting.new
+        → IsDrawnToAll joined.now (slice_index_or waiting.old k d)
+        (slice_index_or waiting.new k d) }
 {
     for from in joined {
         draw_once(waiting, joined, from);
@@ -98,7 +104,8 @@ fn take_out(
     group: u32,
 ) -> Result<(), AllocError>
     requires { joined.old.items ≡ [] }
-    ensures all { OnOk result (IsPermutation waiting.old.items (joined.new.items ++ waiting.new.items)) }
+    ensures all { OnOk result
+        (IsPermutation waiting.old.items (joined.new.items ++ waiting.new.items)) }
     ensures joined { OnOk result (All (λ (w : Waiting). w.anchor.group ≡ group) joined.new.items) }
     ensures rest { OnOk result (All (λ (w : Waiting). w.anchor.group ≢ group) waiting.new.items) }
 {
@@ -131,7 +138,9 @@ pub(crate) fn reach(
 pub(crate) fn least(waiting: &[Waiting]) -> usize
     requires { 0 < length waiting.now }
     ensures within { result < length waiting.now }
-    ensures least { (k : ℕ) (d : Waiting) → k < length waiting.now → rank (slice_index_or waiting.now result d).link ≤ rank (slice_index_or waiting.now k d).link }
+    ensures least { (k : ℕ) (d : Waiting) → k < length waiting.now
+        → rank (slice_index_or waiting.now result d).link
+        ≤ rank (slice_index_or waiting.now k d).link }
 {
     let mut least = 0;
     let mut link = waiting[0].link;
@@ -147,7 +156,8 @@ pub(crate) fn least(waiting: &[Waiting]) -> usize
 
 /// Whether the one that waits is of the group of the anchor and at its spot.
 fn leads(held: &Waiting, anchor: Anchor) -> bool
-    ensures { IsTrue result → (held.now.anchor.group ≡ anchor.group) × (held.now.anchor.x ≡ anchor.x) × (held.now.anchor.y ≡ anchor.y) }
+    ensures { IsTrue result → (held.now.anchor.group ≡ anchor.group)
+        × (held.now.anchor.x ≡ anchor.x) × (held.now.anchor.y ≡ anchor.y) }
 {
     held.anchor.x == anchor.x && held.anchor.y == anchor.y && held.anchor.group == anchor.group
 }
