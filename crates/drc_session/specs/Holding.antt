@@ -1,5 +1,6 @@
 -- What a session holds while it runs.
-use Rattle.std.specs.Prelude.{◌≡◌, ◌<◌, ℤ, List, length}
+use Rattle.std.specs.Prelude.{◌≡◌, ℤ, List}
+use Rattle.plain_types.specs.Limits.{AreCounted}
 use Rattle.plain_types.specs.Lengths.{IsLength}
 use Rattle.board_items.specs.Boards.{PlainBoard}
 use Rattle.rule_text.specs.Views.{plain_rules}
@@ -39,7 +40,7 @@ pub record IsKeptOf (board : PlainBoard) (parts : Parts) : Type 0 where
   pub in_range : IsLength parts.reach
   pub rows : AreRows (checked_in (state_with board parts)) parts.rows.items
   pub nets : AreParts board parts.nets.items
-  pub few : length parts.rules.rules < 4294967295
+  pub few : AreCounted parts.rules.rules
 
 -- they are those of the board that is edited
 abbrev pub IsKept : Parts → Type 0

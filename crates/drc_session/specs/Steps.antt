@@ -1,7 +1,7 @@
 -- The steps of an edit.
-use Rattle.std.specs.Prelude.{◌≡◌, ◌++◌, ℕ, ℤ, pos, false, List, [], All}
+use Rattle.std.specs.Prelude.{◌≡◌, ◌++◌, ℕ, ℤ, false, List, [], All}
 use Rattle.geo_seg.specs.declared.boxes.Bounds.{Bounds}
-use Rattle.geo_seg.specs.Boxes.{FitsWithin}
+use Rattle.geo_seg.specs.Boxes.{FitsIndex}
 use Rattle.board_items.specs.Boards.{PlainBoard}
 use Rattle.box_index.specs.Tiles.{PlainIndex, dirty_of}
 use Rattle.kept_facts.specs.Kept.{AreMarksBefore}
@@ -14,7 +14,7 @@ use Rattle.drc_session.specs.Looks.{AreBoxesIn, HasNetsOf, AsksNone}
 -- what is looked up of the items of the ids before an edit
 pub record IsLook (board : PlainBoard) (ids : List ℕ) (reach : ℤ) (look : Look) : Type 0 where
   pub boxes : AreBoxesIn board ids look.boxes.items
-  pub fit : All (FitsWithin (pos 2000000000)) look.boxes.items
+  pub fit : All FitsIndex look.boxes.items
   pub nets : HasNetsOf board ids look.nets.items
   pub marks : AreMarksBefore board ids look.marks.items
   pub none : ids ≡ [] → look.marks.items ≡ []

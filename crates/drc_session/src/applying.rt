@@ -1,6 +1,7 @@
 //! Commands and changes.
 
-ghost use Rattle.std.specs.Prelude.{◌≡◌, ◌<◌, ◌≤◌, true, false, OnOk, IfOk, IfErr, OnErr};
+ghost use Rattle.std.specs.Prelude.{◌≡◌, ◌<◌, true, false, OnOk, IfOk, IfErr, OnErr};
+ghost use Rattle.plain_types.specs.Limits.{IsWorkerCount};
 ghost use Rattle.edit_script.specs.Commands.{plain_command};
 ghost use Rattle.edit_script.specs.Fits.{Fits};
 ghost use Rattle.drc_state.specs.Steps.{is_rules};
@@ -29,15 +30,20 @@ fn carry_out<R: Threads + Sync, G: Gate>(
     edit: Edit,
     gate: &G,
 ) -> Result<(Applied, Change), AllocError>
-    requires workers { (0 < workers) × (workers ≤ 64) }
+    requires workers { IsWorkerCount workers }
     requires kept { IsKept parts.old }
     requires fits { ChangeFits (state_of parts.old) (plain_edit edit) }
     ensures kept { OnOk result (IsKept parts.new) }
-    ensures makes { OnOk result (Makes (plain_edit edit) (state_of parts.old) (state_of parts.new)) }
-    ensures applied { IfOk result (λ r. IsApplied (state_of parts.old) (state_of parts.new) (is_replace (plain_edit edit)) r.0 × IsDealt workers r.0) }
-    ensures back { IfOk result (λ r. LeadsBack (plain_change r.1) (state_of parts.new) (state_of parts.old)) }
+    ensures makes { OnOk result
+        (Makes (plain_edit edit) (state_of parts.old) (state_of parts.new)) }
+    ensures applied { IfOk result (λ r.
+        IsApplied (state_of parts.old) (state_of parts.new) (is_replace (plain_edit edit)) r.0
+        × IsDealt workers r.0) }
+    ensures back { IfOk result (λ r.
+        LeadsBack (plain_change r.1) (state_of parts.new) (state_of parts.old)) }
     ensures kind { IfOk result (λ r. is_replace (plain_change r.1) ≡ is_replace (plain_edit edit)) }
-    ensures none { IfOk result (λ r. ChangesNothing (plain_edit edit) → plain_change r.1 ≡ no_change) }
+    ensures none { IfOk result (λ r. ChangesNothing (plain_edit edit)
+        → plain_change r.1 ≡ no_change) }
 {
     match edit {
         Edit::Board(deed) => {
@@ -60,13 +66,17 @@ impl Session {
         edit: Edit,
         gate: &G,
     ) -> Result<(Applied, Change), AllocError>
-        requires workers { (0 < workers) × (workers ≤ 64) }
+        requires workers { IsWorkerCount workers }
         requires running { self.old.stopped ≡ false }
         requires fits { ChangeFits self.old.state (plain_edit edit) }
-        ensures made { IfOk result (λ r. IsTurned self.old self.new (plain_edit edit) r.0 × IsDealt workers r.0) }
-        ensures back { IfOk result (λ r. LeadsBack (plain_change r.1) self.new.state self.old.state) }
-        ensures kind { IfOk result (λ r. is_replace (plain_change r.1) ≡ is_replace (plain_edit edit)) }
-        ensures none { IfOk result (λ r. ChangesNothing (plain_edit edit) → plain_change r.1 ≡ no_change) }
+        ensures made { IfOk result (λ r. IsTurned self.old self.new (plain_edit edit) r.0
+            × IsDealt workers r.0) }
+        ensures back { IfOk result (λ r.
+            LeadsBack (plain_change r.1) self.new.state self.old.state) }
+        ensures kind { IfOk result (λ r. is_replace (plain_change r.1)
+            ≡ is_replace (plain_edit edit)) }
+        ensures none { IfOk result (λ r. ChangesNothing (plain_edit edit)
+            → plain_change r.1 ≡ no_change) }
         ensures stopped { OnErr result (self.new.stopped ≡ true) }
     {
         self.stopped = true;
@@ -84,17 +94,19 @@ impl Session {
         command: &Command<'_>,
         gate: &G,
     ) -> Result<Applied, EditError>
-        requires workers { (0 < workers) × (workers ≤ 64) }
+        requires workers { IsWorkerCount workers }
         requires fits { Fits (plain_command command.now) }
-        ensures carried { IfOk result (λ applied. IsCarriedOut self.old self.new (plain_command command.now) applied × IsDealt workers applied) }
+        ensures carried { IfOk result (λ applied.
+            IsCarriedOut self.old self.new (plain_command command.now) applied
+            × IsDealt workers applied) }
         ensures refused { IfErr result (IsRefusedBy self.old self.new (plain_command command.now)) }
     {
         let (applied, _back) = self.apply_kept(rt, workers, command, gate)?;
         Ok(applied)
     }
 
-    /// The same, and the change that leads back. It replaces the rules exactly where the command does, and where an added list gives no
-    /// item, or a report is asked for again, it is [`Change::Nothing`].
+    /// Carries the command out as [`Session::apply`] does, and gives the change that leads back too. That change replaces the rules exactly
+    /// where the command does, and where an added list gives no item, or a report is asked for again, it is [`Change::Nothing`].
     pub fn apply_kept<R: Threads + Sync + AllocGlobal, G: Gate>(
         &mut self,
         rt: &R,
@@ -102,12 +114,17 @@ impl Session {
         command: &Command<'_>,
         gate: &G,
     ) -> Result<(Applied, Change), EditError>
-        requires workers { (0 < workers) × (workers ≤ 64) }
+        requires workers { IsWorkerCount workers }
         requires fits { Fits (plain_command command.now) }
-        ensures carried { IfOk result (λ r. IsCarriedOut self.old self.new (plain_command command.now) r.0 × IsDealt workers r.0) }
-        ensures back { IfOk result (λ r. LeadsBack (plain_change r.1) self.new.state self.old.state) }
-        ensures kind { IfOk result (λ r. is_replace (plain_change r.1) ≡ is_rules (plain_command command.now)) }
-        ensures none { IfOk result (λ r. GivesNoItem self.old.state.board (plain_command command.now) → plain_change r.1 ≡ no_change) }
+        ensures carried { IfOk result (λ r.
+            IsCarriedOut self.old self.new (plain_command command.now) r.0 × IsDealt workers r.0) }
+        ensures back { IfOk result (λ r.
+            LeadsBack (plain_change r.1) self.new.state self.old.state) }
+        ensures kind { IfOk result (λ r. is_replace (plain_change r.1)
+            ≡ is_rules (plain_command command.now)) }
+        ensures none { IfOk result (λ r.
+            GivesNoItem self.old.state.board (plain_command command.now)
+            → plain_change r.1 ≡ no_change) }
         ensures refused { IfErr result (IsRefusedBy self.old self.new (plain_command command.now)) }
     {
         if self.stopped {
@@ -135,12 +152,15 @@ impl Session {
         change: Change,
         gate: &G,
     ) -> Result<(Applied, Change), AllocError>
-        requires workers { (0 < workers) × (workers ≤ 64) }
+        requires workers { IsWorkerCount workers }
         requires running { self.old.stopped ≡ false }
         requires fits { ChangeFits self.old.state (plain_change change) }
-        ensures made { IfOk result (λ r. IsTurned self.old self.new (plain_change change) r.0 × IsDealt workers r.0) }
-        ensures back { IfOk result (λ r. LeadsBack (plain_change r.1) self.new.state self.old.state) }
-        ensures kind { IfOk result (λ r. is_replace (plain_change r.1) ≡ is_replace (plain_change change)) }
+        ensures made { IfOk result (λ r. IsTurned self.old self.new (plain_change change) r.0
+            × IsDealt workers r.0) }
+        ensures back { IfOk result (λ r.
+            LeadsBack (plain_change r.1) self.new.state self.old.state) }
+        ensures kind { IfOk result (λ r. is_replace (plain_change r.1)
+            ≡ is_replace (plain_change change)) }
         ensures stopped { OnErr result (self.new.stopped ≡ true) }
     {
         self.make(rt, workers, edit_in(change), gate)

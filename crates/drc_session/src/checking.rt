@@ -1,9 +1,10 @@
 //! Rows from nothing, and rows after an edit.
 
-ghost use Rattle.std.specs.Prelude.{◌≡◌, ◌<◌, ◌≤◌, true, false, List, length, All, IfOk, pos};
+ghost use Rattle.std.specs.Prelude.{◌≡◌, ◌<◌, true, false, List, length, All, IfOk};
 ghost use Rattle.std.specs.List.Sorted.{IsStrictlyIncreasing};
+ghost use Rattle.plain_types.specs.Limits.{IsWorkerCount};
 ghost use Rattle.geo_seg.specs.declared.boxes.Bounds.{Bounds};
-ghost use Rattle.geo_seg.specs.Boxes.{FitsWithin};
+ghost use Rattle.geo_seg.specs.Boxes.{FitsIndex};
 ghost use Rattle.box_index.specs.Tiles.{dirty_of, held_of};
 ghost use Rattle.pair_check.specs.Views.{checked_by, IsWholeView};
 ghost use Rattle.pair_check.specs.Rows.{Checked, AreRows};
@@ -31,12 +32,13 @@ pub(crate) fn check_all<R: Threads + Sync, G: Gate>(
     index: &TileIndex,
     gate: &G,
 ) -> Result<(Vec<Row>, Applied), AllocError>
-    requires workers { (0 < workers) × (workers ≤ 64) }
+    requires workers { IsWorkerCount workers }
     requires view { IsWholeView view }
     requires index { IsIndexOf (checked_by view) index.now }
     ensures rows { IfOk result (λ r. AreRows (checked_by view.entry) r.0.items) }
     ensures dealt { IfOk result (λ r. IsDealt workers r.1) }
-    ensures tiles { IfOk result (λ r. (boxes : List Bounds) → r.1.tiles.items ≡ dirty_of index.now boxes true) }
+    ensures tiles { IfOk result (λ r. (boxes : List Bounds)
+        → r.1.tiles.items ≡ dirty_of index.now boxes true) }
     ensures held { IfOk result (λ r. r.1.held ≡ length (held_of index.now)) }
 {
     let tiles = index.dirty(&[], true)?;
@@ -67,15 +69,19 @@ pub(crate) fn check_near<R: Threads + Sync, G: Gate>(
     rows: &mut Vec<Row>,
     gate: &G,
 ) -> Result<Applied, AllocError>
-    requires workers { (0 < workers) × (workers ≤ 64) }
+    requires workers { IsWorkerCount workers }
     requires view { IsWholeView near.view }
     requires index { IsIndexOf (checked_by near.view) near.index.now }
     requires changed { IsStrictlyIncreasing near.changed.now }
-    requires boxes { All (FitsWithin (pos 2000000000)) near.boxes.now }
-    requires enough { AreEnough near.index.now near.changed.now (dirty_of near.index.now near.boxes.now false) }
-    ensures rows { (old : Checked) → IsStep old (checked_by near.entry.view) near.entry.changed.now → AreRows old rows.old.items → IfOk result (λ _. AreRows (checked_by near.entry.view) rows.new.items) }
+    requires boxes { All FitsIndex near.boxes.now }
+    requires enough { AreEnough near.index.now near.changed.now
+        (dirty_of near.index.now near.boxes.now false) }
+    ensures rows { (old : Checked) → IsStep old (checked_by near.entry.view) near.entry.changed.now
+        → AreRows old rows.old.items
+        → IfOk result (λ _. AreRows (checked_by near.entry.view) rows.new.items) }
     ensures dealt { IfOk result (λ applied. IsDealt workers applied) }
-    ensures tiles { IfOk result (λ applied. applied.tiles.items ≡ dirty_of near.entry.index.now near.entry.boxes.now false) }
+    ensures tiles { IfOk result (λ applied. applied.tiles.items
+        ≡ dirty_of near.entry.index.now near.entry.boxes.now false) }
     ensures held { IfOk result (λ applied. applied.held ≡ length (held_of near.entry.index.now)) }
 {
     let tiles = near.index.dirty(near.boxes, false)?;

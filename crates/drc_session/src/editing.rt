@@ -1,12 +1,13 @@
 //! Edits of the board.
 
-ghost use Rattle.std.specs.Prelude.{◌≡◌, ◌≢◌, ◌<◌, ◌≤◌, pos, true, false, [], List, length, All, OnOk, IfOk};
+ghost use Rattle.std.specs.Prelude.{◌≡◌, ◌≢◌, ◌<◌, true, false, [], List, length, All, OnOk, IfOk};
 ghost use Rattle.std.specs.List.Sorted.{IsStrictlyIncreasing};
+ghost use Rattle.plain_types.specs.Limits.{AreCounted, IsWorkerCount};
 ghost use Rattle.plain_types.specs.Lengths.{IsLength};
 ghost use Rattle.geo_seg.specs.declared.boxes.Bounds.{Bounds};
-ghost use Rattle.geo_seg.specs.Boxes.{FitsWithin};
+ghost use Rattle.geo_seg.specs.Boxes.{FitsIndex};
 ghost use Rattle.board_items.specs.Boards.{PlainBoard};
-ghost use Rattle.board_index.specs.Holding.{HoldsItems, IsIndexOfItems};
+ghost use Rattle.board_index.specs.Holding.{IsIndexOfItems};
 ghost use Rattle.board_laws.specs.Edits.{IsEdit};
 ghost use Rattle.box_index.specs.Tiles.{dirty_of, held_of};
 ghost use Rattle.rule_pick.specs.AllFacts.{HasFacts};
@@ -93,7 +94,8 @@ fn index_anew(
 ) -> Result<(), AllocError>
     requires reach { IsLength reach }
     requires stays { stays ≡ true → index.old.reach ≡ reach }
-    ensures items { (old : PlainBoard) → IsEdit old board.now ids.now → IsIndexOfItems old index.old → OnOk result (IsIndexOfItems board.now index.new) }
+    ensures items { (old : PlainBoard) → IsEdit old board.now ids.now → IsIndexOfItems old index.old
+        → OnOk result (IsIndexOfItems board.now index.new) }
     ensures reach { OnOk result (index.new.reach ≡ reach) }
 {
     if stays {
@@ -109,18 +111,18 @@ fn nets_anew<R: Threads + Sync>(
     rt: &R,
     workers: u32,
     board: &Board,
-    index: &TileIndex,
     nets: &mut [NetPart],
     ids: &[u32],
     mut touched: Vec<u32>,
 ) -> Result<(), AllocError>
-    requires { HoldsItems board.now index.now }
-    ensures { (old : PlainBoard) → IsEdit old board.now ids.now → HasNetsOf old ids.now touched.items → AreParts old nets.old → OnOk result (AreParts board.now nets.new) }
+    ensures { (old : PlainBoard) → IsEdit old board.now ids.now
+        → HasNetsOf old ids.now touched.items → AreParts old nets.old
+        → OnOk result (AreParts board.now nets.new) }
 {
     let alloc = *touched.allocator();
     push_nets(board, ids, &mut touched)?;
     put_in_order(&mut touched);
-    renew_parts(rt, alloc, workers, board, index, nets, &touched)
+    renew_parts(rt, alloc, workers, board, nets, &touched)
 }
 
 /// What an edit stirred: the ids of all that changed, rising, the boxes that those of the edit had, and whether the reach is as
@@ -132,8 +134,8 @@ pub(crate) struct Stirred {
     pub(crate) stays: bool,
 }
 
-/// Makes the rows those of what is checked now.
-fn rows_anew<R: Threads + Sync, G: Gate>(
+/// Makes the rows before an edit those of what is checked now: where the reach stays only the tiles near what changed are gone through.
+fn rows_after<R: Threads + Sync, G: Gate>(
     rt: &R,
     alloc: Global,
     workers: u32,
@@ -141,16 +143,23 @@ fn rows_anew<R: Threads + Sync, G: Gate>(
     stirred: Stirred,
     gate: &G,
 ) -> Result<Applied, AllocError>
-    requires workers { (0 < workers) × (workers ≤ 64) }
+    requires workers { IsWorkerCount workers }
     requires facts { HasFacts parts.old.board parts.old.classes parts.old.facts }
-    requires few { length parts.old.rules.rules < 4294967295 }
+    requires few { AreCounted parts.old.rules.rules }
     requires index { IsIndexOf (checked_in (state_of parts.old)) parts.old.index }
     requires changed { IsStrictlyIncreasing stirred.changed.items }
-    requires boxes { All (FitsWithin (pos 2000000000)) stirred.boxes.items }
-    ensures rows { (old : Checked) → IsStep old (checked_in (state_of parts.old)) stirred.changed.items → AreRows old parts.old.rows.items → OnOk result (AreRows (checked_in (state_of parts.old)) parts.new.rows.items) }
+    requires boxes { All FitsIndex stirred.boxes.items }
+    ensures rows { (old : Checked)
+        → IsStep old (checked_in (state_of parts.old)) stirred.changed.items
+        → AreRows old parts.old.rows.items
+        → OnOk result (AreRows (checked_in (state_of parts.old)) parts.new.rows.items) }
     ensures rest { parts.new ≡ record parts.old { rows = parts.new.rows } }
-    ensures near { stirred.stays ≡ true → IfOk result (λ applied. AreTilesNear parts.old.board parts.old.index stirred.changed.items stirred.boxes.items applied.tiles.items) }
-    ensures all { stirred.stays ≡ false → IfOk result (λ applied. (boxes : List Bounds) → applied.tiles.items ≡ dirty_of parts.old.index boxes true) }
+    ensures near { stirred.stays ≡ true → IfOk result (λ applied.
+        AreTilesNear parts.old.board parts.old.index stirred.changed.items stirred.boxes.items
+        applied.tiles.items) }
+    ensures all { stirred.stays ≡ false
+        → IfOk result (λ applied. (boxes : List Bounds)
+        → applied.tiles.items ≡ dirty_of parts.old.index boxes true) }
     ensures dealt { IfOk result (λ applied. IsDealt workers applied) }
     ensures held { IfOk result (λ applied. applied.held ≡ length (held_of parts.old.index)) }
 {
@@ -198,11 +207,13 @@ fn find_anew<R: Threads + Sync, G: Gate>(
     look: Look,
     gate: &G,
 ) -> Result<Applied, AllocError>
-    requires workers { (0 < workers) × (workers ≤ 64) }
+    requires workers { IsWorkerCount workers }
     requires edited { (old : PlainBoard) × IsEditedFrom old parts.old ids.now look }
     ensures kept { OnOk result (IsKept parts.new) }
     ensures state { OnOk result (state_of parts.new ≡ state_of parts.old) }
-    ensures applied { (old : PlainBoard) → IsEditedFrom old parts.old ids.now look → IfOk result (λ applied. IsApplied (state_with old parts.old) (state_of parts.new) false applied) }
+    ensures applied { (old : PlainBoard) → IsEditedFrom old parts.old ids.now look
+        → IfOk result (λ applied.
+        IsApplied (state_with old parts.old) (state_of parts.new) false applied) }
     ensures dealt { IfOk result (λ applied. IsDealt workers applied) }
 {
     let rules = parts.rules.rules.as_slice();
@@ -226,21 +237,13 @@ fn find_anew<R: Threads + Sync, G: Gate>(
         ids,
         &look.marks,
     )?;
-    nets_anew(
-        rt,
-        workers,
-        &parts.board,
-        &parts.index,
-        &mut parts.nets,
-        ids,
-        look.nets,
-    )?;
+    nets_anew(rt, workers, &parts.board, &mut parts.nets, ids, look.nets)?;
     let stirred = Stirred {
         changed,
         boxes: look.boxes,
         stays,
     };
-    let applied = rows_anew(rt, alloc, workers, parts, stirred, gate)?;
+    let applied = rows_after(rt, alloc, workers, parts, stirred, gate)?;
     Ok(applied)
 }
 
@@ -253,13 +256,17 @@ pub(crate) fn edit_board<R: Threads + Sync, G: Gate>(
     deed: Deed,
     gate: &G,
 ) -> Result<(Applied, Deed), AllocError>
-    requires workers { (0 < workers) × (workers ≤ 64) }
+    requires workers { IsWorkerCount workers }
     requires kept { IsKept parts.old }
     requires fits { DeedFits parts.old.board (plain_deed deed) }
     ensures kept { OnOk result (IsKept parts.new) }
-    ensures makes { OnOk result (Makes (edit (plain_deed deed)) (state_of parts.old) (state_of parts.new)) }
-    ensures applied { IfOk result (λ r. IsApplied (state_of parts.old) (state_of parts.new) false r.0 × IsDealt workers r.0) }
-    ensures back { IfOk result (λ r. LeadsBack (edit (plain_deed r.1)) (state_of parts.new) (state_of parts.old) × AddsNone (plain_deed r.1)) }
+    ensures makes { OnOk result
+        (Makes (edit (plain_deed deed)) (state_of parts.old) (state_of parts.new)) }
+    ensures applied { IfOk result (λ r.
+        IsApplied (state_of parts.old) (state_of parts.new) false r.0 × IsDealt workers r.0) }
+    ensures back { IfOk result (λ r.
+        LeadsBack (edit (plain_deed r.1)) (state_of parts.new) (state_of parts.old)
+        × AddsNone (plain_deed r.1)) }
     ensures none { IfOk result (λ r. GivesNothing (plain_deed deed) → plain_deed r.1 ≡ nothing) }
 {
     let touched = ids_touched(alloc, &parts.board, &deed)?;

@@ -24,7 +24,7 @@ fn renew_entry(board: &Board, index: &mut TileIndex, id: u32) -> Result<(), Allo
     }
 }
 
-/// The same for each of these ids.
+/// Takes out the entry of each of these ids, and puts in that of the item of the id as it is now, if it has bounds.
 fn renew_entries(board: &Board, index: &mut TileIndex, ids: &[u32]) -> Result<(), AllocError>
     ensures renewed { OnOk result (IsRenewed board.now ids.now index.old index.new) }
     ensures reach { index.new.reach ≡ index.old.reach }
@@ -43,7 +43,8 @@ pub(crate) fn renew_index(
     index: &mut TileIndex,
     ids: &[u32],
 ) -> Result<(), AllocError>
-    ensures items { (old : PlainBoard) → IsEdit old board.now ids.now → IsIndexOfItems old index.old → OnOk result (IsIndexOfItems board.now index.new) }
+    ensures items { (old : PlainBoard) → IsEdit old board.now ids.now → IsIndexOfItems old index.old
+        → OnOk result (IsIndexOfItems board.now index.new) }
     ensures reach { index.new.reach ≡ index.old.reach }
 {
     renew_entries(board, index, ids)

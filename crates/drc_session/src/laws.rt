@@ -13,11 +13,17 @@ ghost use Rattle.drc_session.specs.Looks.{AreBoxesIn, IsNotedEdit};
 
 /// The boxes that an edit's ids had, and those that all changed ids have now, are those of all that differs.
 pub fn boxes_of()
-    ensures { (old : Checked) (new : PlainBoard) (ids changed : List ℕ) (kept now : List (Option Facts)) → IsNotedEdit old.board new old.classes ids kept now changed
-        → (was is : List Bounds) → AreBoxesIn old.board ids was → AreBoxesIn new changed is → AreBoxesOf old (record old { board = new }) (was ++ is) }
+    ensures { (old : Checked) (new : PlainBoard) (ids changed : List ℕ)
+        (kept now : List (Option Facts))
+        → IsNotedEdit old.board new old.classes ids kept now changed → (was is : List Bounds)
+        → AreBoxesIn old.board ids was → AreBoxesIn new changed is
+        → AreBoxesOf old (record old { board = new }) (was ++ is) }
 {}
 
 /// The tiles that the boxes of what changed find are enough: each tile with an entry that changed is among them.
 pub fn enough_tiles()
-    ensures { (c : Checked) (index : PlainIndex) → IsIndexOf c index → (changed : List ℕ) (was_boxes is_boxes : List Bounds) → AreBoxesIn c.board changed is_boxes → AreEnough index changed (dirty_of index (was_boxes ++ is_boxes) false) }
+    ensures { (c : Checked) (index : PlainIndex) → IsIndexOf c index
+        → (changed : List ℕ) (was_boxes is_boxes : List Bounds)
+        → AreBoxesIn c.board changed is_boxes
+        → AreEnough index changed (dirty_of index (was_boxes ++ is_boxes) false) }
 {}

@@ -1,8 +1,8 @@
 //! What is looked up of the items of some ids, before an edit and after it.
 
-ghost use Rattle.std.specs.Prelude.{◌≡◌, ◌++◌, ◌∷◌, [], pos, All, Contains, OnOk, IfSome, List, ℕ};
+ghost use Rattle.std.specs.Prelude.{◌≡◌, ◌++◌, ◌∷◌, [], All, Contains, OnOk, IfSome, List, ℕ};
 ghost use Rattle.geo_seg.specs.declared.boxes.Bounds.{Bounds};
-ghost use Rattle.geo_seg.specs.Boxes.{FitsWithin};
+ghost use Rattle.geo_seg.specs.Boxes.{FitsIndex};
 ghost use Rattle.drc_session.specs.Looks.{IsBoxAt, AreBoxesIn, HasNetsOf};
 
 use board_items::Board;
@@ -12,7 +12,7 @@ use std::alloc::AllocError;
 /// The box of the item of the id; None where there is no such item, and where it has no bounds.
 pub(crate) fn box_of(board: &Board, id: u32) -> Option<Bounds>
     ensures own { IsBoxAt board.now id result }
-    ensures fits { IfSome result (FitsWithin (pos 2000000000)) }
+    ensures fits { IfSome result FitsIndex }
 {
     match board.get(id) {
         None => None,
@@ -22,8 +22,10 @@ pub(crate) fn box_of(board: &Board, id: u32) -> Option<Bounds>
 
 /// Appends the box of the item of the id, if it has one.
 fn push_box(board: &Board, id: u32, boxes: &mut Vec<Bounds>) -> Result<(), AllocError>
-    ensures boxes { OnOk result ((found : List Bounds) × (boxes.new.items ≡ boxes.old.items ++ found) × AreBoxesIn board.now (id ∷ []) found) }
-    ensures fit { OnOk result (All (FitsWithin (pos 2000000000)) boxes.old.items → All (FitsWithin (pos 2000000000)) boxes.new.items) }
+    ensures boxes { OnOk result
+        ((found : List Bounds) × (boxes.new.items ≡ boxes.old.items ++ found)
+        × AreBoxesIn board.now (id ∷ []) found) }
+    ensures fit { OnOk result (All FitsIndex boxes.old.items → All FitsIndex boxes.new.items) }
 {
     if let Some(bounds) = box_of(board, id) {
         boxes.push(bounds)?;
@@ -37,8 +39,10 @@ pub(crate) fn push_boxes(
     ids: &[u32],
     boxes: &mut Vec<Bounds>,
 ) -> Result<(), AllocError>
-    ensures boxes { OnOk result ((found : List Bounds) × (boxes.new.items ≡ boxes.old.items ++ found) × AreBoxesIn board.now ids.now found) }
-    ensures fit { OnOk result (All (FitsWithin (pos 2000000000)) boxes.old.items → All (FitsWithin (pos 2000000000)) boxes.new.items) }
+    ensures boxes { OnOk result
+        ((found : List Bounds) × (boxes.new.items ≡ boxes.old.items ++ found)
+        × AreBoxesIn board.now ids.now found) }
+    ensures fit { OnOk result (All FitsIndex boxes.old.items → All FitsIndex boxes.new.items) }
 {
     for id in ids {
         push_box(board, *id, boxes)?;
@@ -48,7 +52,8 @@ pub(crate) fn push_boxes(
 
 /// Appends the net of the item of the id, if there is one.
 fn push_net(board: &Board, id: u32, nets: &mut Vec<u32>) -> Result<(), AllocError>
-    ensures kept { OnOk result ((net : ℕ) → Contains nets.old.items net → Contains nets.new.items net) }
+    ensures kept { OnOk result
+        ((net : ℕ) → Contains nets.old.items net → Contains nets.new.items net) }
     ensures nets { OnOk result (HasNetsOf board.now (id ∷ []) nets.new.items) }
 {
     if let Some(item) = board.get(id) {
@@ -59,7 +64,8 @@ fn push_net(board: &Board, id: u32, nets: &mut Vec<u32>) -> Result<(), AllocErro
 
 /// Appends the nets of the items of these ids.
 pub(crate) fn push_nets(board: &Board, ids: &[u32], nets: &mut Vec<u32>) -> Result<(), AllocError>
-    ensures kept { OnOk result ((net : ℕ) → Contains nets.old.items net → Contains nets.new.items net) }
+    ensures kept { OnOk result
+        ((net : ℕ) → Contains nets.old.items net → Contains nets.new.items net) }
     ensures nets { OnOk result (HasNetsOf board.now ids.now nets.new.items) }
 {
     for id in ids {

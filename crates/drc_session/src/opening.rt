@@ -1,6 +1,7 @@
 //! Sessions that begin.
 
-ghost use Rattle.std.specs.Prelude.{◌≡◌, ◌<◌, ◌≤◌, false, length, map, IfOk};
+ghost use Rattle.std.specs.Prelude.{◌≡◌, ◌<◌, false, map, IfOk};
+ghost use Rattle.plain_types.specs.Limits.{AreCounted, IsWorkerCount};
 ghost use Rattle.cond_lang.specs.Rules.{plain_rule};
 ghost use Rattle.rule_pick.specs.AllFacts.{HasFacts};
 ghost use Rattle.net_groups.specs.NetParts.{AreParts};
@@ -33,40 +34,72 @@ fn reach_and_index(
     classes: &Classes,
     rules: &[Rule],
 ) -> Result<(Nm, TileIndex), AllocError>
-    ensures { IfOk result (λ r. IsReached board.now classes.now (map plain_rule rules.now) r.0 r.1) }
+    ensures { IfOk result (λ r.
+        IsReached board.now classes.now (map plain_rule rules.now) r.0 r.1) }
 {
     let reach = reach(board, classes, rules);
     let index = index_of(alloc, board, reach)?;
     Ok((reach, index))
 }
 
-/// The facts of all items, and beside them the reach and the index.
-fn facts_beside_index(
+/// The reach and the index, and beside them the nets.
+fn index_beside_nets(
     rt: &(impl Threads + Sync),
     alloc: Global,
     workers: u32,
     board: &Board,
     classes: &Classes,
     rules: &[Rule],
-) -> Result<(FactsById, (Nm, TileIndex)), AllocError>
-    ensures facts { IfOk result (λ r. HasFacts board.now classes.now r.0) }
-    ensures reached { IfOk result (λ r. IsReached board.now classes.now (map plain_rule rules.now) r.1.0 r.1.1) }
+) -> Result<((Nm, TileIndex), Vec<NetPart>), AllocError>
+    ensures reached { IfOk result (λ r.
+        IsReached board.now classes.now (map plain_rule rules.now) r.0.0 r.0.1) }
+    ensures nets { IfOk result (λ r. AreParts board.now r.1.items) }
 {
-    let (facts, found) = join(
+    let (found, nets) = join(
+        rt,
+        || -> Result<(Nm, TileIndex), AllocError>
+            ensures { IfOk result (λ r.
+                IsReached board.entry.now classes.entry.now
+                (map plain_rule rules.entry.now) r.0 r.1) }
+        { reach_and_index(alloc, board, classes, rules) },
+        || -> Result<Vec<NetPart>, AllocError>
+            ensures { IfOk result (λ nets. AreParts board.entry.now nets.items) }
+        { all_parts(rt, alloc, workers, board) },
+    );
+    Ok((found?, nets?))
+}
+
+/// The facts of all items, and beside them the reach and the index, and the nets.
+fn find_beside(
+    rt: &(impl Threads + Sync),
+    alloc: Global,
+    workers: u32,
+    board: &Board,
+    classes: &Classes,
+    rules: &[Rule],
+) -> Result<(FactsById, (Nm, TileIndex), Vec<NetPart>), AllocError>
+    ensures facts { IfOk result (λ r. HasFacts board.now classes.now r.0) }
+    ensures reached { IfOk result (λ r.
+        IsReached board.now classes.now (map plain_rule rules.now) r.1.0 r.1.1) }
+    ensures nets { IfOk result (λ r. AreParts board.now r.2.items) }
+{
+    let (facts, rest) = join(
         rt,
         || -> Result<FactsById, AllocError>
             ensures { IfOk result (HasFacts board.entry.now classes.entry.now) }
         { all_facts_by(rt, alloc, workers, board, classes) },
-        || -> Result<(Nm, TileIndex), AllocError>
-            ensures { IfOk result (λ r. IsReached board.entry.now classes.entry.now (map plain_rule rules.entry.now) r.0 r.1) }
-        { reach_and_index(alloc, board, classes, rules) },
+        || -> Result<((Nm, TileIndex), Vec<NetPart>), AllocError>
+            ensures { IfOk result (λ r.
+                IsReached board.entry.now classes.entry.now
+                (map plain_rule rules.entry.now) r.0.0 r.0.1 × AreParts board.entry.now r.1.items) }
+        { index_beside_nets(rt, alloc, workers, board, classes, rules) },
     );
-    Ok((facts?, found?))
+    let (found, nets) = rest?;
+    Ok((facts?, found, nets))
 }
 
-/// The facts of all items, the reach and the index, and the nets. By one worker the nets come before the facts, which stay: a large
-/// net takes room for a while, more than its facts take. By several the facts and the index are found beside each other, and the nets
-/// behind both.
+/// The facts of all items, the reach and the index, and the nets. By one worker the nets come first, since all of it stays: a large
+/// net takes room for a while, more than its facts take. By several workers the three are found beside each other.
 fn find(
     rt: &(impl Threads + Sync),
     alloc: Global,
@@ -76,18 +109,17 @@ fn find(
     rules: &[Rule],
 ) -> Result<(FactsById, (Nm, TileIndex), Vec<NetPart>), AllocError>
     ensures facts { IfOk result (λ r. HasFacts board.now classes.now r.0) }
-    ensures reached { IfOk result (λ r. IsReached board.now classes.now (map plain_rule rules.now) r.1.0 r.1.1) }
+    ensures reached { IfOk result (λ r.
+        IsReached board.now classes.now (map plain_rule rules.now) r.1.0 r.1.1) }
     ensures nets { IfOk result (λ r. AreParts board.now r.2.items) }
 {
     if workers == 1 {
+        let nets = all_parts(rt, alloc, workers, board)?;
         let found = reach_and_index(alloc, board, classes, rules)?;
-        let nets = all_parts(rt, alloc, workers, board, &found.1)?;
         let facts = all_facts_by(rt, alloc, workers, board, classes)?;
         return Ok((facts, found, nets));
     }
-    let (facts, found) = facts_beside_index(rt, alloc, workers, board, classes, rules)?;
-    let nets = all_parts(rt, alloc, workers, board, &found.1)?;
-    Ok((facts, found, nets))
+    find_beside(rt, alloc, workers, board, classes, rules)
 }
 
 /// All that is found of the board.
@@ -100,10 +132,11 @@ fn open<R: Threads + Sync, G: Gate>(
     rules: Rules,
     gate: &G,
 ) -> Result<(Parts, Applied), AllocError>
-    requires workers { (0 < workers) × (workers ≤ 64) }
-    requires few { length rules.rules < 4294967295 }
+    requires workers { IsWorkerCount workers }
+    requires few { AreCounted rules.rules }
     ensures kept { IfOk result (λ r. IsKept r.0) }
-    ensures state { IfOk result (λ r. state_of r.0 ≡ record { board = board; classes = classes; rules = plain_rules rules }) }
+    ensures state { IfOk result (λ r. state_of r.0
+        ≡ record { board = board; classes = classes; rules = plain_rules rules }) }
     ensures applied { IfOk result (λ r. IsOpened (state_of r.0) r.1 × IsDealt workers r.1) }
 {
     let found = find(rt, alloc, workers, &board, &classes, rules.rules.as_slice());
@@ -151,9 +184,10 @@ impl Session {
         rules: Rules,
         gate: &G,
     ) -> Result<(Session, Applied), AllocError>
-        requires workers { (0 < workers) × (workers ≤ 64) }
-        requires few { length rules.rules < 4294967295 }
-        ensures state { IfOk result (λ r. r.0.state ≡ record { board = board; classes = classes; rules = plain_rules rules }) }
+        requires workers { IsWorkerCount workers }
+        requires few { AreCounted rules.rules }
+        ensures state { IfOk result (λ r. r.0.state
+            ≡ record { board = board; classes = classes; rules = plain_rules rules }) }
         ensures running { IfOk result (λ r. r.0.stopped ≡ false) }
         ensures applied { IfOk result (λ r. IsOpened r.0.state r.1 × IsDealt workers r.1) }
     {

@@ -81,7 +81,10 @@ pub(crate) fn reach_after(
     asked: bool,
 ) -> Nm
     requires { IsLength reach }
-    ensures value { (old : PlainBoard) → IsEdit old board.now ids.now → (asked ≡ false → AsksNone old ids.now reach) → IsReach old classes.now (map plain_rule rules.now) reach → IsReach board.now classes.now (map plain_rule rules.now) result }
+    ensures value { (old : PlainBoard) → IsEdit old board.now ids.now
+        → (asked ≡ false → AsksNone old ids.now reach)
+        → IsReach old classes.now (map plain_rule rules.now) reach
+        → IsReach board.now classes.now (map plain_rule rules.now) result }
     ensures in_range { IsLength result }
 {
     if asked {

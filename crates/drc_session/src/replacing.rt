@@ -1,6 +1,7 @@
 //! Rules that take the place of others.
 
-ghost use Rattle.std.specs.Prelude.{◌≡◌, ◌<◌, ◌≤◌, true, length, OnOk, IfOk};
+ghost use Rattle.std.specs.Prelude.{◌≡◌, ◌<◌, true, OnOk, IfOk};
+ghost use Rattle.plain_types.specs.Limits.{AreCounted, IsWorkerCount};
 ghost use Rattle.plain_types.specs.Lengths.{IsLength};
 ghost use Rattle.rule_text.specs.Views.{plain_rules};
 ghost use Rattle.board_index.specs.Holding.{IsIndexOfItems};
@@ -25,8 +26,10 @@ fn reach_anew(alloc: Global, parts: &mut Parts) -> Result<(), AllocError>
     requires items { IsIndexOfItems parts.old.board parts.old.index }
     requires reach { (parts.old.reach ≡ parts.old.index.reach) × IsLength parts.old.reach }
     ensures index { OnOk result (IsIndexOf (checked_in (state_of parts.new)) parts.new.index) }
-    ensures reach { OnOk result ((parts.new.reach ≡ parts.new.index.reach) × IsLength parts.new.reach) }
-    ensures rest { parts.new ≡ record parts.old { index = parts.new.index; reach = parts.new.reach } }
+    ensures reach { OnOk result
+        ((parts.new.reach ≡ parts.new.index.reach) × IsLength parts.new.reach) }
+    ensures rest { parts.new
+        ≡ record parts.old { index = parts.new.index; reach = parts.new.reach } }
 {
     let reach = reach(&parts.board, &parts.classes, parts.rules.rules.as_slice());
     if reach != parts.reach {
@@ -45,12 +48,14 @@ pub(crate) fn replace_rules<R: Threads + Sync, G: Gate>(
     rules: Rules,
     gate: &G,
 ) -> Result<(Applied, Rules), AllocError>
-    requires workers { (0 < workers) × (workers ≤ 64) }
+    requires workers { IsWorkerCount workers }
     requires kept { IsKept parts.old }
-    requires few { length rules.rules < 4294967295 }
+    requires few { AreCounted rules.rules }
     ensures kept { OnOk result (IsKept parts.new) }
-    ensures state { OnOk result (state_of parts.new ≡ record (state_of parts.old) { rules = plain_rules rules }) }
-    ensures applied { IfOk result (λ r. IsApplied (state_of parts.old) (state_of parts.new) true r.0 × IsDealt workers r.0) }
+    ensures state { OnOk result
+        (state_of parts.new ≡ record (state_of parts.old) { rules = plain_rules rules }) }
+    ensures applied { IfOk result (λ r. IsApplied (state_of parts.old) (state_of parts.new) true r.0
+        × IsDealt workers r.0) }
     ensures back { IfOk result (λ r. r.1 ≡ parts.old.rules) }
 {
     let before = std::mem::replace(&mut parts.rules, rules);

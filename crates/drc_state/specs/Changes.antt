@@ -1,5 +1,6 @@
 -- Changes of a state, and which lead back.
-use Rattle.std.specs.Prelude.{◌≡◌, ◌<◌, Bool, true, false, length, map}
+use Rattle.std.specs.Prelude.{◌≡◌, Bool, true, false, map}
+use Rattle.plain_types.specs.Limits.{AreCounted}
 use Rattle.board_items.specs.Back.{kept_entry}
 use Rattle.rule_text.specs.RulesOf.{PlainRules}
 use Rattle.rule_text.specs.Views.{plain_rules}
@@ -53,7 +54,7 @@ Makes (replace rules) old new = new ≡ record old { rules = rules }
 -- the state takes it. Rules have numbers below 2 ^ 32 - 1
 abbrev pub ChangeFits : State → PlainChange → Type 0
 ChangeFits s (edit deed) = DeedFits s.board deed
-ChangeFits s (replace rules) = length rules.rules < 4294967295
+ChangeFits s (replace rules) = AreCounted rules.rules
 
 -- a state that comes back goes on with the numbers of the present, so that none is given twice
 abbrev pub returned : State → State → State

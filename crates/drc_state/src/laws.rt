@@ -19,7 +19,8 @@ use rule_text::laws::one_list_reading;
 
 /// A command has one answer.
 pub fn one_answer()
-    ensures { (s : State) (command : PlainCommand) (a b : Result State EditError) → Answers s command a → Answers s command b → a ≡ b }
+    ensures { (s : State) (command : PlainCommand) (a b : Result State EditError)
+        → Answers s command a → Answers s command b → a ≡ b }
 {
     one_deed();
     one_board();
@@ -28,7 +29,8 @@ pub fn one_answer()
 
 /// A change makes one state of another.
 pub fn one_state()
-    ensures { (change : PlainChange) (old a b : State) → Makes change old a → Makes change old b → a ≡ b }
+    ensures { (change : PlainChange) (old a b : State) → Makes change old a → Makes change old b
+        → a ≡ b }
 {
     one_board();
 }
@@ -36,26 +38,33 @@ pub fn one_state()
 /// What is checked has one reach, and one list of tiles that hold an item.
 pub fn one_list_held()
     ensures reach { (c : Checked) (a b : ℤ) → IsFarthest c a → IsFarthest c b → a ≡ b }
-    ensures tiles { (c : Checked) (tiles others : List ℕ) → AreHeld c tiles → AreHeld c others → tiles ≡ others }
+    ensures tiles { (c : Checked) (tiles others : List ℕ) → AreHeld c tiles → AreHeld c others
+        → tiles ≡ others }
 {
     one_list_of_tiles();
 }
 
 /// After a change one list of tiles is gone through again.
 pub fn one_recheck()
-    ensures { (old new : Checked) (replaced : Bool) (tiles others : List ℕ) → AreRechecked old new replaced tiles → AreRechecked old new replaced others → tiles ≡ others }
+    ensures { (old new : Checked) (replaced : Bool) (tiles others : List ℕ)
+        → AreRechecked old new replaced tiles → AreRechecked old new replaced others
+        → tiles ≡ others }
 {
     one_list_held();
 }
 
 /// The tiles that an index of what is checked now finds by the boxes of all that differs are those that are gone through again.
 pub fn near_tiles()
-    ensures { (old new : Checked) (index : PlainIndex) → IsIndexOf new index → IsFarthest old index.reach → (boxes : List Bounds) → AreBoxesOf old new boxes → AreRechecked old new false (dirty_of index boxes false) }
+    ensures { (old new : Checked) (index : PlainIndex) → IsIndexOf new index
+        → IsFarthest old index.reach → (boxes : List Bounds) → AreBoxesOf old new boxes
+        → AreRechecked old new false (dirty_of index boxes false) }
 {}
 
 /// Where the rules were replaced or the reach differs, those are all that hold an item.
 pub fn all_tiles()
-    ensures { (old new : Checked) (index : PlainIndex) → IsIndexOf new index → (boxes : List Bounds) (replaced : Bool) → (replaced ≡ true) ⊎ ReachDiffers old new → AreRechecked old new replaced (dirty_of index boxes true) }
+    ensures { (old new : Checked) (index : PlainIndex) → IsIndexOf new index
+        → (boxes : List Bounds) (replaced : Bool) → (replaced ≡ true) ⊎ ReachDiffers old new
+        → AreRechecked old new replaced (dirty_of index boxes true) }
 {
     tiles_held();
 }

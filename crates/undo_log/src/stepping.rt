@@ -1,6 +1,7 @@
 //! Steps of a history.
 
-ghost use Rattle.std.specs.Prelude.{◌≡◌, ◌<◌, ◌≤◌, ◌↔◌, ℕ, false, [], IfOk, IfErr, Err};
+ghost use Rattle.std.specs.Prelude.{◌≡◌, ◌<◌, ◌↔◌, ℕ, false, [], IfOk, IfErr, Err};
+ghost use Rattle.plain_types.specs.Limits.{IsWorkerCount};
 ghost use Rattle.edit_script.specs.Commands.{plain_command, edit, undo, redo};
 ghost use Rattle.edit_script.specs.Fits.{Fits};
 ghost use Rattle.drc_session.specs.Sessions.{IsDealt};
@@ -29,10 +30,13 @@ impl History {
         command: &Command<'_>,
         gate: &G,
     ) -> Result<Applied, HistoryError>
-        requires workers { (0 < workers) × (workers ≤ 64) }
+        requires workers { IsWorkerCount workers }
         requires fits { Fits (plain_command command.now) }
-        ensures taken { IfOk result (λ applied. IsTaken self.old self.new (edit (plain_command command.now)) applied × IsDealt workers applied) }
-        ensures refused { IfErr result (IsRefused self.old self.new (edit (plain_command command.now))) }
+        ensures taken { IfOk result (λ applied.
+            IsTaken self.old self.new (edit (plain_command command.now)) applied
+            × IsDealt workers applied) }
+        ensures refused { IfErr result
+            (IsRefused self.old self.new (edit (plain_command command.now))) }
     {
         if self.stopped {
             return Err(HistoryError::Stopped);
@@ -63,10 +67,13 @@ impl History {
         workers: u32,
         gate: &G,
     ) -> Result<Applied, HistoryError>
-        requires workers { (0 < workers) × (workers ≤ 64) }
-        ensures taken { (at : ℕ) → IfOk result (λ applied. IsTaken self.old self.new (undo at) applied × IsDealt workers applied) }
+        requires workers { IsWorkerCount workers }
+        ensures taken { (at : ℕ)
+            → IfOk result (λ applied. IsTaken self.old self.new (undo at) applied
+            × IsDealt workers applied) }
         ensures refused { (at : ℕ) → IfErr result (IsRefused self.old self.new (undo at)) }
-        ensures none { (result ≡ Err NothingToUndo) ↔ ((self.old.stopped ≡ false) × (self.old.back ≡ [])) }
+        ensures none { (result ≡ Err NothingToUndo) ↔
+            ((self.old.stopped ≡ false) × (self.old.back ≡ [])) }
     {
         one_undo();
         if self.stopped {
@@ -96,10 +103,13 @@ impl History {
         workers: u32,
         gate: &G,
     ) -> Result<Applied, HistoryError>
-        requires workers { (0 < workers) × (workers ≤ 64) }
-        ensures taken { (at : ℕ) → IfOk result (λ applied. IsTaken self.old self.new (redo at) applied × IsDealt workers applied) }
+        requires workers { IsWorkerCount workers }
+        ensures taken { (at : ℕ)
+            → IfOk result (λ applied. IsTaken self.old self.new (redo at) applied
+            × IsDealt workers applied) }
         ensures refused { (at : ℕ) → IfErr result (IsRefused self.old self.new (redo at)) }
-        ensures none { (result ≡ Err NothingToRedo) ↔ ((self.old.stopped ≡ false) × (self.old.on ≡ [])) }
+        ensures none { (result ≡ Err NothingToRedo) ↔
+            ((self.old.stopped ≡ false) × (self.old.on ≡ [])) }
     {
         one_redo();
         if self.stopped {

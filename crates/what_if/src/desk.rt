@@ -1,6 +1,7 @@
 //! A copy of a session on which commands are tried one after another, each turned back before the next.
 
-ghost use Rattle.std.specs.Prelude.{◌≡◌, ◌<◌, ◌≤◌, false, Ok, IfOk, IfErr};
+ghost use Rattle.std.specs.Prelude.{◌≡◌, ◌<◌, false, Ok, IfOk, IfErr};
+ghost use Rattle.plain_types.specs.Limits.{IsWorkerCount};
 ghost use Rattle.edit_script.specs.Commands.{plain_command};
 ghost use Rattle.edit_script.specs.Fits.{Fits};
 ghost use Rattle.drc_state.specs.Steps.{Answers};
@@ -82,11 +83,12 @@ impl<'a> Desk<'a> {
         command: &Command<'_>,
         gate: &G,
     ) -> Result<(Session, Change), TrialError>
-        requires workers { (0 < workers) × (workers ≤ 64) }
+        requires workers { IsWorkerCount workers }
         requires fits { Fits (plain_command command.now) }
         ensures same { self.new ≡ self.old }
         ensures running { IfOk result (λ r. r.0.stopped ≡ false) }
-        ensures answer { IfOk result (λ r. Answers self.old.state (plain_command command.now) (Ok r.0.state)) }
+        ensures answer { IfOk result (λ r.
+            Answers self.old.state (plain_command command.now) (Ok r.0.state)) }
         ensures back { IfOk result (λ r. LeadsBack (plain_change r.1) r.0.state self.old.state) }
         ensures refused { IfErr result (IsRefusedAt self.old.state (plain_command command.now) 0) }
     {
@@ -116,7 +118,7 @@ impl<'a> Desk<'a> {
         mut copy: Session,
         back: Change,
     )
-        requires workers { (0 < workers) × (workers ≤ 64) }
+        requires workers { IsWorkerCount workers }
         requires running { copy.stopped ≡ false }
         requires answer { Answers self.old.state (plain_command command.now) (Ok copy.state) }
         requires back { LeadsBack (plain_change back) copy.state self.old.state }

@@ -27,8 +27,10 @@ fn comes_before(row: &Row, other: &Row) -> bool
 fn past(others: &[Row], from: usize, row: &Row) -> usize
     requires { from ≤ length others.now }
     ensures range { (from ≤ result) × (result ≤ length others.now) }
-    ensures before { (k : ℕ) (d : PlainRow) → from ≤ k → k < result → Before (slice_index_or others.now k d) row.now }
-    ensures stops { (d : PlainRow) → result < length others.now → ¬ (Before (slice_index_or others.now result d) row.now) }
+    ensures before { (k : ℕ) (d : PlainRow) → from ≤ k → k < result
+        → Before (slice_index_or others.now k d) row.now }
+    ensures stops { (d : PlainRow) → result < length others.now
+        → ¬ (Before (slice_index_or others.now result d) row.now) }
 {
     for at in from..others.len() {
         if !comes_before(&others[at], row) {
@@ -40,7 +42,8 @@ fn past(others: &[Row], from: usize, row: &Row) -> usize
 
 /// Whether the row stands at the place.
 fn stands_at(others: &[Row], at: usize, row: &Row) -> bool
-    ensures { MatchBool result (slice_get others.now at ≡ Some row.now) (slice_get others.now at ≢ Some row.now) }
+    ensures { MatchBool result (slice_get others.now at ≡ Some row.now)
+        (slice_get others.now at ≢ Some row.now) }
 {
     one_row();
     match others.get(at) {
@@ -52,9 +55,12 @@ fn stands_at(others: &[Row], at: usize, row: &Row) -> bool
 /// Appends the row where it does not stand among the others. `at` is the first place there at which no row stands that comes before it.
 fn push_missing(only: &mut Vec<Row>, others: &[Row], at: usize, row: &Row) -> Result<(), AllocError>
     requires ordered { AllPairs Before others.now }
-    requires before { (k : ℕ) (d : PlainRow) → k < at → Before (slice_index_or others.now k d) row.now }
-    requires stops { (d : PlainRow) → at < length others.now → ¬ (Before (slice_index_or others.now at d) row.now) }
-    ensures { OnOk result (only.new.items ≡ only.old.items ++ rows_not_in others.now (row.now ∷ [])) }
+    requires before { (k : ℕ) (d : PlainRow) → k < at
+        → Before (slice_index_or others.now k d) row.now }
+    requires stops { (d : PlainRow) → at < length others.now
+        → ¬ (Before (slice_index_or others.now at d) row.now) }
+    ensures { OnOk result
+        (only.new.items ≡ only.old.items ++ rows_not_in others.now (row.now ∷ [])) }
 {
     if stands_at(others, at, row) {
         return Ok(());

@@ -1,6 +1,7 @@
 //! Commands that are tried on a session itself, which is turned back after each.
 
-ghost use Rattle.std.specs.Prelude.{◌≡◌, ◌<◌, ◌≤◌, true, false, Ok, Err, OnOk, OnErr, IfOk, IfErr};
+ghost use Rattle.std.specs.Prelude.{◌≡◌, ◌<◌, true, false, Ok, Err, OnOk, OnErr, IfOk, IfErr};
+ghost use Rattle.plain_types.specs.Limits.{IsWorkerCount};
 ghost use Rattle.edit_script.specs.Commands.{PlainCommand, plain_command};
 ghost use Rattle.edit_script.specs.Fits.{Fits};
 ghost use Rattle.pair_check.specs.Rows.{AreRows};
@@ -46,14 +47,17 @@ pub fn take<R: Threads + Sync + AllocGlobal, G: Gate>(
     command: &Command<'_>,
     gate: &G,
 ) -> Result<Taken, TrialError>
-    requires workers { (0 < workers) × (workers ≤ 64) }
+    requires workers { IsWorkerCount workers }
     requires running { session.old.stopped ≡ false }
     requires before { AreRows (checked_in session.old.state) before.now }
     requires fits { Fits (plain_command command.now) }
     ensures running { OnOk result (session.new.stopped ≡ false) }
-    ensures taken { IfOk result (IsTaken session.old.state (plain_command command.now) session.new.state) }
-    ensures refused { IfErr result (IsRefusedHere session.old session.new (plain_command command.now)) }
-    ensures wanting { result ≡ Err TrialError.OutOfMemory → IsStoppedOrTook session.old session.new (plain_command command.now) }
+    ensures taken { IfOk result
+        (IsTaken session.old.state (plain_command command.now) session.new.state) }
+    ensures refused { IfErr result
+        (IsRefusedHere session.old session.new (plain_command command.now)) }
+    ensures wanting { result ≡ Err TrialError.OutOfMemory
+        → IsStoppedOrTook session.old session.new (plain_command command.now) }
 {
     match session.apply_kept(rt, workers, command, gate) {
         Ok((_, back)) => match difference(rt.alloc(), before, session) {
@@ -76,12 +80,14 @@ pub fn turn_back<R: Threads + Sync + AllocGlobal>(
     workers: u32,
     back: Change,
 ) -> Result<(), AllocError>
-    requires workers { (0 < workers) × (workers ≤ 64) }
+    requires workers { IsWorkerCount workers }
     requires running { session.old.stopped ≡ false }
     requires fits { ChangeFits session.old.state (plain_change back) }
     ensures running { OnOk result (session.new.stopped ≡ false) }
     ensures stopped { OnErr result (session.new.stopped ≡ true) }
-    ensures back { (s : State) (command : PlainCommand) → adds command ≡ false → Answers s command (Ok session.old.state) → LeadsBack (plain_change back) session.old.state s → OnOk result (session.new.state ≡ s) }
+    ensures back { (s : State) (command : PlainCommand) → adds command ≡ false
+        → Answers s command (Ok session.old.state)
+        → LeadsBack (plain_change back) session.old.state s → OnOk result (session.new.state ≡ s) }
 {
     turned_back();
     session.turn(rt, workers, back, &NoGate)?;

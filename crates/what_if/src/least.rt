@@ -13,7 +13,8 @@ pub(crate) struct Fewest {
 
 /// The first of the least counts once there is one more, at the place behind them.
 fn fewer(fewest: Option<Fewest>, place: u32, count: Option<u64>) -> Option<Fewest>
-    ensures { (before : List (Option ℕ)) → length before ≡ place → IsFewest before fewest → IsFewest (before ++ count ∷ []) result }
+    ensures { (before : List (Option ℕ)) → length before ≡ place → IsFewest before fewest
+        → IsFewest (before ++ count ∷ []) result }
 {
     let Some(count) = count else {
         return fewest;

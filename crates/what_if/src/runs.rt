@@ -18,7 +18,8 @@ fn count_of(
     place: usize,
 ) -> Option<u64>
     requires some { 0 < length runs.now }
-    requires runs { AreRuns session.now.state (map plain_command commands.now) (length runs.now) runs.now }
+    requires runs { AreRuns session.now.state (map plain_command commands.now)
+        (length runs.now) runs.now }
     requires place { place < length commands.now }
     ensures { IsCountAt session.now.state (map plain_command commands.now) place result }
 {
@@ -39,8 +40,11 @@ pub(crate) fn in_order(
     runs: &[Vec<Option<u64>>],
 ) -> Result<Vec<Option<u64>>, AllocError>
     requires some { 0 < length runs.now }
-    requires runs { AreRuns session.now.state (map plain_command commands.now) (length runs.now) runs.now }
-    ensures { IfOk result (λ counts. AreAnswers (IsCountAt session.now.state (map plain_command commands.now)) (length commands.now) counts.items) }
+    requires runs { AreRuns session.now.state (map plain_command commands.now)
+        (length runs.now) runs.now }
+    ensures { IfOk result (λ counts.
+        AreAnswers (IsCountAt session.now.state (map plain_command commands.now))
+        (length commands.now) counts.items) }
 {
     let mut counts = Vec::with_capacity(alloc, commands.len())?;
     for place in 0..commands.len() {

@@ -2,6 +2,7 @@
 
 ghost use Rattle.std.specs.Prelude.{◌≡◌, ◌<◌, ◌≤◌, false, All, map, length, IfOk};
 ghost use Rattle.std.specs.List.{AllZip};
+ghost use Rattle.plain_types.specs.Limits.{IsWorkerCount, most_trials};
 ghost use Rattle.edit_script.specs.Commands.{plain_command};
 ghost use Rattle.edit_script.specs.Fits.{Fits};
 ghost use Rattle.what_if.specs.Trials.{IsCount, IsLeast, IsSurvey};
@@ -24,11 +25,12 @@ fn counts_of<R: Threads + Sync + AllocGlobal, G: Gate>(
     commands: &[Command<'_>],
     gate: &G,
 ) -> Result<Vec<Option<u64>>, AllocError>
-    requires workers { (0 < workers) × (workers ≤ 64) }
+    requires workers { IsWorkerCount workers }
     requires running { session.now.stopped ≡ false }
-    requires few { length commands.now ≤ 15625 }
+    requires few { length commands.now ≤ most_trials }
     requires fit { All Fits (map plain_command commands.now) }
-    ensures { IfOk result (λ counts. AllZip (IsCount session.now.state) (map plain_command commands.now) counts.items) }
+    ensures { IfOk result (λ counts.
+        AllZip (IsCount session.now.state) (map plain_command commands.now) counts.items) }
 {
     let stride = workers.min((commands.len() as u32).max(1));
     let work = Trials {
@@ -63,11 +65,12 @@ pub fn survey<R: Threads + Sync + AllocGlobal, G: Gate>(
     commands: &[Command<'_>],
     gate: &G,
 ) -> Result<Survey, AllocError>
-    requires workers { (0 < workers) × (workers ≤ 64) }
+    requires workers { IsWorkerCount workers }
     requires running { session.now.stopped ≡ false }
-    requires few { length commands.now ≤ 15625 }
+    requires few { length commands.now ≤ most_trials }
     requires fit { All Fits (map plain_command commands.now) }
-    ensures { IfOk result (λ s. IsSurvey session.now.state (map plain_command commands.now) s.counts.items s.least) }
+    ensures { IfOk result (λ s.
+        IsSurvey session.now.state (map plain_command commands.now) s.counts.items s.least) }
 {
     let counts = counts_of(session, rt, workers, commands, gate)?;
     Ok(survey_of(counts))

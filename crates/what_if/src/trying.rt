@@ -2,6 +2,7 @@
 
 ghost use Rattle.std.specs.Prelude.{◌≡◌, ◌<◌, ◌≤◌, false, Ok, Err, All, map, length, OnOk, IfOk, IfErr};
 ghost use Rattle.std.specs.List.{AllPairs};
+ghost use Rattle.plain_types.specs.Limits.{IsWorkerCount};
 ghost use Rattle.edit_script.specs.Commands.{plain_command};
 ghost use Rattle.edit_script.specs.Fits.{Fits};
 ghost use Rattle.pair_check.specs.Rows.{Before, AreRows};
@@ -31,12 +32,14 @@ fn take_one<R: Threads + Sync + AllocGlobal, G: Gate>(
     command: &Command<'_>,
     gate: &G,
 ) -> Result<(), TrialError>
-    requires workers { (0 < workers) × (workers ≤ 64) }
+    requires workers { IsWorkerCount workers }
     requires running { session.old.stopped ≡ false }
     requires fits { Fits (plain_command command.now) }
     ensures running { OnOk result (session.new.stopped ≡ false) }
-    ensures answer { OnOk result (Answers session.old.state (plain_command command.now) (Ok session.new.state)) }
-    ensures refused { IfErr result (IsRefusedAt session.old.state (plain_command command.now) step) }
+    ensures answer { OnOk result
+        (Answers session.old.state (plain_command command.now) (Ok session.new.state)) }
+    ensures refused { IfErr result
+        (IsRefusedAt session.old.state (plain_command command.now) step) }
 {
     match session.apply(rt, workers, command, gate) {
         Ok(_) => Ok(()),
@@ -53,12 +56,13 @@ fn take_all<R: Threads + Sync + AllocGlobal, G: Gate>(
     commands: &[Command<'_>],
     gate: &G,
 ) -> Result<(), TrialError>
-    requires workers { (0 < workers) × (workers ≤ 64) }
+    requires workers { IsWorkerCount workers }
     requires running { session.old.stopped ≡ false }
     requires few { length commands.now ≤ 4294967296 }
     requires fit { All Fits (map plain_command commands.now) }
     ensures running { OnOk result (session.new.stopped ≡ false) }
-    ensures led { OnOk result (LeadTo session.old.state (map plain_command commands.now) session.new.state) }
+    ensures led { OnOk result
+        (LeadTo session.old.state (map plain_command commands.now) session.new.state) }
     ensures refused { IfErr result (IsRefusal session.old.state (map plain_command commands.now)) }
 {
     for step in 0..commands.len() {
@@ -75,7 +79,8 @@ pub(crate) fn difference(
 ) -> Result<(Vec<Row>, Vec<Row>), AllocError>
     requires before { AllPairs Before before.now }
     requires after { after.now.stopped ≡ false }
-    ensures { (s : State) → AreRows (checked_in s) before.now → IfOk result (λ r. IsDifference s after.now.state r.0.items r.1.items) }
+    ensures { (s : State) → AreRows (checked_in s) before.now
+        → IfOk result (λ r. IsDifference s after.now.state r.0.items r.1.items) }
 {
     let come = rows_missing(alloc, before, after.rows())?;
     let gone = rows_missing(alloc, after.rows(), before)?;
@@ -90,12 +95,13 @@ fn taken<R: Threads + Sync + AllocGlobal, G: Gate>(
     commands: &[Command<'_>],
     gate: &G,
 ) -> Result<Session, TrialError>
-    requires workers { (0 < workers) × (workers ≤ 64) }
+    requires workers { IsWorkerCount workers }
     requires running { session.now.stopped ≡ false }
     requires few { length commands.now ≤ 4294967296 }
     requires fit { All Fits (map plain_command commands.now) }
     ensures running { IfOk result (λ copy. copy.stopped ≡ false) }
-    ensures led { IfOk result (λ copy. LeadTo session.now.state (map plain_command commands.now) copy.state) }
+    ensures led { IfOk result (λ copy.
+        LeadTo session.now.state (map plain_command commands.now) copy.state) }
     ensures refused { IfErr result (IsRefusal session.now.state (map plain_command commands.now)) }
 {
     let mut copy = session.copy()?;
@@ -127,7 +133,7 @@ pub fn trial<R: Threads + Sync + AllocGlobal, G: Gate>(
     commands: &[Command<'_>],
     gate: &G,
 ) -> Result<Trial, TrialError>
-    requires workers { (0 < workers) × (workers ≤ 64) }
+    requires workers { IsWorkerCount workers }
     requires running { session.now.stopped ≡ false }
     requires few { length commands.now ≤ 4294967296 }
     requires fit { All Fits (map plain_command commands.now) }

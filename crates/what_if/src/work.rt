@@ -43,11 +43,12 @@ impl<'a, R: Threads + Sync, G: Gate> TileWork for Trials<'a, R, G> {
 
     ghost use Rattle.std.specs.Prelude.{◌≡◌, ◌<◌, ◌≤◌, false, All, length, map};
     ghost use Rattle.std.specs.Thread.{IsSync};
+    ghost use Rattle.plain_types.specs.Limits.{IsWorkerCount, most_trials};
     ghost use Rattle.edit_script.specs.Commands.{plain_command};
     ghost use Rattle.edit_script.specs.Fits.{Fits};
     ghost use Rattle.what_if.specs.Runs.{AreCountsFrom};
 
-    ghost ready = { λ work. IsSync R.row × (work.session.now.stopped ≡ false) × All Fits (map plain_command work.commands.now) × (length work.commands.now ≤ 15625) × ((0 < work.stride) × (work.stride ≤ 64)) };
+    ghost ready = { λ work. IsSync R.row × (work.session.now.stopped ≡ false) × All Fits (map plain_command work.commands.now) × (length work.commands.now ≤ most_trials) × IsWorkerCount work.stride };
 
     ghost count = { λ work. work.stride };
 

@@ -13,8 +13,8 @@ use Rattle.drc_session.proofs.Edited.{facts_anew, nets_anew, items_anew, reach_a
 use Rattle.drc_session.proofs.Settled.{edit_applied}
 use Rattle.drc_session.proofs.editing.find_anew.Goals as goal
 
-pub rows_anew-requires-clause-facts : goal.rows_anew-requires-clause-facts
-rows_anew-requires-clause-facts g c κs within =
+pub rows_after-requires-clause-facts : goal.rows_after-requires-clause-facts
+rows_after-requires-clause-facts g c κs within =
     let was = c.requires.edited.0 in
     let h = c.requires.edited.1 in
     let parts = c.args.parts.now in
@@ -23,8 +23,8 @@ rows_anew-requires-clause-facts g c κs within =
     let kept : IsKept old = kept_with was was parts h.kept in
     (facts_anew old kept parts.board ids ids refl h.edited c.args.look.marks.items c.deref.result.now c.deref.ensures.value h.looked.marks c.renew_facts.new.facts c.in_ok-changed.changed.items c.in_ok-changed.ensures).0
 
-pub rows_anew-requires-clause-changed : goal.rows_anew-requires-clause-changed
-rows_anew-requires-clause-changed g c κs within =
+pub rows_after-requires-clause-changed : goal.rows_after-requires-clause-changed
+rows_after-requires-clause-changed g c κs within =
     let was = c.requires.edited.0 in
     let h = c.requires.edited.1 in
     let parts = c.args.parts.now in
@@ -33,8 +33,8 @@ rows_anew-requires-clause-changed g c κs within =
     let kept : IsKept old = kept_with was was parts h.kept in
     (facts_anew old kept parts.board ids ids refl h.edited c.args.look.marks.items c.deref.result.now c.deref.ensures.value h.looked.marks c.renew_facts.new.facts c.in_ok-changed.changed.items c.in_ok-changed.ensures).1.rise
 
-pub rows_anew-requires-clause-index : goal.rows_anew-requires-clause-index
-rows_anew-requires-clause-index g c κs within =
+pub rows_after-requires-clause-index : goal.rows_after-requires-clause-index
+rows_after-requires-clause-index g c κs within =
     let was = c.requires.edited.0 in
     let h = c.requires.edited.1 in
     let parts = c.args.parts.now in

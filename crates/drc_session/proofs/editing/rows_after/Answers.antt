@@ -7,7 +7,7 @@ use Rattle.drc_session.specs.Holding.{state_of}
 use Rattle.drc_session.specs.Looks.{AreBoxesIn}
 use Rattle.drc_session.proofs.Enough.{enough_tiles}
 use Rattle.drc_session.proofs.Rechecked.{renewed}
-use Rattle.drc_session.proofs.editing.rows_anew.Goals as goal
+use Rattle.drc_session.proofs.editing.rows_after.Goals as goal
 
 pub check_near-requires-clause-enough : goal.check_near-requires-clause-enough
 check_near-requires-clause-enough g c κs within =
