@@ -148,7 +148,8 @@ fn file_and_number<'a>(most: u32, words: &'a [&'a str]) -> Option<Numbered<'a>>
 
 /// The call of the words behind `steal`.
 fn steal_call<'a>(words: &'a [&'a str]) -> Call<'a>
-    ensures call { call_in result ≡ steal_if (file_and_number most_workers (words_of words.entry.now)) }
+    ensures call { call_in result
+        ≡ steal_if (file_and_number most_workers (words_of words.entry.now)) }
     ensures fits { CallFits result }
 {
     match file_and_number(MOST_WORKERS, words) {

@@ -132,7 +132,8 @@ fn request_in<'a>(matches: &ArgMatches<'a>) -> Option<Request<'a>>
 /// Exactly one of a file and a generated board.
 fn source_of<'a>(name: Option<&'a str>, count: Option<&'a str>) -> Option<BoardSource<'a>>
     ensures source { option_map source_in result
-        ≡ source_of (option_map (λ text. text.now) name.entry) (option_map (λ text. text.now) count.entry) }
+        ≡ source_of (option_map (λ text. text.now) name.entry)
+        (option_map (λ text. text.now) count.entry) }
     ensures fits { IfSome result SourceFits }
 {
     match (name, count) {
