@@ -1,4 +1,4 @@
--- A line that is put together before it goes out.
+-- Text that is put together before it goes out.
 use Rattle.std.specs.Prelude.{◌≡◌, ◌≤◌, ◌<◌, ◌==◌, ℕ, List, [], ◌∷◌, ◌++◌, get_or, Option, Result, MatchResult, OnErr, if◌then◌else◌, codes}
 use Rattle.std.specs.List.{flat_map}
 use Rattle.std.specs.Io.KnownBytes.{Appends}
@@ -16,6 +16,10 @@ pub record Puts {T E : Type 0} (old new : Option (List ℕ)) (before now : ℕ) 
   pub bytes : MatchResult result (λ _. Splits old new (pending ++ piece) kept) (λ _. AppendsFront old new (pending ++ piece))
   pub later : before ≤ now
   pub failed : OnErr result (Rose before now)
+
+-- `Puts`, of a sink before and after the call, by how the sink tells its bytes and its count of faults
+abbrev pub Buffered : {S T E : Type 0} → (S → Option (List ℕ)) → (S → ℕ) → S → S → (pending piece kept : List ℕ) → Result T E → Type 0
+Buffered written faults old new pending piece kept result = Puts (written old) (written new) (faults old) (faults new) pending piece kept result
 
 -- a byte of a name between quotes
 abbrev pub escaped_byte : ℕ → List ℕ

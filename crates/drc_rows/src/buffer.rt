@@ -1,9 +1,10 @@
-//! Lines that are put together on the stack and go out in one write, as many as there is room for.
+//! The buffer of a report: its lines are put together on the stack, and go out in as few writes as their
+//! length asks for.
 
 ghost use Rattle.std.specs.Prelude.{◌≡◌, ◌≤◌, ◌+◌, ◌++◌, ℕ, List, [], length, take, unsigned_abs, IfOk};
 ghost use Rattle.exact_dec.specs.Written.{mm_text};
-ghost use Rattle.drc_io.specs.Sinks.{Writes};
-ghost use Rattle.drc_rows.specs.Line.{Puts};
+ghost use Rattle.drc_io.specs.Sinks.{Wrote};
+ghost use Rattle.drc_rows.specs.Buffer.{Buffered};
 
 use crate::digits::{SHORT, place, place_short};
 use crate::millimetres::Millimetres;
@@ -14,15 +15,16 @@ use std::marker::Model;
 /// How many bytes there is room for. What is longer goes out in several writes.
 const ROOM: usize = 8192;
 
-/// What was put together and has not gone out yet, at most 8,192 bytes. Contracts see it as the list of these bytes; `Puts` of `specs/Line`
-/// says what goes out and what stays where more is put in.
+/// What was put together of a report and has not gone out yet, at most 8,192 bytes. Contracts see it as the
+/// list of these bytes; `Puts` of `specs/Buffer` says what goes out and what stays where more is put in. A report
+/// is put into one buffer, which `end` lets go out.
 #[derive(Drop)]
-pub struct Line {
+pub struct ReportBuffer {
     bytes: [u8; ROOM],
     len: usize,
 }
 
-impl Model for Line {
+impl Model for ReportBuffer {
     ghost Value = { List ℕ };
 
     ghost view = { λ l. take l.len l.bytes };
@@ -30,12 +32,12 @@ impl Model for Line {
     ghost invariant = { λ l. l.len ≤ 8192 };
 }
 
-impl Line {
+impl ReportBuffer {
     /// Nothing yet.
-    pub fn new() -> Line
+    pub fn new() -> ReportBuffer
         ensures { result ≡ [] }
     {
-        Line {
+        ReportBuffer {
             bytes: [0; ROOM],
             len: 0,
         }
@@ -45,7 +47,7 @@ impl Line {
     #[cold]
     #[inline(never)]
     fn flush<W: Sink>(&mut self, out: &mut W) -> Result<(), Failed>
-        ensures puts { Puts (W.written out.old) (W.written out.new) (W.faults out.old) (W.faults out.new) self.old [] self.new result }
+        ensures puts { Buffered W.written W.faults out.old out.new self.old [] self.new result }
         ensures empty { IfOk result (λ _. self.new ≡ []) }
     {
         put_all(out, &self.bytes[..self.len])?;
@@ -57,7 +59,7 @@ impl Line {
     #[inline(always)]
     pub(crate) fn make_room<W: Sink>(&mut self, out: &mut W, count: usize) -> Result<(), Failed>
         requires { count ≤ 8192 }
-        ensures puts { Puts (W.written out.old) (W.written out.new) (W.faults out.old) (W.faults out.new) self.old [] self.new result }
+        ensures puts { Buffered W.written W.faults out.old out.new self.old [] self.new result }
         ensures room { IfOk result (λ _. length self.new + count ≤ 8192) }
     {
         if count > ROOM - self.len {
@@ -89,7 +91,8 @@ impl Line {
         }
     }
 
-    /// The same of a length of 1000 mm or more, which boards do not have.
+    /// Puts a length of 1000 mm or more in millimetres at the end, where there is room for 16 bytes. Boards have
+    /// no such length.
     #[cold]
     #[inline(never)]
     fn append_long(&mut self, nm: Nm)
@@ -101,10 +104,11 @@ impl Line {
         self.append(Millimetres::of(nm).as_bytes());
     }
 
-    /// Puts a piece at the end. Where there is no room, what came before it goes out first.
+    /// Puts a piece at the end. Where there is no room, what came before it goes out first. `Failed` comes only where
+    /// the sink's count of faults rose, and then a front part of what the buffer held and of the piece was written.
     #[inline(always)]
-    pub(crate) fn push<W: Sink>(&mut self, out: &mut W, piece: &[u8]) -> Result<(), Failed>
-        ensures { Puts (W.written out.old) (W.written out.new) (W.faults out.old) (W.faults out.new) self.old piece.now self.new result }
+    pub fn push<W: Sink>(&mut self, out: &mut W, piece: &[u8]) -> Result<(), Failed>
+        ensures { Buffered W.written W.faults out.old out.new self.old piece.now self.new result }
     {
         if piece.len() > ROOM - self.len {
             return self.push_over(out, piece);
@@ -113,12 +117,12 @@ impl Line {
         Ok(())
     }
 
-    /// The same where there is no room: what is pending goes out, and of the piece as many bytes as fill the room some times over.
-    /// The rest of it is kept.
+    /// Puts a piece for which there is no room: what is pending goes out, and of the piece as many bytes as fill
+    /// the room some times over. The rest of it is kept.
     #[cold]
     #[inline(never)]
     fn push_over<W: Sink>(&mut self, out: &mut W, piece: &[u8]) -> Result<(), Failed>
-        ensures { Puts (W.written out.old) (W.written out.new) (W.faults out.old) (W.faults out.new) self.old piece.now self.new result }
+        ensures { Buffered W.written W.faults out.old out.new self.old piece.now self.new result }
     {
         self.flush(out)?;
         let (rooms, rest) = piece.split_at(piece.len() - piece.len() % ROOM);
@@ -127,9 +131,10 @@ impl Line {
         Ok(())
     }
 
-    /// Lets all that is left go out. `Failed` comes only where the sink's count of faults rose, and then a front part of it was written.
+    /// Lets all that is left go out. `Failed` comes only where the sink's count of faults rose, and then a front
+    /// part of it was written.
     pub fn end<W: Sink>(self, out: &mut W) -> Result<(), Failed>
-        ensures { Writes (W.written out.old) (W.written out.new) (W.faults out.old) (W.faults out.new) self result }
+        ensures { Wrote W.written W.faults out.old out.new self result }
     {
         put_all(out, &self.bytes[..self.len])
     }

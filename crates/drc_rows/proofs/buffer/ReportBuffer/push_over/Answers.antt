@@ -2,7 +2,7 @@ use Rattle.std.proofs.Common.{sym}
 use Rattle.std.proofs.lemmas.Result.{err_from_is_err_and}
 use Rattle.drc_io.specs.declared.Failed.{Failed}
 use Rattle.drc_rows.proofs.Lines.{Puts-then, Puts-cut, Puts-text, Puts-through, Puts-none, Puts-append}
-use Rattle.drc_rows.proofs.line.Line.push_over.Goals as goal
+use Rattle.drc_rows.proofs.buffer.ReportBuffer.push_over.Goals as goal
 
 pub returns-in_err-put_all : goal.returns-in_err-put_all
 returns-in_err-put_all g c =
