@@ -1,4 +1,3 @@
-pub mod Reasons
 pub mod Lengths
 pub mod Limits
-pub mod NewReasons
+pub mod Reasons

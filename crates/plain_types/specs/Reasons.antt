@@ -1,28 +1,61 @@
--- What a refusal is called, its code, and its place: a report writes `NAME (CODE) at PLACE`. A refusal that carries
--- another puts its own name and a point before the other's name, and its own code and a point before the other's code.
-use Rattle.std.specs.Prelude.{ℕ, List, ◌++◌, Option, Some, None, codes}
-use Rattle.plain_types.specs.declared.reason.Reason.{Reason}
+-- Why something is refused: the causes from the outermost to the innermost, each with its name and its number, and where it is.
+-- It is written with points between the names and between the numbers, as `EmptyText (6)` and `Text.EmptyText (1.6)`.
+use Rattle.std.specs.Prelude.{ℕ, List, [], ◌∷◌, ◌++◌, Option, Some, None, map, codes, decimal}
+use Rattle.plain_types.specs.declared.reason.Cause.{Cause}
+use Rattle.plain_types.specs.declared.reason.Path.{Path}
+use Rattle.plain_types.specs.declared.reason.Path.TheVariants.{One, Two, Three, Four}
 
-pub record PlainReason : Type 0 where
+pub record PlainCause : Type 0 where
   pub name : List ℕ
-  pub code : List ℕ
+  pub number : ℕ
+
+-- the causes; the byte of the text where it is; and the byte in what stands there, as in the condition of a rule
+pub record PlainReason : Type 0 where
+  pub causes : List PlainCause
   pub place : Option ℕ
+  pub inner_place : Option ℕ
 
-abbrev pub plain_reason : Reason → PlainReason
-plain_reason r = record { name = r.name.now; code = r.code.now; place = r.place }
+abbrev pub plain_cause : Cause → PlainCause
+plain_cause c = record { name = c.name.now; number = c.number }
 
--- that of a refusal that stands at a byte of the text
-abbrev pub reason_at : List ℕ → List ℕ → ℕ → PlainReason
-reason_at name code at = record { name = name; code = code; place = Some at }
+abbrev pub causes_of : Path → List PlainCause
+causes_of (One a) = plain_cause a ∷ []
+causes_of (Two a b) = plain_cause a ∷ plain_cause b ∷ []
+causes_of (Three a b c) = plain_cause a ∷ plain_cause b ∷ plain_cause c ∷ []
+causes_of (Four a b c d) = plain_cause a ∷ plain_cause b ∷ plain_cause c ∷ plain_cause d ∷ []
 
--- that of a refusal that carries another, whose reason stands behind its name and its code
-abbrev pub reason_behind : List ℕ → List ℕ → PlainReason → PlainReason
-reason_behind name code of_other = record { name = name ++ of_other.name; code = code ++ of_other.code; place = of_other.place }
+-- a refusal that carries no other
+abbrev pub refused : List ℕ → ℕ → Option ℕ → PlainReason
+refused name number place = record { causes = record { name = name; number = number } ∷ []; place = place; inner_place = None }
 
--- that of a refusal that has no place
-abbrev pub reason_alone : List ℕ → List ℕ → PlainReason
-reason_alone name code = record { name = name; code = code; place = None }
+-- one that stands at a byte of the text
+abbrev pub refused_at : List ℕ → ℕ → ℕ → PlainReason
+refused_at name number at = refused name number (Some at)
 
--- how a reason is written, but for its place
+-- one that has no place
+abbrev pub refused_nowhere : List ℕ → ℕ → PlainReason
+refused_nowhere name number = refused name number None
+
+-- a refusal that carries another, and has its places
+abbrev pub carried : List ℕ → ℕ → PlainReason → PlainReason
+carried name number of_other = record { causes = record { name = name; number = number } ∷ of_other.causes; place = of_other.place; inner_place = of_other.inner_place }
+
+-- a refusal of what stands at a byte of the text: its place is in there
+abbrev pub with_inner_place : PlainReason → ℕ → PlainReason
+with_inner_place why at = record { causes = why.causes; place = Some at; inner_place = why.place }
+
+-- texts with points between them
+abbrev pub pointed : List (List ℕ) → List ℕ
+pointed [] = []
+pointed (text ∷ []) = text
+pointed (text ∷ next ∷ rest) = text ++ codes "." ++ pointed (next ∷ rest)
+
+abbrev pub names_of : List PlainCause → List ℕ
+names_of causes = pointed (map (λ (c : PlainCause). c.name) causes)
+
+abbrev pub numbers_of : List PlainCause → List ℕ
+numbers_of causes = pointed (map (λ (c : PlainCause). decimal c.number) causes)
+
+-- how a reason is written, but for its places
 abbrev pub written : PlainReason → List ℕ
-written r = r.name ++ codes " (" ++ r.code ++ codes ")"
+written why = names_of why.causes ++ codes " (" ++ numbers_of why.causes ++ codes ")"

@@ -5,14 +5,11 @@
 mod lengths;
 mod limits;
 mod lists;
-mod macros;
 mod reason;
-mod refusal;
 mod shared;
 
 pub use lengths::{GREATEST_LENGTH, Length, is_length};
 pub use limits::{MOST_ITEMS, MOST_TEXT, MOST_TILES, MOST_TRIALS, MOST_WORKERS};
 pub use lists::{Listed, one};
-pub use reason::{Reason, Reasons};
-pub use refusal::{Cause, HasReason, NewReason};
+pub use reason::{Cause, HasReason, Reason};
 pub use shared::crosses_threads;
