@@ -8,8 +8,8 @@ use Rattle.board_items.specs.Moves.{IsMoved}
 use Rattle.pcb_read.specs.ItemText.{SaysItem}
 use Rattle.edit_script.specs.Commands.{PlainCommand, add, delete, move, rules, again}
 use Rattle.board_edits.specs.declared.deed.Deed.{Deed}
-use Rattle.board_edits.specs.declared.reason.Refusal.{Refusal}
-use Rattle.board_edits.specs.declared.reason.Refusal.TheVariants.{OutOfMemory}
+use Rattle.board_edits.specs.declared.refusal.Refusal.{Refusal}
+use Rattle.board_edits.specs.declared.refusal.Refusal.TheVariants.{OutOfMemory}
 use Rattle.board_edits.specs.Deeds.{PlainDeed, nothing, append, put_back, take_out, shift, appended, Does, After}
 use Rattle.board_edits.specs.Fitting.{plain_deed}
 use Rattle.board_edits.specs.Planning.{IsFound, refusal_in}

@@ -12,8 +12,8 @@ use Rattle.board_items.specs.Units.{found_of, without_unit}
 use Rattle.pcb_read.specs.BoardOf.{with_items}
 use Rattle.pcb_read.specs.ItemText.{SaysItem}
 use Rattle.edit_script.specs.Commands.{PlainCommand, add, delete, move, rules, again}
-use Rattle.board_edits.specs.declared.reason.Refusal.{Refusal}
-use Rattle.board_edits.specs.declared.reason.Refusal.TheVariants.{NoSuchItem, SharedName, PartOfFootprint, Item as ItemRefused}
+use Rattle.board_edits.specs.declared.refusal.Refusal.{Refusal}
+use Rattle.board_edits.specs.declared.refusal.Refusal.TheVariants.{NoSuchItem, SharedName, PartOfFootprint, Item as ItemRefused}
 
 -- nothing is done; items go last, one after another; items are put back under the ids that they had; a unit is taken out; or one is
 -- moved by nanometres

@@ -7,8 +7,8 @@ use Rattle.board_items.specs.declared.found.Found.TheVariants.{None as NoUnit, S
 use Rattle.board_items.specs.Boards.{PlainBoard}
 use Rattle.edit_script.specs.Commands.{PlainCommand}
 use Rattle.board_edits.specs.declared.deed.Deed.{Deed}
-use Rattle.board_edits.specs.declared.reason.Refusal.{Refusal}
-use Rattle.board_edits.specs.declared.reason.Refusal.TheVariants.{NoSuchItem, SharedName, PartOfFootprint, Item, OutOfMemory}
+use Rattle.board_edits.specs.declared.refusal.Refusal.{Refusal}
+use Rattle.board_edits.specs.declared.refusal.Refusal.TheVariants.{NoSuchItem, SharedName, PartOfFootprint, Item, OutOfMemory}
 use Rattle.board_edits.specs.Deeds.{PlainDeed, Does}
 use Rattle.board_edits.specs.Fitting.{plain_deed}
 

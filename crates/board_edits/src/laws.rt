@@ -3,7 +3,7 @@
 ghost use Rattle.std.specs.Prelude.{◌≡◌, Result};
 ghost use Rattle.board_items.specs.Boards.{PlainBoard};
 ghost use Rattle.edit_script.specs.Commands.{PlainCommand};
-ghost use Rattle.board_edits.specs.declared.reason.Refusal.{Refusal};
+ghost use Rattle.board_edits.specs.declared.refusal.Refusal.{Refusal};
 ghost use Rattle.board_edits.specs.Deeds.{PlainDeed, Does, After};
 
 use board_items::laws::one_move;

@@ -4,7 +4,7 @@ ghost use Rattle.std.specs.Prelude.{◌≡◌, ◌⊎◌, MatchResult, IfOk, Res
 ghost use Rattle.plain_types.specs.Limits.{IsInText, IsReadable};
 ghost use Rattle.edit_script.specs.Commands.{plain_command, add};
 ghost use Rattle.edit_script.specs.Fits.{Fits};
-ghost use Rattle.board_edits.specs.declared.reason.Refusal.{Refusal};
+ghost use Rattle.board_edits.specs.declared.refusal.Refusal.{Refusal};
 ghost use Rattle.board_edits.specs.Deeds.{PlainDeed, Does, to_unit, take_out, shifted};
 ghost use Rattle.board_edits.specs.Fitting.{plain_deed, DeedFits};
 ghost use Rattle.board_edits.specs.Planning.{plain_answer, IsFound, refusal_in, unit_in};

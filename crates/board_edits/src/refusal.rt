@@ -20,7 +20,7 @@ pub enum Refusal {
 
 impl From<AllocError> for Refusal {
     ghost use Rattle.std.specs.Prelude.{◌≡◌};
-    ghost use Rattle.board_edits.specs.declared.reason.Refusal.TheVariants.{OutOfMemory};
+    ghost use Rattle.board_edits.specs.declared.refusal.Refusal.TheVariants.{OutOfMemory};
 
     ghost from_gives = { λ _ e. e ≡ OutOfMemory };
 

@@ -11,7 +11,7 @@ use Rattle.pcb_read.specs.BoardText.{BoardSays}
 use Rattle.pcb_read.proofs.OneReading.{one_part}
 use Rattle.pcb_read.proofs.Parting.{says_tree}
 use Rattle.edit_script.specs.Commands.{PlainCommand, add, delete, move, rules, again}
-use Rattle.board_edits.specs.declared.reason.Refusal.{Refusal}
+use Rattle.board_edits.specs.declared.refusal.Refusal.{Refusal}
 use Rattle.board_edits.specs.Deeds.{PlainDeed, nothing, append, put_back, take_out, shift, Does, After, IsLeft, DoAll}
 use Rattle.roundtrip_boards.specs.Changes.{Change, appends, IsListOf, IsChangeBy, IsChange, AreChanges}
 use Rattle.roundtrip_boards.specs.Written.{Draft, untouched, with_changes, with_fate, FatesAre, written_by, IsWritten}

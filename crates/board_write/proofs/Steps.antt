@@ -26,8 +26,8 @@ use Rattle.part_read.specs.Ready.{IsReady}
 use Rattle.edit_script.specs.Commands.{PlainCommand, add, delete, move, rules, again}
 use Rattle.roundtrip_lists.specs.Alike.{Shift}
 use Rattle.pcb_read.specs.ItemText.{answer_further, alone, SaysAlone, SaysForms, SaysText}
-use Rattle.board_edits.specs.declared.reason.Refusal.{Refusal}
-use Rattle.board_edits.specs.declared.reason.Refusal.TheVariants.{Item as ItemRefused}
+use Rattle.board_edits.specs.declared.refusal.Refusal.{Refusal}
+use Rattle.board_edits.specs.declared.refusal.Refusal.TheVariants.{Item as ItemRefused}
 use Rattle.board_edits.specs.Deeds.{PlainDeed, nothing, append, put_back, take_out, shift, After, appended, to_unit, shifted, Does, IsLeft, DoAll}
 use Rattle.board_edits.specs.Fitting.{DeedFits}
 use Rattle.roundtrip_boards.specs.Changes.{Change, unchanged, takes_out, shifts, appends, IsListIn, IsChangeBy, IsChange, AreChanges, IsNamed}

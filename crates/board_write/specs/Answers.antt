@@ -6,7 +6,7 @@ use Rattle.drc_io.specs.Sinks.{AppendsFront}
 use Rattle.board_items.specs.Boards.{PlainBoard}
 use Rattle.edit_script.specs.Commands.{PlainCommand}
 use Rattle.pcb_read.specs.BoardText.{BoardSays}
-use Rattle.board_edits.specs.declared.reason.Refusal.{Refusal}
+use Rattle.board_edits.specs.declared.refusal.Refusal.{Refusal}
 use Rattle.board_edits.specs.Deeds.{PlainDeed}
 use Rattle.roundtrip_boards.specs.Written.{IsWritten}
 use Rattle.board_write.specs.declared.error.WriteError.{WriteError}

@@ -5,7 +5,7 @@ use Rattle.sexpr_read.specs.Views.{root_of}
 use Rattle.board_items.specs.declared.item.Item.{Item}
 use Rattle.board_items.specs.Boards.{PlainBoard}
 use Rattle.edit_script.specs.Commands.{PlainCommand, add, delete, move, rules, again}
-use Rattle.board_edits.specs.declared.reason.Refusal.{Refusal}
+use Rattle.board_edits.specs.declared.refusal.Refusal.{Refusal}
 use Rattle.board_edits.specs.Deeds.{PlainDeed, nothing, append, put_back, take_out, shift, After, Does, DoAll}
 use Rattle.board_edits.specs.Fitting.{DeedFits}
 use Rattle.roundtrip_boards.specs.Changes.{Change, AreChanges}

@@ -23,7 +23,8 @@ pub trait Opens {
 
     /// Opens the file of this name. It stands at its beginning.
     fn open(&self, name: &str) -> io::Result<Self::File>
-        ensures { IfOk result (λ file. Stands (files self.now) name.now 0 (Self.File.Read.remaining file)) };
+        ensures { IfOk result (λ file.
+            Stands (files self.now) name.now 0 (Self.File.Read.remaining file)) };
 }
 
 /// The files of the system, which tells nothing of them.
@@ -141,7 +142,8 @@ impl<O: Opens> FileShelf<O> {
 
     /// The file that is kept, where it is the one to go on with, or else the file of this name, opened anew and read up to the place. It is kept no more.
     fn take_file(&mut self, name: &str, at: u64) -> io::Result<Opened<O::File>>
-        ensures stands { IfOk result (λ opened. Stands self.old.files name.now at (O.File.Read.remaining opened.file)) }
+        ensures stands { IfOk result (λ opened.
+            Stands self.old.files name.now at (O.File.Read.remaining opened.file)) }
         ensures named { IfOk result (λ opened. IfSome opened.name (λ known. known ≡ name.now)) }
         ensures same { self.new ≡ self.old }
     {
@@ -156,7 +158,8 @@ impl<O: Opens> FileShelf<O> {
 
     /// Keeps a file for the reads that follow.
     fn keep(&mut self, opened: Opened<O::File>)
-        requires { IfSome opened.name (λ name. Stands self.old.files name opened.at (O.File.Read.remaining opened.file)) }
+        requires { IfSome opened.name (λ name.
+            Stands self.old.files name opened.at (O.File.Read.remaining opened.file)) }
         ensures { self.new ≡ self.old }
     {
         drop(self.kept.replace(opened));

@@ -26,7 +26,9 @@ impl<W> StdoutSink<W> {
 /// Writes the whole piece, or says how many bytes were taken before a fault came. A write that takes none is a fault.
 fn write_whole<W: Write>(out: &mut W, piece: &[u8]) -> Result<(), usize>
     ensures short { IfErr result (λ taken. taken < length piece.now) }
-    ensures bytes { MatchResult result (λ _. Appends (W.contents out.old) (W.contents out.new) piece.now) (λ taken. Appends (W.contents out.old) (W.contents out.new) (take taken piece.now)) }
+    ensures bytes { MatchResult result
+        (λ _. Appends (W.contents out.old) (W.contents out.new) piece.now)
+        (λ taken. Appends (W.contents out.old) (W.contents out.new) (take taken piece.now)) }
 {
     let mut done = 0;
     for _ in 0..u64::MAX {
@@ -56,9 +58,11 @@ impl<W: Write> Sink for StdoutSink<W> {
     fn write(&mut self, piece: &[u8]) -> Result<usize, Failed>
         ensures bound { IfOk result (λ n. n ≤ length piece.now) }
         ensures some { IfOk result (λ n. 0 < length piece.now → 0 < n) }
-        ensures bytes { WriteAppends (W.contents self.old.out) (W.contents self.new.out) result piece.now }
+        ensures bytes { WriteAppends
+            (W.contents self.old.out) (W.contents self.new.out) result piece.now }
         ensures cause { HasCause self.old.faults self.new.faults result }
-        ensures raised { self.new.faults ≡ counted self.old.faults (not (takes_all result piece.now)) }
+        ensures raised { self.new.faults
+            ≡ counted self.old.faults (not (takes_all result piece.now)) }
     {
         match write_whole(&mut self.out, piece) {
             Ok(()) => Ok(piece.len()),

@@ -18,7 +18,9 @@ fn all_of(alloc: Global, words: Args) -> Result<Vec<String>, AllocError>
 
 /// The words of a line that were given. A line that is not text has none.
 fn gathered(alloc: Global, given: io::Result<Args>) -> Result<Vec<String>, AllocError>
-    ensures { IfOk result (λ line. MatchResult given (λ words. line.items ≡ into_iter_items words) (λ e. (error_kind e ≢ ErrorKind.OutOfMemory) × (line.items ≡ []))) }
+    ensures { IfOk result (λ line. MatchResult given
+        (λ words. line.items ≡ into_iter_items words)
+        (λ e. (error_kind e ≢ ErrorKind.OutOfMemory) × (line.items ≡ []))) }
 {
     match given {
         Ok(words) => all_of(alloc, words),

@@ -1,5 +1,5 @@
 -- Lines that are put together piece by piece.
-use Rattle.std.proofs.Common.{◌≡◌, ℕ, ◌<◌, ◌+◌, List, [], ◌∷◌, length, get_or, take, drop, take-append-drop, add-one, Option, ◌++◌, Result, Ok, Err, subst, sym, ap, ◌∙◌, append_assoc, append-nil, arith}
+use Rattle.std.proofs.Common.{◌≡◌, ℕ, ◌<◌, ◌+◌, List, [], ◌∷◌, length, get_or, take, drop, take-append-drop, add-one, Option, ◌++◌, Result, Ok, Err, refl, subst, sym, ap, ◌∙◌, append_assoc, append-nil, arith}
 use Rattle.std.proofs.Math.Seq.{take-suc}
 use Rattle.std.proofs.lemmas.Grind.{flat_map-append}
 use Rattle.std.specs.List.{flat_map}
@@ -7,7 +7,7 @@ use Rattle.std.specs.Io.KnownBytes.{Appends}
 use Rattle.std.proofs.KnownBytes.{Appends-nil, Appends-trans}
 use Rattle.drc_io.specs.Sinks.{AppendsFront, Writes}
 use Rattle.drc_io.proofs.Writing.{AppendsFront-after, AppendsFront-more, Writes-stop}
-use Rattle.drc_rows.specs.Line.{Puts}
+use Rattle.drc_rows.specs.Buffer.{Puts}
 
 -- nothing is put in
 pub Puts-none : {T E : Type 0} (a : Option (List ℕ)) (n : ℕ) (pending : List ℕ) (x : T) → Puts {T = T} {E = E} a a n n pending [] pending (Ok x)
@@ -147,3 +147,10 @@ flat_rest_at f xs i x h e = flat_rest f xs i x h ∙ ap (λ y. (flat_map f (take
 pub Writes-cut : {S T E D : Type 0} (a b : Option (List ℕ)) (m n : ℕ) (text rest whole : List ℕ) (e : D) (r : Result T E) (d : E) → r ≡ Err d → whole ≡ text ++ rest
     → Writes {T = S} {E = D} a b m n text (Err e) → Writes a b m n whole r
 Writes-cut a b m n text rest whole e r d same is w = subst (λ l. Writes a b m n l r) (sym is) (Writes-stop a b m n text rest e r d same w)
+
+-- lines in a buffer broke off, where the whole text has more behind them
+pub Puts-broke_off : {S T E D : Type 0} (a b : Option (List ℕ)) (m n : ℕ) (none text rest whole kept : List ℕ) (e : D) (r : Result T E) (d : E) → r ≡ Err d
+    → none ≡ [] → whole ≡ text ++ rest → Puts {T = S} {E = D} a b m n none text kept (Err e) → Writes a b m n whole r
+Puts-broke_off {S} {T} {E} {D} a b m n none text rest whole kept e r d same is all w =
+    let off : Writes {T = S} {E = D} a b m n text (Err e) = Puts-broke {S = S} {T = S} {E = D} {D = D} a b m n none text kept e (Err e) e refl is w in
+    Writes-cut a b m n text rest whole e r d same all off

@@ -2,7 +2,7 @@
 use Rattle.std.proofs.Common.{◌≡◌, ℕ, suc, ◌+◌, ◌-◌, ◌≤◌, List, [], ◌∷◌, ◌++◌, length, get_or, take, drop, ap, subst, ◌∙◌, refl, arith, Bool, true, false, nat_lt}
 use Rattle.std.proofs.lemmas.Bool.Decides.{nat_tests}
 use Rattle.std.proofs.lemmas.List.{get_or-take, get_or-drop}
-use Rattle.drc_rows.specs.Line.{escaped, escaped_byte, AreOwn}
+use Rattle.drc_rows.specs.Buffer.{escaped, escaped_byte, AreOwn}
 
 -- byte by byte
 pub own_all : (name : List ℕ) → AreOwn name 0 (length name) → escaped name ≡ name

@@ -1,4 +1,4 @@
-pub mod Line
+pub mod Buffer
 pub mod NetBlock
 pub mod Notes
 pub mod Report

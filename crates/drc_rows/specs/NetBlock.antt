@@ -9,7 +9,7 @@ use Rattle.net_groups.specs.Classes.{least}
 use Rattle.ratsnest.specs.declared.anchor.Anchor.{Anchor}
 use Rattle.ratsnest.specs.declared.link.Link.{Link}
 use Rattle.ratsnest.specs.NestOf.{anchor_at}
-use Rattle.drc_rows.specs.Line.{named}
+use Rattle.drc_rows.specs.Buffer.{named}
 use Rattle.drc_rows.specs.Report.{title_of, text_of}
 
 -- how many groups the net has

@@ -12,7 +12,7 @@ use Rattle.board_items.specs.Boards.{PlainBoard, item_at}
 use Rattle.board_items.specs.Notes.{notes_of, body_of}
 use Rattle.cond_lang.specs.Rules.{PlainRule}
 use Rattle.rule_text.specs.RulesOf.{PlainNote, PlainRules}
-use Rattle.drc_rows.specs.Line.{named}
+use Rattle.drc_rows.specs.Buffer.{named}
 
 -- what is not checked
 abbrev pub about_text : About → List ℕ → List ℕ → List ℕ → List ℕ

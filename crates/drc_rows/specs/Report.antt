@@ -20,7 +20,7 @@ use Rattle.kind_subjects.specs.declared.layer.RowLayer.{RowLayer}
 use Rattle.kind_subjects.specs.declared.layer.RowLayer.TheVariants.{Copper, FrontYard, BackYard, Nowhere}
 use Rattle.pair_check.specs.PlainRow.{PlainRow}
 use Rattle.rule_text.specs.RulesOf.{PlainRules}
-use Rattle.drc_rows.specs.Line.{named}
+use Rattle.drc_rows.specs.Buffer.{named}
 use Rattle.drc_rows.specs.Notes.{name_in, note_lines, note_count}
 
 -- what an item is called: by its own name, a rule area by its title, a footprint by its reference, and a pad by its number

@@ -2,13 +2,13 @@
 
 ghost use Rattle.std.specs.Prelude.{◌≡◌, ◌++◌, []};
 ghost use Rattle.std.specs.Option.{option_copied};
-ghost use Rattle.drc_io.specs.Sinks.{Writes};
+ghost use Rattle.drc_io.specs.Sinks.{Wrote};
 ghost use Rattle.rule_text.specs.Views.{plain_note, plain_rules};
-ghost use Rattle.drc_rows.specs.Line.{Puts, named};
+ghost use Rattle.drc_rows.specs.Buffer.{Buffered, named};
 ghost use Rattle.drc_rows.specs.Notes.{about_text, told_text, note_text, note_line, reference_in, reference_of, item_lines};
 ghost use Rattle.drc_rows.specs.Notes.{rule_name, constraint_line, constraint_lines, note_lines, note_count};
 
-use crate::line::Line;
+use crate::buffer::ReportBuffer;
 use crate::pieces::push_quoted;
 use board_items::{About, Board, Item, What};
 use drc_io::{Failed, Sink};
@@ -34,31 +34,33 @@ fn reference_of(body: Option<&Item>) -> &[u8]
     }
 }
 
-/// Puts a text, and then a word and a name, into the line.
+/// Puts a text, and then a word and a name, into the buffer.
 fn push_words<W: Sink>(
-    line: &mut Line,
+    buffer: &mut ReportBuffer,
     out: &mut W,
     before: &[u8],
     word: &[u8],
     name: &[u8],
 ) -> Result<(), Failed>
-    ensures { Puts (W.written out.old) (W.written out.new) (W.faults out.old) (W.faults out.new) line.old (before.now ++ named word.now name.now) line.new result }
+    ensures { Buffered W.written W.faults out.old out.new buffer.old
+        (before.now ++ named word.now name.now) buffer.new result }
 {
-    line.push(out, before)?;
-    push_quoted(line, out, word, name)
+    buffer.push(out, before)?;
+    push_quoted(buffer, out, word, name)
 }
 
-/// Puts into the line whose courtyard is not checked, and on which layer.
+/// Puts into the buffer whose courtyard is not checked, and on which layer.
 fn push_courtyard<W: Sink>(
-    line: &mut Line,
+    buffer: &mut ReportBuffer,
     out: &mut W,
     layer: &[u8],
     reference: &[u8],
 ) -> Result<(), Failed>
-    ensures { Puts (W.written out.old) (W.written out.new) (W.faults out.old) (W.faults out.new) line.old (about_text About.Courtyard layer.now [] reference.now) line.new result }
+    ensures { Buffered W.written W.faults out.old out.new buffer.old
+        (about_text About.Courtyard layer.now [] reference.now) buffer.new result }
 {
-    line.push(out, b"courtyard ")?;
-    push_words(line, out, layer, b" of", reference)
+    buffer.push(out, b"courtyard ")?;
+    push_words(buffer, out, layer, b" of", reference)
 }
 
 /// What a note speaks of, with the names that its line may need.
@@ -70,42 +72,46 @@ struct Told<'a> {
     reference: &'a [u8],
 }
 
-/// Puts into the line what is not checked.
-fn push_about<W: Sink>(line: &mut Line, out: &mut W, told: Told<'_>) -> Result<(), Failed>
-    ensures { Puts (W.written out.old) (W.written out.new) (W.faults out.old) (W.faults out.new) line.old (about_text told.entry.about told.entry.layer.now told.entry.name.now told.entry.reference.now) line.new result }
+/// Puts into the buffer what is not checked.
+fn push_about<W: Sink>(buffer: &mut ReportBuffer, out: &mut W, told: Told<'_>) -> Result<(), Failed>
+    ensures { Buffered W.written W.faults out.old out.new buffer.old
+        (about_text told.entry.about told.entry.layer.now told.entry.name.now
+        told.entry.reference.now)
+        buffer.new result }
 {
     match told.about {
-        About::Text => push_words(line, out, b"text on ", told.layer, told.name),
-        About::Dimension => push_words(line, out, b"dimension on ", told.layer, told.name),
-        About::Courtyard => push_courtyard(line, out, told.layer, told.reference),
-        About::FootZone => push_quoted(line, out, b"zone of", told.reference),
+        About::Text => push_words(buffer, out, b"text on ", told.layer, told.name),
+        About::Dimension => push_words(buffer, out, b"dimension on ", told.layer, told.name),
+        About::Courtyard => push_courtyard(buffer, out, told.layer, told.reference),
+        About::FootZone => push_quoted(buffer, out, b"zone of", told.reference),
     }
 }
 
-/// Puts the line of a note together.
-fn push_note<W: Sink>(line: &mut Line, out: &mut W, told: Told<'_>) -> Result<(), Failed>
-    ensures { Puts (W.written out.old) (W.written out.new) (W.faults out.old) (W.faults out.new) line.old (told_text told.entry.about told.entry.layer.now told.entry.name.now told.entry.reference.now) line.new result }
+/// Puts the line of a note into the buffer.
+fn push_note<W: Sink>(buffer: &mut ReportBuffer, out: &mut W, told: Told<'_>) -> Result<(), Failed>
+    ensures { Buffered W.written W.faults out.old out.new buffer.old
+        (told_text told.entry.about told.entry.layer.now told.entry.name.now
+        told.entry.reference.now)
+        buffer.new result }
 {
-    line.push(out, b"not checked: ")?;
-    push_about(line, out, told)?;
-    line.push(out, b"\n")
+    buffer.push(out, b"not checked: ")?;
+    push_about(buffer, out, told)?;
+    buffer.push(out, b"\n")
 }
 
-/// Writes the line of a note.
-fn write_told<W: Sink>(out: &mut W, told: Told<'_>) -> Result<(), Failed>
-    ensures { Writes (W.written out.old) (W.written out.new) (W.faults out.old) (W.faults out.new) (told_text told.entry.about told.entry.layer.now told.entry.name.now told.entry.reference.now) result }
-{
-    let mut line = Line::new();
-    push_note(&mut line, out, told)?;
-    line.end(out)
-}
-
-/// Writes the line of an item, which it has where it is a note, with the reference of its footprint.
-fn write_note_of<W: Sink>(out: &mut W, item: &Item, reference: &[u8]) -> Result<(), Failed>
-    ensures { Writes (W.written out.old) (W.written out.new) (W.faults out.old) (W.faults out.new) (note_text item.now.name item.now.what reference.now) result }
+/// Puts the line of an item into the buffer, which it has where it is a note, with the reference of its footprint.
+fn push_note_of<W: Sink>(
+    buffer: &mut ReportBuffer,
+    out: &mut W,
+    item: &Item,
+    reference: &[u8],
+) -> Result<(), Failed>
+    ensures { Buffered W.written W.faults out.old out.new buffer.old
+        (note_text item.now.name item.now.what reference.now) buffer.new result }
 {
     match &item.what {
-        What::Note { about, layer } => write_told(
+        What::Note { about, layer } => push_note(
+            buffer,
             out,
             Told {
                 about: *about,
@@ -118,25 +124,32 @@ fn write_note_of<W: Sink>(out: &mut W, item: &Item, reference: &[u8]) -> Result<
     }
 }
 
-/// Writes the line of the note of an id.
-fn write_note<W: Sink>(out: &mut W, board: &Board, id: u32) -> Result<(), Failed>
-    ensures { Writes (W.written out.old) (W.written out.new) (W.faults out.old) (W.faults out.new) (note_line board.now id) result }
+/// Puts the line of the note of an id into the buffer.
+fn push_note_at<W: Sink>(
+    buffer: &mut ReportBuffer,
+    out: &mut W,
+    board: &Board,
+    id: u32,
+) -> Result<(), Failed>
+    ensures { Buffered W.written W.faults out.old out.new buffer.old
+        (note_line board.now id) buffer.new result }
 {
     let reference = reference_of(board.body_of(id));
     match board.get(id) {
-        Some(item) => write_note_of(out, item, reference),
+        Some(item) => push_note_of(buffer, out, item, reference),
         None => Ok(()),
     }
 }
 
-/// Writes the lines of all notes of a board, by id.
+/// Puts the lines of all notes of a board into the buffer, by id.
 #[tactic(auto, unfolding(crate::specs::Notes::item_lines))]
-fn write_items<W: Sink>(board: &Board, out: &mut W) -> Result<(), Failed>
-    ensures { Writes (W.written out.old) (W.written out.new) (W.faults out.old) (W.faults out.new) (item_lines board.now) result }
+fn push_items<W: Sink>(buffer: &mut ReportBuffer, out: &mut W, board: &Board) -> Result<(), Failed>
+    ensures { Buffered W.written W.faults out.old out.new buffer.old
+        (item_lines board.now) buffer.new result }
 {
     let notes = board.notes();
     for note in notes {
-        write_note(out, board, *note)?;
+        push_note_at(buffer, out, board, *note)?;
     }
     Ok(())
 }
@@ -151,48 +164,64 @@ fn rule_name(rules: &Rules, number: u32) -> &[u8]
     }
 }
 
-/// Puts the line of a constraint together.
+/// Puts the line of a constraint into the buffer.
 fn push_constraint<W: Sink>(
-    line: &mut Line,
+    buffer: &mut ReportBuffer,
     out: &mut W,
     rules: &Rules,
     note: &RuleNote,
 ) -> Result<(), Failed>
-    ensures { Puts (W.written out.old) (W.written out.new) (W.faults out.old) (W.faults out.new) line.old (constraint_line (plain_rules rules.now) (plain_note note.now)) line.new result }
+    ensures { Buffered W.written W.faults out.old out.new buffer.old
+        (constraint_line (plain_rules rules.now) (plain_note note.now)) buffer.new result }
 {
     let rule = rule_name(rules, note.rule);
-    line.push(out, b"not checked: constraint ")?;
-    push_words(line, out, note.constraint.bytes(), b" of rule", rule)?;
-    line.push(out, b"\n")
+    buffer.push(out, b"not checked: constraint ")?;
+    push_words(buffer, out, note.constraint.bytes(), b" of rule", rule)?;
+    buffer.push(out, b"\n")
 }
 
-/// Writes the line of a constraint.
-fn write_constraint<W: Sink>(out: &mut W, rules: &Rules, note: &RuleNote) -> Result<(), Failed>
-    ensures { Writes (W.written out.old) (W.written out.new) (W.faults out.old) (W.faults out.new) (constraint_line (plain_rules rules.now) (plain_note note.now)) result }
-{
-    let mut line = Line::new();
-    push_constraint(&mut line, out, rules, note)?;
-    line.end(out)
-}
-
-/// Writes the lines of all constraints that no rule may have.
-fn write_constraints<W: Sink>(rules: &Rules, out: &mut W) -> Result<(), Failed>
-    ensures { Writes (W.written out.old) (W.written out.new) (W.faults out.old) (W.faults out.new) (constraint_lines (plain_rules rules.now)) result }
+/// Puts the lines of all constraints that no rule may have into the buffer.
+fn push_constraints<W: Sink>(
+    buffer: &mut ReportBuffer,
+    out: &mut W,
+    rules: &Rules,
+) -> Result<(), Failed>
+    ensures { Buffered W.written W.faults out.old out.new buffer.old
+        (constraint_lines (plain_rules rules.now)) buffer.new result }
 {
     let notes = rules.notes.as_slice();
     for note in notes {
-        write_constraint(out, rules, note)?;
+        push_constraint(buffer, out, rules, note)?;
     }
     Ok(())
 }
 
-/// Writes the lines of all notes: those of the board, by id, and then those of its rules, in their order. `Failed` comes only
-/// where the sink's count of faults rose, and then a front part of the lines was written. It takes no memory.
-pub fn write_notes<W: Sink>(board: &Board, rules: &Rules, out: &mut W) -> Result<(), Failed>
-    ensures { Writes (W.written out.old) (W.written out.new) (W.faults out.old) (W.faults out.new) (note_lines board.now (plain_rules rules.now)) result }
+/// Puts the lines of all notes into the buffer: those of the board, by id, and then those of its rules, in their
+/// order. `Failed` comes only where the sink's count of faults rose, and then a front part of what the buffer held
+/// and of these lines was written. It takes no memory.
+pub fn push_notes<W: Sink>(
+    buffer: &mut ReportBuffer,
+    out: &mut W,
+    board: &Board,
+    rules: &Rules,
+) -> Result<(), Failed>
+    ensures { Buffered W.written W.faults out.old out.new buffer.old
+        (note_lines board.now (plain_rules rules.now)) buffer.new result }
 {
-    write_items(board, out)?;
-    write_constraints(rules, out)
+    push_items(buffer, out, board)?;
+    push_constraints(buffer, out, rules)
+}
+
+/// Writes the lines of all notes: those of the board, by id, and then those of its rules, in their order. `Failed`
+/// comes only where the sink's count of faults rose, and then a front part of the lines was written. It takes no
+/// memory.
+pub fn write_notes<W: Sink>(board: &Board, rules: &Rules, out: &mut W) -> Result<(), Failed>
+    ensures { Wrote W.written W.faults out.old out.new
+        (note_lines board.now (plain_rules rules.now)) result }
+{
+    let mut buffer = ReportBuffer::new();
+    push_notes(&mut buffer, out, board, rules)?;
+    buffer.end(out)
 }
 
 /// How many notes there are: as many as `write_notes` writes lines.

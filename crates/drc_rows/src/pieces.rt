@@ -1,78 +1,87 @@
-//! Texts that go into a line piece by piece.
+//! Texts that go into a buffer piece by piece.
 
 ghost use Rattle.std.specs.Prelude.{◌≡◌, ◌≤◌, ◌+◌, ◌++◌, [], ◌∷◌, true, false, length, unsigned_abs, MatchOption};
 ghost use Rattle.std.specs.List.{flat_map};
 ghost use Rattle.exact_dec.specs.Written.{mm_text};
-ghost use Rattle.drc_rows.specs.Line.{Puts, AreOwn, escaped, escaped_byte, named};
+ghost use Rattle.drc_rows.specs.Buffer.{Buffered, AreOwn, escaped, escaped_byte, named};
 
-use crate::line::Line;
+use crate::buffer::ReportBuffer;
 use drc_io::{Failed, Sink};
 use exact_dec::Nm;
 
-/// Puts pieces into the line, one after another.
+/// Puts pieces into the buffer, one after another. `Failed` comes only where the sink's count of faults rose, and
+/// then a front part of what the buffer held and of the pieces was written.
 #[inline(always)]
-pub(crate) fn push_all<W: Sink>(
-    line: &mut Line,
+pub fn push_all<W: Sink>(
+    buffer: &mut ReportBuffer,
     out: &mut W,
     pieces: &[&[u8]],
 ) -> Result<(), Failed>
-    ensures { Puts (W.written out.old) (W.written out.new) (W.faults out.old) (W.faults out.new) line.old (flat_map (λ p. p.now) pieces.now) line.new result }
+    ensures { Buffered W.written W.faults out.old out.new buffer.old
+        (flat_map (λ p. p.now) pieces.now) buffer.new result }
 {
     for piece in pieces {
-        line.push(out, piece)?;
+        buffer.push(out, piece)?;
     }
     Ok(())
 }
 
-/// A word and a name of at most so many bytes each go into the line at once.
+/// A word and a name of at most so many bytes each go into the buffer at once.
 const LONGEST: usize = 256;
 
-/// Puts a word and a name in quotes into the line.
+/// Puts a word and a name in quotes into the buffer.
 #[inline(always)]
 pub(crate) fn push_quoted<W: Sink>(
-    line: &mut Line,
+    buffer: &mut ReportBuffer,
     out: &mut W,
     word: &[u8],
     name: &[u8],
 ) -> Result<(), Failed>
-    ensures { Puts (W.written out.old) (W.written out.new) (W.faults out.old) (W.faults out.new) line.old (named word.now name.now) line.new result }
+    ensures { Buffered W.written W.faults out.old out.new buffer.old
+        (named word.now name.now) buffer.new result }
 {
     if word.len() > LONGEST || name.len() > LONGEST || !is_plain(name) {
-        return push_odd(line, out, word, name);
+        return push_odd(buffer, out, word, name);
     }
-    line.make_room(out, word.len() + name.len() + 3)?;
-    append_quoted(line, word, name);
+    buffer.make_room(out, word.len() + name.len() + 3)?;
+    append_quoted(buffer, word, name);
     Ok(())
 }
 
-/// The same where there is room and the name needs no backslash.
+/// Puts a word and a name in quotes into the buffer, where there is room and the name needs no backslash.
 #[inline(always)]
-fn append_quoted(line: &mut Line, word: &[u8], name: &[u8])
-    requires room { length line.old + (length word.now + length name.now + 3) ≤ 8192 }
+fn append_quoted(buffer: &mut ReportBuffer, word: &[u8], name: &[u8])
+    requires room { length buffer.old + (length word.now + length name.now + 3) ≤ 8192 }
     requires plain { escaped name.now ≡ name.now }
-    ensures { line.new ≡ line.old ++ named word.now name.now }
+    ensures { buffer.new ≡ buffer.old ++ named word.now name.now }
 {
-    line.append(word);
-    line.append(b" \"");
-    line.append(name);
-    line.append(b"\"");
+    buffer.append(word);
+    buffer.append(b" \"");
+    buffer.append(name);
+    buffer.append(b"\"");
 }
 
-/// The same of a name that needs a backslash, and of what is long.
+/// Puts a word and a name in quotes into the buffer, where the name needs a backslash or one of them is long.
 #[cold]
 #[inline(never)]
-fn push_odd<W: Sink>(line: &mut Line, out: &mut W, word: &[u8], name: &[u8]) -> Result<(), Failed>
-    ensures { Puts (W.written out.old) (W.written out.new) (W.faults out.old) (W.faults out.new) line.old (named word.now name.now) line.new result }
+fn push_odd<W: Sink>(
+    buffer: &mut ReportBuffer,
+    out: &mut W,
+    word: &[u8],
+    name: &[u8],
+) -> Result<(), Failed>
+    ensures { Buffered W.written W.faults out.old out.new buffer.old
+        (named word.now name.now) buffer.new result }
 {
-    push_all(line, out, &[word, b" \""])?;
-    push_bytes(line, out, name)?;
-    line.push(out, b"\"")
+    push_all(buffer, out, &[word, b" \""])?;
+    push_bytes(buffer, out, name)?;
+    buffer.push(out, b"\"")
 }
 
-/// Puts two lengths into the line, each behind a text of at most 64 bytes.
+/// Puts two lengths into the buffer, each behind a text of at most 64 bytes.
 #[inline(always)]
 pub(crate) fn push_lengths<W: Sink>(
-    line: &mut Line,
+    buffer: &mut ReportBuffer,
     out: &mut W,
     before: &[u8],
     first: Nm,
@@ -83,25 +92,27 @@ pub(crate) fn push_lengths<W: Sink>(
     requires first { unsigned_abs first ≤ 1000000000000 }
     requires between { length between.now ≤ 64 }
     requires second { unsigned_abs second ≤ 1000000000000 }
-    ensures { Puts (W.written out.old) (W.written out.new) (W.faults out.old) (W.faults out.new) line.old (before.now ++ mm_text first ++ between.now ++ mm_text second) line.new result }
+    ensures { Buffered W.written W.faults out.old out.new buffer.old
+        (before.now ++ mm_text first ++ between.now ++ mm_text second) buffer.new result }
 {
-    line.make_room(out, before.len() + between.len() + 32)?;
-    append_lengths(line, before, first, between, second);
+    buffer.make_room(out, before.len() + between.len() + 32)?;
+    append_lengths(buffer, before, first, between, second);
     Ok(())
 }
 
-/// The same where there is room.
+/// Puts two lengths into the buffer, each behind a text, where there is room.
 #[inline(always)]
-fn append_lengths(line: &mut Line, before: &[u8], first: Nm, between: &[u8], second: Nm)
+fn append_lengths(buffer: &mut ReportBuffer, before: &[u8], first: Nm, between: &[u8], second: Nm)
     requires first { unsigned_abs first ≤ 1000000000000 }
     requires second { unsigned_abs second ≤ 1000000000000 }
-    requires room { length line.old + (length before.now + length between.now + 32) ≤ 8192 }
-    ensures { line.new ≡ line.old ++ (before.now ++ mm_text first ++ between.now ++ mm_text second) }
+    requires room { length buffer.old + (length before.now + length between.now + 32) ≤ 8192 }
+    ensures { buffer.new
+        ≡ buffer.old ++ (before.now ++ mm_text first ++ between.now ++ mm_text second) }
 {
-    line.append(before);
-    line.append_length(first);
-    line.append(between);
-    line.append_length(second);
+    buffer.append(before);
+    buffer.append_length(first);
+    buffer.append(between);
+    buffer.append_length(second);
 }
 
 /// How many bytes of a name are looked at together.
@@ -119,7 +130,7 @@ fn is_plain(name: &[u8]) -> bool
     }
 }
 
-/// The same of a name of less than a step.
+/// Whether each byte of a name of less than a step stands for itself between quotes.
 fn is_short_plain(name: &[u8]) -> bool
     ensures { result ≡ true → escaped name.now ≡ name.now }
 {
@@ -131,7 +142,8 @@ fn is_short_plain(name: &[u8]) -> bool
     true
 }
 
-/// The same of a name of a step or more, step by step. The last step ends with the name.
+/// Whether each byte of a name of a step or more stands for itself between quotes. It goes step by step, and the
+/// last step ends with the name.
 fn is_long_plain(name: &[u8]) -> bool
     requires { 16 ≤ length name.now }
     ensures { result ≡ true → escaped name.now ≡ name.now }
@@ -169,29 +181,32 @@ fn is_odd(byte: u8) -> bool
     (byte == b'"') | (byte == b'\\') | (byte == b'\n') | (byte == b'\r')
 }
 
-/// Puts the bytes of a name into the line, one after another.
-fn push_bytes<W: Sink>(line: &mut Line, out: &mut W, name: &[u8]) -> Result<(), Failed>
-    ensures { Puts (W.written out.old) (W.written out.new) (W.faults out.old) (W.faults out.new) line.old (escaped name.now) line.new result }
+/// Puts the bytes of a name into the buffer, one after another.
+fn push_bytes<W: Sink>(buffer: &mut ReportBuffer, out: &mut W, name: &[u8]) -> Result<(), Failed>
+    ensures { Buffered W.written W.faults out.old out.new buffer.old
+        (escaped name.now) buffer.new result }
 {
     for byte in name {
-        push_byte(line, out, *byte)?;
+        push_byte(buffer, out, *byte)?;
     }
     Ok(())
 }
 
-/// Puts a byte of a name into the line.
-fn push_byte<W: Sink>(line: &mut Line, out: &mut W, byte: u8) -> Result<(), Failed>
-    ensures { Puts (W.written out.old) (W.written out.new) (W.faults out.old) (W.faults out.new) line.old (escaped_byte byte) line.new result }
+/// Puts a byte of a name into the buffer.
+fn push_byte<W: Sink>(buffer: &mut ReportBuffer, out: &mut W, byte: u8) -> Result<(), Failed>
+    ensures { Buffered W.written W.faults out.old out.new buffer.old
+        (escaped_byte byte) buffer.new result }
 {
     match letter_of(byte) {
-        Some(letter) => line.push(out, &[b'\\', letter]),
-        None => line.push(out, &[byte]),
+        Some(letter) => buffer.push(out, &[b'\\', letter]),
+        None => buffer.push(out, &[byte]),
     }
 }
 
 /// What stands behind a backslash for a byte that has one.
 fn letter_of(byte: u8) -> Option<u8>
-    ensures { MatchOption result (escaped_byte byte ≡ byte ∷ []) (λ letter. escaped_byte byte ≡ 92 ∷ (letter ∷ [])) }
+    ensures { MatchOption result (escaped_byte byte ≡ byte ∷ [])
+        (λ letter. escaped_byte byte ≡ 92 ∷ (letter ∷ [])) }
 {
     match byte {
         b'"' => Some(b'"'),

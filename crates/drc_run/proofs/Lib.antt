@@ -11,7 +11,7 @@ pub mod Turning
 pub mod Stepping
 pub mod Ending
 pub mod Scripted
-pub mod Trials
+pub mod TrialTexts
 pub mod Stolen
 pub mod Rewrites
 pub mod Promised

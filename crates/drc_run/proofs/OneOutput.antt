@@ -21,7 +21,8 @@ use Rattle.drc_state.specs.States.{State}
 use Rattle.run_words.specs.Calls.{PlainSource, file, made, PlainCall, nothing, check, undo, try, steal, write}
 use Rattle.run_texts.specs.declared.texts.Which.{Which}
 use Rattle.run_texts.specs.declared.texts.Which.TheVariants.{Board, Project, Rules, Script, Steps, Trials, Text}
-use Rattle.run_texts.specs.Texts.{Named, texts_of, Value, a_board, a_project, a_rules, a_script, some_steps, Said, accepted, refused, at_place, IsRefusalText, most_trials, RefusesScript, RefusesTrials, ReaderSays, TextSays, longer, read, AreBytesOf, SourceSays, AreAccepted, IsReached, a_text}
+use Rattle.plain_types.specs.Limits.{most_trials}
+use Rattle.run_texts.specs.Texts.{Named, texts_of, Value, a_board, a_project, a_rules, a_script, some_steps, Said, accepted, refused, at_place, IsRefusalText, RefusesScript, RefusesTrials, ReaderSays, TextSays, longer, read, AreBytesOf, SourceSays, AreAccepted, IsReached, a_text}
 use Rattle.drc_run.specs.Output.{Output, commands_among, steps_among, IsOpenedBy, is_short, IsTold, IsToldSoFar, AreStepsTold, AreStepsToldSoFar, AreTrialsTold, AreFirstTrials, IsTextOf, IsBegunBy, IsOutputFor, unclear, stopped, given, IsBegunFor, whole, begun_by, usage, refusal, AreRowsTold, IsBoardWritten}
 use Rattle.drc_run.proofs.OneProject.{one_project}
 

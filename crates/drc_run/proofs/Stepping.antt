@@ -11,8 +11,8 @@ use Rattle.undo_log.specs.declared.error.HistoryError.TheVariants.{Edit, Nothing
 use Rattle.undo_log.specs.Past.{Past, StepAnswers, does_replace}
 use Rattle.undo_log.specs.Taking.{IsRefused}
 use Rattle.undo_log.specs.Ways.{PlainHistory, IsPastOf}
-use Rattle.drc_run.specs.declared.turns.Break.{Break}
-use Rattle.drc_run.specs.declared.turns.Break.TheVariants.{Unwritten}
+use Rattle.drc_run.specs.declared.check.Break.{Break}
+use Rattle.drc_run.specs.declared.check.Break.TheVariants.{Unwritten}
 use Rattle.drc_run.specs.Reports.{AreFindings, report_text, refused_line, why_step}
 use Rattle.drc_run.specs.Turns.{IsStepTurn, unstepped, stepped}
 use Rattle.drc_run.specs.Running.{found_of, IsStepTaken, IsStepBroken, AreTaken, AreBroken, IsStepAnswered, wanting, line, AreStepsSoFar}

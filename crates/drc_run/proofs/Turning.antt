@@ -14,8 +14,8 @@ use Rattle.drc_state.specs.declared.error.EditError.TheVariants.{NoSuchItem, Sha
 use Rattle.drc_state.specs.States.{State}
 use Rattle.drc_state.specs.Steps.{Answers}
 use Rattle.drc_session.specs.Sessions.{PlainSession, IsRefusedBy}
-use Rattle.drc_run.specs.declared.turns.Break.{Break}
-use Rattle.drc_run.specs.declared.turns.Break.TheVariants.{Unwritten}
+use Rattle.drc_run.specs.declared.check.Break.{Break}
+use Rattle.drc_run.specs.declared.check.Break.TheVariants.{Unwritten}
 use Rattle.drc_run.specs.declared.status.Status.{Status}
 use Rattle.drc_run.specs.declared.status.Status.TheVariants.{WriteFault}
 use Rattle.drc_run.specs.Reports.{AreFindings, IsOpening, report_text, refused_line, why_edit}

@@ -8,8 +8,8 @@ use Rattle.drc_state.specs.States.{State, checked_in}
 use Rattle.drc_state.specs.Steps.{Answers}
 use Rattle.drc_session.specs.Sessions.{PlainSession}
 use Rattle.what_if.specs.Trials.{IsDifference}
-use Rattle.drc_run.specs.declared.outlook.Ground.{Ground}
-use Rattle.drc_run.specs.declared.outlook.Outlook.{Outlook}
+use Rattle.drc_run.specs.declared.trial_results.Ground.{Ground}
+use Rattle.drc_run.specs.declared.trial_results.Outlook.{Outlook}
 use Rattle.drc_run.specs.Turns.{marked_lines, or_some}
 
 -- the session runs, these are its rows, and there are from 1 to 8 workers

@@ -14,8 +14,8 @@ use Rattle.undo_log.specs.Past.{Past}
 use Rattle.undo_log.specs.Ways.{PlainHistory, IsPastOf}
 use Rattle.drc_state.specs.States.{State}
 use Rattle.edit_script.specs.Commands.{PlainCommand}
-use Rattle.drc_run.specs.declared.turns.Break.{Break}
-use Rattle.drc_run.specs.declared.turns.Break.TheVariants.{Unwritten, OutOfMemory}
+use Rattle.drc_run.specs.declared.check.Break.{Break}
+use Rattle.drc_run.specs.declared.check.Break.TheVariants.{Unwritten, OutOfMemory}
 use Rattle.drc_run.specs.Reports.{AreFindings, report_text, refused_line, why_edit, why_step}
 use Rattle.drc_run.specs.Turns.{AreTurns, AreFirstTurns, IsStepTurn}
 use Rattle.drc_run.specs.Output.{Output, IsLeastLine, AreTrialsTold, AreFirstTrials}

@@ -29,7 +29,8 @@ fn status_for<R: Threads + Sync + AllocGlobal, F: Shelf, W: Sink, G: Gate>(
     out: &mut W,
     gate: &G,
 ) -> u8
-    ensures promises { Promises (call_of_line line.now) (F.files shelf.old) (F.faults shelf.old) (F.faults shelf.new)
+    ensures promises { Promises (call_of_line line.now)
+        (F.files shelf.old) (F.faults shelf.old) (F.faults shelf.new)
         (W.written out.old) (W.written out.new) (W.faults out.old) (W.faults out.new) result }
     ensures same { F.files shelf.new ≡ F.files shelf.old }
 {
@@ -39,8 +40,8 @@ fn status_for<R: Threads + Sync + AllocGlobal, F: Shelf, W: Sink, G: Gate>(
     }
 }
 
-/// `run_all` on a command line, which begins with the program's name. The status is that of the words behind the name, and 6 where
-/// memory had no room for the line.
+/// Does what a command line asks for, which begins with the program's name, and gives the exit code. It is the status
+/// of [`run_all`] for the words behind the name, and 6 where memory had no room for the line.
 pub fn answer<R: Threads + Sync + AllocGlobal, F: Shelf, W: Sink, G: Gate>(
     rt: &R,
     line: Result<Vec<String>, AllocError>,
@@ -49,8 +50,12 @@ pub fn answer<R: Threads + Sync + AllocGlobal, F: Shelf, W: Sink, G: Gate>(
     gate: &G,
 ) -> ExitCode
     // What was written, and that each fault has its cause.
-    ensures promises { MatchResult line (λ words. Promises (call_of_line words.items) (F.files shelf.old) (F.faults shelf.old) (F.faults shelf.new)
-        (W.written out.old) (W.written out.new) (W.faults out.old) (W.faults out.new) (exit_status result)) (λ _. exit_status result ≡ 6) }
+    ensures promises { MatchResult line
+        (λ words. Promises (call_of_line words.items)
+        (F.files shelf.old) (F.faults shelf.old) (F.faults shelf.new)
+        (W.written out.old) (W.written out.new) (W.faults out.old) (W.faults out.new)
+        (exit_status result))
+        (λ _. exit_status result ≡ 6) }
     // Without a line nothing is read or written.
     ensures untouched { OnErr line ((shelf.new ≡ shelf.old) × (out.new ≡ out.old)) }
     // The files stay as they were.

@@ -1,6 +1,9 @@
-//! From the texts to the reports, or to the line that stands in their place.
+//! `BOARD ..`: from the texts to the reports, or to the line that stands in their place.
 
-ghost use Rattle.std.specs.Prelude.{◌≡◌, ◌≤◌, length, map, All, false};
+ghost use Rattle.std.specs.Prelude.{◌≡◌, ◌≤◌, ◌⊎◌, false, map, length, All, IfOk, IfErr, MatchResult};
+ghost use Rattle.std.specs.Prelude.{Ok, Err};
+ghost use Rattle.std.specs.Io.KnownBytes.{Keeps};
+ghost use Rattle.plain_types.specs.Limits.{IsInText, IsWorkerCount};
 ghost use Rattle.drc_io.specs.Causes.{Rose};
 ghost use Rattle.edit_script.specs.Commands.{plain_command};
 ghost use Rattle.edit_script.specs.Fits.{Fits};
@@ -10,15 +13,18 @@ ghost use Rattle.run_words.specs.Calls.{check};
 ghost use Rattle.run_words.specs.Views.{source_in, reading_in, RequestFits};
 ghost use Rattle.run_texts.specs.Views.{opened_in};
 ghost use Rattle.drc_run.specs.declared.status.Status.{Status};
+ghost use Rattle.drc_run.specs.declared.check.Break.{Break};
+ghost use Rattle.drc_run.specs.Turns.{IsTurn};
+ghost use Rattle.drc_run.specs.Running.{IsEditAnswered, IsTurnTaken, IsBroken, AreTaken, AreBroken};
 ghost use Rattle.drc_run.specs.Output.{IsTold, IsToldSoFar, is_short};
 ghost use Rattle.drc_run.specs.Endings.{Ends, EndsFor};
 
-use crate::finish::{session_status, write_stop};
+use crate::lines::write_refused;
 use crate::reporting::write_report;
-use crate::status::Status;
-use crate::turns::{Break, Way, tiles_of, turns};
+use crate::status::{Status, session_status, write_stop};
 use drc_io::{Failed, Shelf, Sink};
-use drc_session::Session;
+use drc_session::{Applied, Session};
+use drc_state::EditError;
 use edit_script::Command;
 use run_reports::Tiles;
 use run_texts::{Texts, commands_of, script_text, texts_of};
@@ -26,6 +32,111 @@ use run_words::{BoardSource, Request};
 use std::alloc::AllocGlobal;
 use std::thread::Threads;
 use tile_pool::Gate;
+
+/// How a session is gone on with: by how many workers, from 1 to 64, and whether its reports are short.
+#[derive(Clone, Copy)]
+struct Way {
+    workers: u32,
+    short: bool,
+}
+
+/// Why a run breaks off.
+#[derive(Clone, Copy)]
+pub(crate) enum Break {
+    /// A write failed.
+    Unwritten,
+    /// Memory ran out.
+    OutOfMemory,
+}
+
+/// What became of a text.
+pub(crate) fn told(written: Result<(), Failed>) -> Result<(), Break>
+    ensures { MatchResult written (λ u. result ≡ Ok u) (λ _. result ≡ Err Break.Unwritten) }
+{
+    match written {
+        Ok(()) => Ok(()),
+        Err(Failed) => Err(Break::Unwritten),
+    }
+}
+
+/// How many tiles a call of a session went through, and how many hold an item.
+pub(crate) fn tiles_of(applied: &Applied) -> Tiles
+    ensures done { result.done ≡ length applied.now.tiles.items }
+    ensures held { result.held ≡ applied.now.held }
+{
+    Tiles {
+        done: applied.tiles.len() as u64,
+        held: applied.held,
+    }
+}
+
+/// Writes the line of the command of this number, which is refused. Want of memory is not written.
+fn refused<W: Sink>(number: u64, why: EditError, out: &mut W) -> Result<(), Break>
+    ensures { IsEditAnswered number why (W.written out.old) (W.written out.new) (W.faults out.old)
+        (W.faults out.new) result }
+{
+    match why {
+        EditError::OutOfMemory => Err(Break::OutOfMemory),
+        _ => told(write_refused(number, &why, out)),
+    }
+}
+
+/// The turn of a command: it is carried out and the report of the board as it now is is written, or it is refused and its line is
+/// written. Where memory runs out, nothing is.
+fn turn<R: Threads + Sync + AllocGlobal, W: Sink, G: Gate>(
+    rt: &R,
+    gate: &G,
+    way: Way,
+    number: u64,
+    command: &Command<'_>,
+    session: &mut Session,
+    out: &mut W,
+) -> Result<(), Break>
+    requires workers { IsWorkerCount way.workers }
+    requires running { session.old.stopped ≡ false }
+    requires fits { Fits (plain_command command.now) }
+    ensures taken { IfOk result (λ _. IsTurnTaken (IsTurn way.short) number session.old.state
+        (plain_command command.now) session.new.state (W.written out.old) (W.written out.new)) }
+    ensures running { IfOk result (λ _. session.new.stopped ≡ false) }
+    ensures broken { IfErr result (λ _. Keeps (W.written out.old) (W.written out.new) ⊎ IsBroken
+        (IsTurn way.short) number session.old.state (plain_command command.now) (W.written out.old)
+        (W.written out.new)) }
+    ensures fault { result ≡ Err Break.Unwritten → Rose (W.faults out.old) (W.faults out.new) }
+    ensures later { W.faults out.old ≤ W.faults out.new }
+{
+    match session.apply(rt, way.workers, command, gate) {
+        Ok(applied) => told(write_report(way.short, number, session, tiles_of(&applied), out)),
+        Err(why) => refused(number, why, out),
+    }
+}
+
+/// The turns of all commands, numbered from 1.
+fn turns<R: Threads + Sync + AllocGlobal, W: Sink, G: Gate>(
+    rt: &R,
+    gate: &G,
+    way: Way,
+    commands: &[Command<'_>],
+    session: &mut Session,
+    out: &mut W,
+) -> Result<(), Break>
+    requires workers { IsWorkerCount way.workers }
+    requires running { session.old.stopped ≡ false }
+    requires fit { All Fits (map plain_command commands.now) }
+    ensures taken { IfOk result (λ _. AreTaken (IsTurn way.short) session.old.state
+        (map plain_command commands.now) session.new.state
+        (W.written out.old) (W.written out.new)) }
+    ensures running { IfOk result (λ _. session.new.stopped ≡ false) }
+    ensures broken { IfErr result (λ _. AreBroken (IsTurn way.short) session.old.state
+        (map plain_command commands.now) (W.written out.old) (W.written out.new)) }
+    ensures fault { result ≡ Err Break.Unwritten → Rose (W.faults out.old) (W.faults out.new) }
+{
+    let mut number: u64 = 0;
+    for command in commands {
+        number += 1;
+        turn(rt, gate, way, number, command, session, out)?;
+    }
+    Ok(())
+}
 
 /// Writes the report of a session that begins, and then what each command makes of it.
 fn go_through<R: Threads + Sync + AllocGlobal, W: Sink, G: Gate>(
@@ -37,12 +148,14 @@ fn go_through<R: Threads + Sync + AllocGlobal, W: Sink, G: Gate>(
     commands: &[Command<'_>],
     out: &mut W,
 ) -> Status
-    requires workers { (1 ≤ way.workers) × (way.workers ≤ 64) }
+    requires workers { IsWorkerCount way.workers }
     requires running { session.old.stopped ≡ false }
     requires held { IsHeldCount (checked_in session.old.state) tiles.held }
     requires whole { tiles.done ≡ tiles.held }
     requires fit { All Fits (map plain_command commands.now) }
-    ensures ends { Ends (IsTold way.short session.old.state (map plain_command commands.now)) (IsToldSoFar way.short session.old.state (map plain_command commands.now)) (λ _. ⊥) (W.written out.old) (W.written out.new) result }
+    ensures ends { Ends (IsTold way.short session.old.state (map plain_command commands.now))
+        (IsToldSoFar way.short session.old.state (map plain_command commands.now)) (λ _. ⊥)
+        (W.written out.old) (W.written out.new) result }
     ensures fault { result ≡ Status.WriteFault → Rose (W.faults out.old) (W.faults out.new) }
 {
     match write_report(way.short, 0, session, tiles, out) {
@@ -65,10 +178,12 @@ fn report<R: Threads + Sync + AllocGlobal, W: Sink, G: Gate>(
     commands: &[Command<'_>],
     out: &mut W,
 ) -> Status
-    requires workers { (1 ≤ way.workers) × (way.workers ≤ 64) }
-    requires few { length texts.rules.rules ≤ 33_554_432 }
+    requires workers { IsWorkerCount way.workers }
+    requires few { IsInText (length texts.rules.rules) }
     requires fit { All Fits (map plain_command commands.now) }
-    ensures ends { Ends (IsTold way.short (opened_in texts) (map plain_command commands.now)) (IsToldSoFar way.short (opened_in texts) (map plain_command commands.now)) (λ _. ⊥) (W.written out.old) (W.written out.new) result }
+    ensures ends { Ends (IsTold way.short (opened_in texts) (map plain_command commands.now))
+        (IsToldSoFar way.short (opened_in texts) (map plain_command commands.now)) (λ _. ⊥)
+        (W.written out.old) (W.written out.new) result }
     ensures fault { result ≡ Status.WriteFault → Rose (W.faults out.old) (W.faults out.new) }
 {
     match Session::begin(
@@ -109,7 +224,8 @@ pub(crate) fn check<R: Threads + Sync + AllocGlobal, F: Shelf, W: Sink, G: Gate>
     out: &mut W,
 ) -> Status
     requires { RequestFits request }
-    ensures ends { EndsFor (check (reading_in request.entry)) (F.files shelf.old) (F.faults shelf.old) (F.faults shelf.new) (W.written out.old) (W.written out.new) result }
+    ensures ends { EndsFor (check (reading_in request.entry)) (F.files shelf.old)
+        (F.faults shelf.old) (F.faults shelf.new) (W.written out.old) (W.written out.new) result }
     ensures fault { result ≡ Status.WriteFault → Rose (W.faults out.old) (W.faults out.new) }
     ensures same { F.files shelf.new ≡ F.files shelf.old }
 {

@@ -16,7 +16,8 @@ use what_if::laws::{one_survey, one_trial};
 
 /// The words and the files have one output at most.
 pub fn one_output()
-    ensures { (call : PlainCall) (files : List (List ℕ × List ℕ)) (a b : Output) → IsOutputFor call (Some files) a → IsOutputFor call (Some files) b → a ≡ b }
+    ensures { (call : PlainCall) (files : List (List ℕ × List ℕ)) (a b : Output) → IsOutputFor call
+        (Some files) a → IsOutputFor call (Some files) b → a ≡ b }
 {
     one_reading();
     one_rules_reading();
@@ -34,7 +35,9 @@ pub fn one_output()
 
 /// What the output begins with after some of the commands is a front part of it, where there is an output.
 pub fn begun_is_front()
-    ensures { (call : PlainCall) (files : List (List ℕ × List ℕ)) (text : List ℕ) (out : Output) → IsBegunFor call (Some files) text → IsOutputFor call (Some files) out → (rest : List ℕ) × (out.text ≡ text ++ rest) }
+    ensures { (call : PlainCall) (files : List (List ℕ × List ℕ)) (text : List ℕ) (out : Output) →
+        IsBegunFor call (Some files) text → IsOutputFor call (Some files) out → (rest : List ℕ) ×
+        (out.text ≡ text ++ rest) }
 {
     one_reading();
     one_rules_reading();

@@ -10,29 +10,25 @@ ghost use Rattle.drc_run.specs.Endings.{EndsFor, Promises};
 
 mod answering;
 mod check;
-mod finish;
-mod kept;
 pub mod laws;
 mod lines;
-mod marked;
-mod outlook;
+mod marked_rows;
 mod reporting;
 mod rewriting;
+mod sinks;
 mod status;
 mod stealing;
-mod steps;
-mod trying;
-mod turns;
-mod undoing;
+mod trial_results;
+mod trials;
+mod undo;
 
 use crate::check::check;
-use crate::finish::usage;
 use crate::laws::{begun_is_front, one_output};
 use crate::rewriting::rewrite;
-use crate::status::Status;
+use crate::status::{Status, usage};
 use crate::stealing::steal;
-use crate::trying::try_each;
-use crate::undoing::undo;
+use crate::trials::try_each;
+use crate::undo::undo;
 pub use answering::answer;
 use drc_io::{Shelf, Sink};
 use run_words::{Call, call_of, check_call};
@@ -48,7 +44,8 @@ fn carry_out<R: Threads + Sync + AllocGlobal, F: Shelf, W: Sink, G: Gate>(
     out: &mut W,
 ) -> Status
     requires { CallFits call }
-    ensures ends { EndsFor (call_in call.entry) (F.files shelf.old) (F.faults shelf.old) (F.faults shelf.new) (W.written out.old) (W.written out.new) result }
+    ensures ends { EndsFor (call_in call.entry) (F.files shelf.old) (F.faults shelf.old)
+        (F.faults shelf.new) (W.written out.old) (W.written out.new) result }
     ensures fault { result ≡ Status.WriteFault → Rose (W.faults out.old) (W.faults out.new) }
     ensures same { F.files shelf.new ≡ F.files shelf.old }
 {
@@ -77,7 +74,8 @@ pub fn run<R: Threads + Sync + AllocGlobal, F: Shelf, W: Sink, G: Gate>(
     gate: &G,
 ) -> u8
     // What was written, and that each fault has its cause.
-    ensures promises { Promises (check_call (words_of words.now)) (F.files shelf.old) (F.faults shelf.old) (F.faults shelf.new)
+    ensures promises { Promises (check_call (words_of words.now))
+        (F.files shelf.old) (F.faults shelf.old) (F.faults shelf.new)
         (W.written out.old) (W.written out.new) (W.faults out.old) (W.faults out.new) result }
     // The files stay as they were.
     ensures same { F.files shelf.new ≡ F.files shelf.old }
@@ -92,13 +90,23 @@ pub fn run<R: Threads + Sync + AllocGlobal, F: Shelf, W: Sink, G: Gate>(
     status as u8
 }
 
-/// The same, but where the first word is one of these; a board whose file is called so is named with its folder, as `./undo`.
+/// Does what the words ask for, and writes what comes of it. `words` are what a command line has behind the name of
+/// the program, and `gate` is called before and after each test of a tile. The first word may be one of these; a board
+/// whose file is called so is named with its folder, as `./undo`.
 ///
-/// - `undo BOARD SCRIPT`: a script that may also undo what its commands did, and do it again.
-/// - `try BOARD SCRIPT N`: what each command of the script would do alone to the board as its file has it, by N workers, from 1 to 8: the rows
-///   that would go and come, and at the end the first of the commands that leave the fewest rows. The status is 1 where a row would come.
+/// - `undo BOARD SCRIPT`: checks the board, and again after each step of the script, which may also undo what its
+///   commands did, and do it again.
+/// - `try BOARD SCRIPT N`: what each command of the script would do alone to the board as its file has it, by N workers,
+///   from 1 to 8: the rows that would go and come, and at the end the first of the commands that leave the fewest rows.
 /// - `steal BOARD N`: the rows alone, by N workers, from 1 to 64, that steal tiles from each other.
-/// - `write BOARD SCRIPT`: the text of the board after the commands of the script. The status is 1 where one of them is refused.
+/// - `write BOARD SCRIPT`: the text of the board after the commands of the script.
+///
+/// All other words are those of a check, as [`run`] does it: of a board, under the classes of a project and the rules
+/// of a rule file, and again after each command of a script.
+///
+/// The status is 0 where the board as it is at the end has no row, 1 where it has one, 2 where the words are no command
+/// line, 3 where a text is refused, 4 where a file was not read, 5 where a write failed and 6 where memory ran out. Of
+/// `try` it is 1 where a row would come by a command, and of `write` where a command is refused.
 pub fn run_all<R: Threads + Sync + AllocGlobal, F: Shelf, W: Sink, G: Gate>(
     rt: &R,
     words: &[&str],
@@ -107,7 +115,8 @@ pub fn run_all<R: Threads + Sync + AllocGlobal, F: Shelf, W: Sink, G: Gate>(
     gate: &G,
 ) -> u8
     // What was written, and that each fault has its cause.
-    ensures promises { Promises (call_of (words_of words.now)) (F.files shelf.old) (F.faults shelf.old) (F.faults shelf.new)
+    ensures promises { Promises (call_of (words_of words.now))
+        (F.files shelf.old) (F.faults shelf.old) (F.faults shelf.new)
         (W.written out.old) (W.written out.new) (W.faults out.old) (W.faults out.new) result }
     // The files stay as they were.
     ensures same { F.files shelf.new ≡ F.files shelf.old }

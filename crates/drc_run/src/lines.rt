@@ -1,7 +1,7 @@
 //! Lines that stand in the place of reports.
 
 ghost use Rattle.std.specs.Prelude.{◌≡◌};
-ghost use Rattle.drc_io.specs.Sinks.{Writes};
+ghost use Rattle.drc_io.specs.Sinks.{Wrote};
 ghost use Rattle.run_texts.specs.Refusing.{plus_text, digits_text, why_of};
 ghost use Rattle.drc_run.specs.Output.{refusal, cannot_read};
 ghost use Rattle.drc_run.specs.Reports.{why_edit, why_step, refused_behind, refused_line, refused_trial};
@@ -56,7 +56,8 @@ fn inner_behind(place: Option<u32>, inner: Option<u32>) -> Option<u32>
 
 /// Writes `refused WHICH: NAME (CODE) at PLACE`, and for a condition ` + PLACE` behind it.
 pub(crate) fn write_refusal<W: Sink>(why: Refusal, out: &mut W) -> Result<(), Failed>
-    ensures { Writes (W.written out.old) (W.written out.new) (W.faults out.old) (W.faults out.new) (refusal why.which (why_of why)).text result }
+    ensures { Wrote W.written W.faults out.old out.new
+        (refusal why.which (why_of why)).text result }
 {
     let mut digits = Buffer::new();
     let mut more_digits = Buffer::new();
@@ -80,7 +81,7 @@ pub(crate) fn write_refusal<W: Sink>(why: Refusal, out: &mut W) -> Result<(), Fa
 
 /// Writes `cannot read WHICH`.
 pub(crate) fn write_unread<W: Sink>(which: Which, out: &mut W) -> Result<(), Failed>
-    ensures { Writes (W.written out.old) (W.written out.new) (W.faults out.old) (W.faults out.new) (cannot_read which) result }
+    ensures { Wrote W.written W.faults out.old out.new (cannot_read which) result }
 {
     write_pieces(&[b"cannot read ", which.word(), b"\n"], out)
 }
@@ -92,7 +93,8 @@ fn write_refused_behind<W: Sink>(
     why: &EditError,
     out: &mut W,
 ) -> Result<(), Failed>
-    ensures { Writes (W.written out.old) (W.written out.new) (W.faults out.old) (W.faults out.new) (refused_behind before.now number (why_edit why.now)) result }
+    ensures { Wrote W.written W.faults out.old out.new
+        (refused_behind before.now number (why_edit why.now)) result }
 {
     let name = why.name();
     let code = why.code();
@@ -128,29 +130,34 @@ pub(crate) fn write_refused<W: Sink>(
     why: &EditError,
     out: &mut W,
 ) -> Result<(), Failed>
-    ensures { Writes (W.written out.old) (W.written out.new) (W.faults out.old) (W.faults out.new) (refused_line number (why_edit why.now)) result }
+    ensures { Wrote W.written W.faults out.old out.new
+        (refused_line number (why_edit why.now)) result }
 {
     write_refused_behind(b"command ", number, why, out)
 }
 
-/// The same of a command that is tried: `trial NUMBER refused: NAME (CODE)` and the places.
+/// Writes the line of the command of this number, which is tried and refused: `trial NUMBER refused: NAME (CODE)` and the
+/// places.
 pub(crate) fn write_refused_trial<W: Sink>(
     number: u64,
     why: &EditError,
     out: &mut W,
 ) -> Result<(), Failed>
-    ensures { Writes (W.written out.old) (W.written out.new) (W.faults out.old) (W.faults out.new) (refused_trial number (why_edit why.now)) result }
+    ensures { Wrote W.written W.faults out.old out.new
+        (refused_trial number (why_edit why.now)) result }
 {
     write_refused_behind(b"trial ", number, why, out)
 }
 
-/// The same of a step. One that is a refused command is told as that command.
+/// Writes the line of the step of this number, which is refused: `command NUMBER refused: NAME (CODE)`. A step that is a
+/// refused command is told as that command, with its places.
 pub(crate) fn write_refused_step<W: Sink>(
     number: u64,
     why: &HistoryError,
     out: &mut W,
 ) -> Result<(), Failed>
-    ensures { Writes (W.written out.old) (W.written out.new) (W.faults out.old) (W.faults out.new) (refused_line number (why_step why.now)) result }
+    ensures { Wrote W.written W.faults out.old out.new
+        (refused_line number (why_step why.now)) result }
 {
     if let HistoryError::Edit(edit) = why {
         return write_refused(number, edit, out);

@@ -31,7 +31,8 @@ pub(crate) fn write_report<W: Sink>(
 ) -> Result<(), Failed>
     requires running { session.now.stopped ≡ false }
     requires held { IsHeldCount (checked_in session.now.state) tiles.held }
-    ensures { IsReported short number session.now tiles.done tiles.held (W.written out.old) (W.written out.new) (W.faults out.old) (W.faults out.new) result }
+    ensures { IsReported short number session.now tiles.done tiles.held (W.written out.old)
+        (W.written out.new) (W.faults out.old) (W.faults out.new) result }
 {
     rows_have_items();
     rows_have_sources();

@@ -1,6 +1,8 @@
-//! From a board and a script to the text of the board after the commands, or to the line that stands in its place.
+//! `write BOARD SCRIPT`: from a board and a script to the text of the board after the commands, or to the line that
+//! stands in its place.
 
-ghost use Rattle.std.specs.Prelude.{◌≡◌, ◌≤◌, length, map, All, IfOk, MatchResult};
+ghost use Rattle.std.specs.Prelude.{◌≡◌, length, map, All, IfOk, MatchResult};
+ghost use Rattle.plain_types.specs.Limits.{IsInText, IsReadable};
 ghost use Rattle.drc_io.specs.Causes.{Rose};
 ghost use Rattle.edit_script.specs.Commands.{plain_command};
 ghost use Rattle.edit_script.specs.Fits.{Fits, AreShallow};
@@ -13,8 +15,7 @@ ghost use Rattle.drc_run.specs.declared.status.Status.{Status};
 ghost use Rattle.drc_run.specs.Output.{IsBoardWritten, status_after};
 ghost use Rattle.drc_run.specs.Endings.{Ends, EndsFor, IsTextOfOne, number_of};
 
-use crate::finish::write_stop;
-use crate::status::Status;
+use crate::status::{Status, write_stop};
 use roundtrip_edited::laws::read_back;
 use board_write::{SourceText, WriteError, read_source, write_source};
 use drc_io::{Shelf, Sink};
@@ -36,8 +37,9 @@ fn status_after(refused: u32) -> Status
 
 /// The board of a text that is wanted itself.
 fn source_in<'t>(alloc: Global, text: &'t [u8]) -> Result<SourceText<'t>, Stop>
-    requires { length text.now ≤ 33_554_432 }
-    ensures says { MatchResult result (λ _. ReaderSays Which.Text text.entry.now (accepted (a_text text.entry.now))) (StopsReading Which.Text text.entry.now) }
+    requires { IsReadable text.now }
+    ensures says { MatchResult result (λ _. ReaderSays Which.Text text.entry.now
+        (accepted (a_text text.entry.now))) (StopsReading Which.Text text.entry.now) }
     ensures read { IfOk result (IsSource text.entry.now) }
 {
     match read_source(alloc, text) {
@@ -58,10 +60,12 @@ fn rewritten<W: Sink>(
     out: &mut W,
 ) -> Status
     requires read { IsSource text.now source }
-    requires few { length commands.now ≤ 33_554_432 }
+    requires few { IsInText (length commands.now) }
     requires fit { All Fits (map plain_command commands.now) }
     requires shallow { AreShallow (map plain_command commands.now) }
-    ensures ends { Ends (IsBoardWritten text.now (map plain_command commands.now)) (IsTextOfOne (IsBoardWritten text.now (map plain_command commands.now))) (λ _. ⊥) (W.written out.old) (W.written out.new) result }
+    ensures ends { Ends (IsBoardWritten text.now (map plain_command commands.now))
+        (IsTextOfOne (IsBoardWritten text.now (map plain_command commands.now))) (λ _. ⊥)
+        (W.written out.old) (W.written out.new) result }
     ensures fault { result ≡ Status.WriteFault → Rose (W.faults out.old) (W.faults out.new) }
 {
     // What is written is read again as the board that the commands leave.
@@ -81,7 +85,8 @@ pub(crate) fn rewrite<F: Shelf, W: Sink>(
     shelf: &mut F,
     out: &mut W,
 ) -> Status
-    ensures ends { EndsFor (write files.entry.board.now files.entry.script.now) (F.files shelf.old) (F.faults shelf.old) (F.faults shelf.new) (W.written out.old) (W.written out.new) result }
+    ensures ends { EndsFor (write files.entry.board.now files.entry.script.now) (F.files shelf.old)
+        (F.faults shelf.old) (F.faults shelf.new) (W.written out.old) (W.written out.new) result }
     ensures fault { result ≡ Status.WriteFault → Rose (W.faults out.old) (W.faults out.new) }
     ensures same { F.files shelf.new ≡ F.files shelf.old }
 {

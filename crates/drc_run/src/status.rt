@@ -1,4 +1,17 @@
-//! How a run ends.
+//! How a run ends: its status, and the last line of one that has no report.
+
+ghost use Rattle.std.specs.Prelude.{◌≡◌, ℕ, List, false, Option, MatchResult};
+ghost use Rattle.drc_io.specs.Causes.{Rose};
+ghost use Rattle.run_words.specs.Calls.{nothing};
+ghost use Rattle.drc_run.specs.declared.status.Status.{Status};
+ghost use Rattle.drc_run.specs.Output.{IsStatusOf};
+ghost use Rattle.drc_run.specs.Refusing.{IsLineOf};
+ghost use Rattle.drc_run.specs.Endings.{Ends, EndsFor, IsTextOfOne, number_of};
+
+use crate::lines::{write_refusal, write_unread};
+use drc_io::{Failed, Sink, put_all};
+use drc_session::Session;
+use run_texts::Stop;
 
 /// The status of the program.
 #[derive(Clone, Copy, Debug, PartialEq, Eq)]
@@ -17,4 +30,48 @@ pub(crate) enum Status {
     WriteFault = 5,
     /// Memory ran out.
     OutOfMemory = 6,
+}
+
+/// The status after a text was written, or not.
+pub(crate) fn after(written: Result<(), Failed>, status: Status) -> Status
+    ensures { MatchResult written (λ _. result ≡ status) (λ _. result ≡ Status.WriteFault) }
+{
+    match written {
+        Ok(()) => status,
+        Err(Failed) => Status::WriteFault,
+    }
+}
+
+/// Writes how the program is called.
+pub(crate) fn usage<W: Sink>(line: &'static [u8], out: &mut W) -> Status
+    ensures ends { (told : Option (List (List ℕ × List ℕ))) (before now : List ℕ → ℕ)
+        → EndsFor (nothing line.now) told before now
+        (W.written out.old) (W.written out.new) result }
+    ensures fault { result ≡ Status.WriteFault → Rose (W.faults out.old) (W.faults out.new) }
+{
+    after(put_all(out, line), Status::Usage)
+}
+
+/// Writes why there is no report. Want of memory is not written.
+pub(crate) fn write_stop<W: Sink>(stop: Stop, out: &mut W) -> Status
+    ensures ends { Ends (IsLineOf stop) (IsTextOfOne (IsLineOf stop))
+        (λ which. stop ≡ Stop.Unread which) (W.written out.old) (W.written out.new) result }
+    ensures fault { result ≡ Status.WriteFault → Rose (W.faults out.old) (W.faults out.new) }
+{
+    match stop {
+        Stop::Refused(why) => after(write_refusal(why, out), Status::Refused),
+        Stop::Unread(which) => after(write_unread(which, out), Status::ReadFault),
+        Stop::OutOfMemory => Status::OutOfMemory,
+    }
+}
+
+/// The status of a session that is not stopped: whether it has a row.
+pub(crate) fn session_status(session: &Session) -> Status
+    requires { session.now.stopped ≡ false }
+    ensures { IsStatusOf session.now.state (number_of result) }
+{
+    match session.rows() {
+        [] => Status::Clean,
+        _ => Status::Rows,
+    }
 }

@@ -1,6 +1,7 @@
-//! From a board to its rows, or to the line that stands in their place.
+//! `steal BOARD N`: from a board to its rows, or to the line that stands in their place.
 
-ghost use Rattle.std.specs.Prelude.{◌≡◌, ◌≤◌, []};
+ghost use Rattle.std.specs.Prelude.{◌≡◌, []};
+ghost use Rattle.plain_types.specs.Limits.{IsWorkerCount};
 ghost use Rattle.drc_io.specs.Causes.{Rose};
 ghost use Rattle.run_words.specs.Calls.{steal};
 ghost use Rattle.run_texts.specs.Views.{opened_in};
@@ -8,8 +9,7 @@ ghost use Rattle.drc_run.specs.declared.status.Status.{Status};
 ghost use Rattle.drc_run.specs.Output.{AreRowsTold, status_of};
 ghost use Rattle.drc_run.specs.Endings.{Ends, EndsFor, IsTextOfOne, number_of};
 
-use crate::finish::{after, write_stop};
-use crate::status::Status;
+use crate::status::{Status, after, write_stop};
 use drc_io::{Shelf, Sink};
 use row_check::Row;
 use row_check::laws::{rows_have_items, rows_have_sources};
@@ -39,9 +39,11 @@ fn report<R: Threads + Sync + AllocGlobal, W: Sink, G: Gate>(
     texts: Texts,
     out: &mut W,
 ) -> Status
-    requires workers { (1 ≤ workers) × (workers ≤ 64) }
+    requires workers { IsWorkerCount workers }
     requires unruled { (opened_in texts).rules.rules ≡ [] }
-    ensures ends { Ends (AreRowsTold (opened_in texts)) (IsTextOfOne (AreRowsTold (opened_in texts))) (λ _. ⊥) (W.written out.old) (W.written out.new) result }
+    ensures ends { Ends (AreRowsTold (opened_in texts))
+        (IsTextOfOne (AreRowsTold (opened_in texts))) (λ _. ⊥) (W.written out.old)
+        (W.written out.new) result }
     ensures fault { result ≡ Status.WriteFault → Rose (W.faults out.old) (W.faults out.new) }
 {
     rows_have_items();
@@ -67,8 +69,9 @@ pub(crate) fn steal<R: Threads + Sync + AllocGlobal, F: Shelf, W: Sink, G: Gate>
     shelf: &mut F,
     out: &mut W,
 ) -> Status
-    requires { (1 ≤ found.number) × (found.number ≤ 64) }
-    ensures ends { EndsFor (steal found.entry.board.now found.entry.number) (F.files shelf.old) (F.faults shelf.old) (F.faults shelf.new) (W.written out.old) (W.written out.new) result }
+    requires { IsWorkerCount found.number }
+    ensures ends { EndsFor (steal found.entry.board.now found.entry.number) (F.files shelf.old)
+        (F.faults shelf.old) (F.faults shelf.new) (W.written out.old) (W.written out.new) result }
     ensures fault { result ≡ Status.WriteFault → Rose (W.faults out.old) (W.faults out.new) }
     ensures same { F.files shelf.new ≡ F.files shelf.old }
 {

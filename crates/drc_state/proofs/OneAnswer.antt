@@ -5,7 +5,7 @@ use Rattle.rule_text.specs.declared.error.RuleError.{RuleError}
 use Rattle.rule_text.specs.RulesOf.{PlainRules}
 use Rattle.rule_text.specs.ListText.{SaysList}
 use Rattle.edit_script.specs.Commands.{PlainCommand, add, delete, move, rules, again}
-use Rattle.board_edits.specs.declared.reason.Refusal.{Refusal}
+use Rattle.board_edits.specs.declared.refusal.Refusal.{Refusal}
 use Rattle.board_edits.specs.Deeds.{PlainDeed, Does, After}
 use Rattle.drc_state.specs.declared.error.EditError.{EditError}
 use Rattle.drc_state.specs.States.{State}

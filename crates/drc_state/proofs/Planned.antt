@@ -4,8 +4,8 @@ use Rattle.board_items.specs.Boards.{PlainBoard}
 use Rattle.edit_script.specs.declared.command.Command.{Command}
 use Rattle.edit_script.specs.declared.command.Command.TheVariants.{Add, Delete, Move, Rules as RulesIn, Again}
 use Rattle.edit_script.specs.Commands.{PlainCommand, add, delete, move, rules, again, plain_command}
-use Rattle.board_edits.specs.declared.reason.Refusal.{Refusal}
-use Rattle.board_edits.specs.declared.reason.Refusal.TheVariants.{NoSuchItem as NoItem, SharedName as Shared, PartOfFootprint as Part, Item as ItemRefused, OutOfMemory as NoMemory}
+use Rattle.board_edits.specs.declared.refusal.Refusal.{Refusal}
+use Rattle.board_edits.specs.declared.refusal.Refusal.TheVariants.{NoSuchItem as NoItem, SharedName as Shared, PartOfFootprint as Part, Item as ItemRefused, OutOfMemory as NoMemory}
 use Rattle.board_edits.specs.Deeds.{PlainDeed, nothing, append, Does, GivesNoItem}
 use Rattle.board_edits.specs.Fitting.{GivesNothing}
 use Rattle.rule_text.specs.declared.error.RuleError.{RuleError}

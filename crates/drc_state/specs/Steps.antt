@@ -5,8 +5,8 @@ use Rattle.rule_text.specs.declared.error.RuleError.{RuleError}
 use Rattle.rule_text.specs.RulesOf.{PlainRules}
 use Rattle.rule_text.specs.ListText.{SaysList}
 use Rattle.edit_script.specs.Commands.{PlainCommand, rules}
-use Rattle.board_edits.specs.declared.reason.Refusal.{Refusal}
-use Rattle.board_edits.specs.declared.reason.Refusal.TheVariants.{NoSuchItem as NoItem, SharedName as Shared, PartOfFootprint as Part, Item as ItemRefused, OutOfMemory as NoMemory}
+use Rattle.board_edits.specs.declared.refusal.Refusal.{Refusal}
+use Rattle.board_edits.specs.declared.refusal.Refusal.TheVariants.{NoSuchItem as NoItem, SharedName as Shared, PartOfFootprint as Part, Item as ItemRefused, OutOfMemory as NoMemory}
 use Rattle.board_edits.specs.Deeds.{PlainDeed, Does, After}
 use Rattle.drc_state.specs.declared.error.EditError.{EditError}
 use Rattle.drc_state.specs.declared.error.EditError.TheVariants.{NoSuchItem, SharedName, PartOfFootprint, Item, Rules, OutOfMemory}

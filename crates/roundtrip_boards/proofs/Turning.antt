@@ -16,8 +16,8 @@ use Rattle.board_items.specs.Units.{found_of}
 use Rattle.edit_script.specs.Commands.{PlainCommand, add, delete, move, rules, again}
 use Rattle.list_read.specs.Texts.{Behind}
 use Rattle.pcb_read.specs.ItemText.{answer_further, alone, SaysList, SaysAlone, SaysForms, SaysText}
-use Rattle.board_edits.specs.declared.reason.Refusal.{Refusal}
-use Rattle.board_edits.specs.declared.reason.Refusal.TheVariants.{Item as ItemRefused}
+use Rattle.board_edits.specs.declared.refusal.Refusal.{Refusal}
+use Rattle.board_edits.specs.declared.refusal.Refusal.TheVariants.{Item as ItemRefused}
 use Rattle.board_edits.specs.Deeds.{PlainDeed, nothing, append, put_back, take_out, shift, After, appended, to_unit, shifted, Does, IsLeft, DoAll}
 use Rattle.roundtrip_boards.specs.Changes.{Change, IsListIn, IsListOf, IsChangeBy, IsChange, AreChanges, IsNamed, IsAddedTo, Changes, ChangeAll}
 

@@ -11,7 +11,7 @@ use Rattle.edit_script.specs.Commands.{PlainCommand, add, delete, move, rules, a
 use Rattle.roundtrip_lists.specs.Alike.{Shift}
 use Rattle.pcb_read.specs.BoardOf.{with_items}
 use Rattle.pcb_read.specs.ItemText.{SaysList}
-use Rattle.board_edits.specs.declared.reason.Refusal.{Refusal}
+use Rattle.board_edits.specs.declared.refusal.Refusal.{Refusal}
 use Rattle.board_edits.specs.Deeds.{PlainDeed, nothing, append, put_back, take_out, shift}
 
 -- nothing changes; a unit is taken out; one is moved; or a list is added, with the items that it gives

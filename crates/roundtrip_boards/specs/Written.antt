@@ -13,7 +13,7 @@ use Rattle.roundtrip_lists.specs.Alike.{Shift, place_moved}
 use Rattle.roundtrip_lists.specs.Moving.{put_if, moved}
 use Rattle.pcb_read.specs.BoardOf.{Reading, unread, SaysPart, SaysBoard}
 use Rattle.edit_script.specs.Commands.{PlainCommand}
-use Rattle.board_edits.specs.declared.reason.Refusal.{Refusal}
+use Rattle.board_edits.specs.declared.refusal.Refusal.{Refusal}
 use Rattle.board_edits.specs.Deeds.{PlainDeed, DoAll}
 use Rattle.roundtrip_boards.specs.Changes.{Change, unchanged, takes_out, shifts, appends, AreChanges}
 

@@ -8,7 +8,7 @@ ghost use Rattle.edit_script.specs.Commands.{PlainCommand};
 ghost use Rattle.roundtrip_text.specs.Anew.{Fate, AreAtoms, AreFit, FirstIsThere};
 ghost use Rattle.roundtrip_text.specs.Utf8.{AreUtf8, BecomeUtf8};
 ghost use Rattle.pcb_read.specs.BoardOf.{Reading, header_in};
-ghost use Rattle.board_edits.specs.declared.reason.Refusal.{Refusal};
+ghost use Rattle.board_edits.specs.declared.refusal.Refusal.{Refusal};
 ghost use Rattle.board_edits.specs.Deeds.{PlainDeed, DoAll};
 ghost use Rattle.roundtrip_boards.specs.Changes.{Change, AreChanges, ChangeAll};
 ghost use Rattle.roundtrip_boards.specs.Written.{Draft, FatesAre};

@@ -7,7 +7,7 @@ use Rattle.sexpr_read.specs.Spelling.{SpellsAll}
 use Rattle.board_items.specs.declared.item.Item.{Item}
 use Rattle.edit_script.specs.Commands.{PlainCommand, add, delete, move, rules, again}
 use Rattle.edit_script.specs.Fits.{IsShallow, IsShallowIfAdded, AreShallow}
-use Rattle.board_edits.specs.declared.reason.Refusal.{Refusal}
+use Rattle.board_edits.specs.declared.refusal.Refusal.{Refusal}
 use Rattle.board_edits.specs.Deeds.{PlainDeed, nothing, append, put_back, take_out, shift}
 use Rattle.roundtrip_text.specs.Anew.{AreAtoms}
 use Rattle.roundtrip_text.proofs.Whole.{respelled_levels}

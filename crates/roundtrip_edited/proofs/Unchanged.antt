@@ -7,7 +7,7 @@ use Rattle.board_items.specs.Boards.{PlainBoard}
 use Rattle.roundtrip_text.specs.Anew.{Fate, stays, AllStay}
 use Rattle.roundtrip_text.proofs.Staying.{whole_stays}
 use Rattle.pcb_read.specs.BoardOf.{Reading, unread}
-use Rattle.board_edits.specs.declared.reason.Refusal.{Refusal}
+use Rattle.board_edits.specs.declared.refusal.Refusal.{Refusal}
 use Rattle.board_edits.specs.Deeds.{PlainDeed}
 use Rattle.roundtrip_boards.specs.Changes.{Change, AreChanges}
 use Rattle.roundtrip_boards.specs.Written.{Draft, untouched, with_changes, unit_fate, list_fate, FatesAre, IsWritten, written_by}

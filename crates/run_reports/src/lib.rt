@@ -1,4 +1,5 @@
-//! Reports of a board, whole and short, written to a sink line by line. No call takes memory.
+//! Reports of a board, whole and short. Each is put together in one buffer, and goes out to a sink in as few writes
+//! as its length asks for. No call takes memory.
 #![tactic(auto)]
 
 mod writing;

@@ -2,19 +2,20 @@
 
 ghost use Rattle.std.specs.Prelude.{◌≡◌, ◌++◌, [], All, map, length, filter};
 ghost use Rattle.std.specs.List.{flat_map};
-ghost use Rattle.drc_io.specs.Sinks.{Writes};
+ghost use Rattle.drc_io.specs.Sinks.{Wrote};
 ghost use Rattle.cond_lang.specs.Rules.{plain_rule};
 ghost use Rattle.rule_text.specs.Views.{plain_rules};
 ghost use Rattle.pair_check.specs.Rows.{HasItems, HasSource};
 ghost use Rattle.net_groups.specs.NetParts.{is_open, IsWritable};
-ghost use Rattle.drc_rows.specs.Line.{Puts};
+ghost use Rattle.drc_rows.specs.Buffer.{Buffered};
 ghost use Rattle.drc_rows.specs.Report.{rows_text, notes_text};
-ghost use Rattle.drc_rows.specs.ReportOf.{part_text, nets_text, tiles_line, first_line, whole_report, short_report};
+ghost use Rattle.drc_rows.specs.ReportOf.{part_text, nets_text, tiles_line, first_line};
+ghost use Rattle.drc_rows.specs.ReportOf.{whole_report, short_report};
 ghost use Rattle.run_reports.specs.Counts.{counts_text};
 
 use board_items::Board;
 use drc_io::{Failed, Sink};
-use drc_rows::{Line, count_notes, push_net, write_line, write_notes, write_pieces, write_rows};
+use drc_rows::{ReportBuffer, count_notes, push_all, push_line, push_net, push_notes, push_rows};
 use itoa::Buffer;
 use kept_nets::NetPart;
 use net_class::Classes;
@@ -23,43 +24,53 @@ use rule_pick::FactsById;
 use rule_text::Rules;
 use std::alloc::Global;
 
-/// Writes the rows, and how many they are.
-fn write_counted_rows<W: Sink>(
+/// Puts the rows, and how many they are, into the buffer.
+fn push_counted_rows<W: Sink>(
+    buffer: &mut ReportBuffer,
+    out: &mut W,
     view: &CheckView<'_>,
     rows: &[Row],
-    out: &mut W,
 ) -> Result<(), Failed>
     requires items { All (HasItems view.now.board.now) rows.now }
     requires sources { All (HasSource (map plain_rule view.now.rules.now)) rows.now }
-    ensures { Writes (W.written out.old) (W.written out.new) (W.faults out.old) (W.faults out.new) (rows_text view.now.board.now (map plain_rule view.now.rules.now) rows.now) result }
+    ensures { Buffered W.written W.faults out.old out.new buffer.old
+        (rows_text view.now.board.now (map plain_rule view.now.rules.now) rows.now)
+        buffer.new result }
 {
-    write_rows(view, rows, out)?;
-    write_line(b"rows ", rows.len() as u64, b"", out)
+    push_rows(buffer, out, view, rows)?;
+    push_line(buffer, out, b"rows ", rows.len() as u64, b"")
 }
 
-/// Writes the notes, and how many they are.
-fn write_counted_notes<W: Sink>(board: &Board, rules: &Rules, out: &mut W) -> Result<(), Failed>
-    ensures { Writes (W.written out.old) (W.written out.new) (W.faults out.old) (W.faults out.new) (notes_text board.now (plain_rules rules.now)) result }
+/// Puts the notes, and how many they are, into the buffer.
+fn push_counted_notes<W: Sink>(
+    buffer: &mut ReportBuffer,
+    out: &mut W,
+    board: &Board,
+    rules: &Rules,
+) -> Result<(), Failed>
+    ensures { Buffered W.written W.faults out.old out.new buffer.old
+        (notes_text board.now (plain_rules rules.now)) buffer.new result }
 {
-    write_notes(board, rules, out)?;
-    write_line(b"not checked ", count_notes(board, rules), b"", out)
+    push_notes(buffer, out, board, rules)?;
+    push_line(buffer, out, b"not checked ", count_notes(board, rules), b"")
 }
 
-/// Puts the lines of a net into the line, if it is open.
+/// Puts the lines of a net into the buffer, if it is open.
 fn push_part<W: Sink>(
-    line: &mut Line,
+    buffer: &mut ReportBuffer,
     out: &mut W,
     board: &Board,
     part: &NetPart,
 ) -> Result<(), Failed>
     requires { IsWritable board.now part.now }
-    ensures { Puts (W.written out.old) (W.written out.new) (W.faults out.old) (W.faults out.new) line.old (part_text board.now part.now) line.new result }
+    ensures { Buffered W.written W.faults out.old out.new buffer.old
+        (part_text board.now part.now) buffer.new result }
 {
     if !part.is_open() {
         return Ok(());
     }
     push_net(
-        line,
+        buffer,
         out,
         board,
         part.net,
@@ -69,30 +80,21 @@ fn push_part<W: Sink>(
     )
 }
 
-/// Puts the lines of all open nets into the line.
+/// Puts the lines of all open nets into the buffer.
 fn push_open<W: Sink>(
-    line: &mut Line,
+    buffer: &mut ReportBuffer,
     out: &mut W,
     board: &Board,
     parts: &[NetPart],
 ) -> Result<(), Failed>
     requires { All (IsWritable board.now) parts.now }
-    ensures { Puts (W.written out.old) (W.written out.new) (W.faults out.old) (W.faults out.new) line.old (flat_map (part_text board.now) parts.now) line.new result }
+    ensures { Buffered W.written W.faults out.old out.new buffer.old
+        (flat_map (part_text board.now) parts.now) buffer.new result }
 {
     for part in parts {
-        push_part(line, out, board, part)?;
+        push_part(buffer, out, board, part)?;
     }
     Ok(())
-}
-
-/// Writes the lines of all open nets.
-fn write_open<W: Sink>(board: &Board, parts: &[NetPart], out: &mut W) -> Result<(), Failed>
-    requires { All (IsWritable board.now) parts.now }
-    ensures { Writes (W.written out.old) (W.written out.new) (W.faults out.old) (W.faults out.new) (flat_map (part_text board.now) parts.now) result }
-{
-    let mut line = Line::new();
-    push_open(&mut line, out, board, parts)?;
-    line.end(out)
 }
 
 /// How many nets are open.
@@ -108,13 +110,19 @@ fn count_open(parts: &[NetPart]) -> u64
     count as u64
 }
 
-/// Writes the open nets, and how many they are.
-fn write_parts<W: Sink>(board: &Board, parts: &[NetPart], out: &mut W) -> Result<(), Failed>
+/// Puts the open nets, and how many they are, into the buffer.
+fn push_parts<W: Sink>(
+    buffer: &mut ReportBuffer,
+    out: &mut W,
+    board: &Board,
+    parts: &[NetPart],
+) -> Result<(), Failed>
     requires { All (IsWritable board.now) parts.now }
-    ensures { Writes (W.written out.old) (W.written out.new) (W.faults out.old) (W.faults out.new) (nets_text board.now parts.now) result }
+    ensures { Buffered W.written W.faults out.old out.new buffer.old
+        (nets_text board.now parts.now) buffer.new result }
 {
-    write_open(board, parts, out)?;
-    write_line(b"open nets ", count_open(parts), b"", out)
+    push_open(buffer, out, board, parts)?;
+    push_line(buffer, out, b"open nets ", count_open(parts), b"")
 }
 
 /// How many tiles were gone through, and how many hold an item.
@@ -124,13 +132,16 @@ pub struct Tiles {
     pub held: u32,
 }
 
-/// Writes how many tiles were gone through, and how many hold an item.
-fn write_tiles<W: Sink>(tiles: Tiles, out: &mut W) -> Result<(), Failed>
-    ensures { Writes (W.written out.old) (W.written out.new) (W.faults out.old) (W.faults out.new) (tiles_line tiles.done tiles.held) result }
+/// Puts into the buffer how many tiles were gone through, and how many hold an item.
+fn push_tiles<W: Sink>(buffer: &mut ReportBuffer, out: &mut W, tiles: Tiles) -> Result<(), Failed>
+    ensures { Buffered W.written W.faults out.old out.new buffer.old
+        (tiles_line tiles.done tiles.held) buffer.new result }
 {
     let mut done_digits = Buffer::new();
     let mut held_digits = Buffer::new();
-    write_pieces(
+    push_all(
+        buffer,
+        out,
         &[
             b"rechecked ",
             done_digits.format(tiles.done).as_bytes(),
@@ -138,29 +149,33 @@ fn write_tiles<W: Sink>(tiles: Tiles, out: &mut W) -> Result<(), Failed>
             held_digits.format(tiles.held).as_bytes(),
             b" tiles\n",
         ],
-        out,
     )
 }
 
-/// Writes what was found of rows and notes, behind the line that begins the report.
-fn write_items<W: Sink>(
+/// Puts what was found of rows and notes into the buffer, behind the line that begins the report.
+fn push_items<W: Sink>(
+    buffer: &mut ReportBuffer,
+    out: &mut W,
     number: u64,
     view: &CheckView<'_>,
     rules: &Rules,
     rows: &[Row],
-    out: &mut W,
 ) -> Result<(), Failed>
     requires items { All (HasItems view.now.board.now) rows.now }
     requires sources { All (HasSource (map plain_rule view.now.rules.now)) rows.now }
-    ensures { Writes (W.written out.old) (W.written out.new) (W.faults out.old) (W.faults out.new)
-        (first_line number ++ rows_text view.now.board.now (map plain_rule view.now.rules.now) rows.now ++ notes_text view.now.board.now (plain_rules rules.now)) result }
+    ensures { Buffered W.written W.faults out.old out.new buffer.old
+        (first_line number
+        ++ rows_text view.now.board.now (map plain_rule view.now.rules.now) rows.now
+        ++ notes_text view.now.board.now (plain_rules rules.now))
+        buffer.new result }
 {
-    write_line(b"report ", number, b"", out)?;
-    write_counted_rows(view, rows, out)?;
-    write_counted_notes(view.board, rules, out)
+    push_line(buffer, out, b"report ", number, b"")?;
+    push_counted_rows(buffer, out, view, rows)?;
+    push_counted_notes(buffer, out, view.board, rules)
 }
 
-/// Writes the line that opens a report, the rows, and how many they are. No rule stands behind them.
+/// Writes the line that opens a report, the rows, and how many they are. No rule stands behind them. `Failed` comes
+/// only where the sink's count of faults rose, and then a front part of these lines was written. It takes no memory.
 pub fn write_rows_alone<W: Sink>(
     alloc: Global,
     board: &Board,
@@ -170,9 +185,9 @@ pub fn write_rows_alone<W: Sink>(
 ) -> Result<(), Failed>
     requires items { All (HasItems board.now) rows.now }
     requires sources { All (HasSource []) rows.now }
-    ensures { Writes (W.written out.old) (W.written out.new) (W.faults out.old) (W.faults out.new) (first_line 0 ++ rows_text board.now [] rows.now) result }
+    ensures { Wrote W.written W.faults out.old out.new
+        (first_line 0 ++ rows_text board.now [] rows.now) result }
 {
-    write_line(b"report ", 0, b"", out)?;
     // The line of a row looks at no facts.
     let view = CheckView {
         board,
@@ -180,11 +195,15 @@ pub fn write_rows_alone<W: Sink>(
         rules: &[],
         classes,
     };
-    write_counted_rows(&view, rows, out)
+    let mut buffer = ReportBuffer::new();
+    push_line(&mut buffer, out, b"report ", 0, b"")?;
+    push_counted_rows(&mut buffer, out, &view, rows)?;
+    buffer.end(out)
 }
 
-/// Writes the whole report of this number: the board's rows, its notes, its open nets, and how many tiles were gone through. `Failed`
-/// comes only where the sink's count of faults rose, and then a front part of the report was written. It takes no memory.
+/// Writes the whole report of this number: the board's rows, its notes, its open nets, and how many tiles were gone
+/// through. `Failed` comes only where the sink's count of faults rose, and then a front part of the report was
+/// written. It takes no memory, and makes one write for each 8,192 bytes.
 pub fn write_whole<W: Sink>(
     number: u64,
     view: &CheckView<'_>,
@@ -198,12 +217,16 @@ pub fn write_whole<W: Sink>(
     requires items { All (HasItems view.now.board.now) rows.now }
     requires sources { All (HasSource (map plain_rule view.now.rules.now)) rows.now }
     requires writable { All (IsWritable view.now.board.now) parts.now }
-    ensures { Writes (W.written out.old) (W.written out.new) (W.faults out.old) (W.faults out.new)
-        (whole_report number view.now.board.now (plain_rules rules.now) (record { rows = rows.now; parts = parts.now; held = tiles.held }) tiles.done) result }
+    ensures { Wrote W.written W.faults out.old out.new
+        (whole_report number view.now.board.now (plain_rules rules.now)
+        (record { rows = rows.now; parts = parts.now; held = tiles.held }) tiles.done)
+        result }
 {
-    write_items(number, view, rules, rows, out)?;
-    write_parts(view.board, parts, out)?;
-    write_tiles(tiles, out)
+    let mut buffer = ReportBuffer::new();
+    push_items(&mut buffer, out, number, view, rules, rows)?;
+    push_parts(&mut buffer, out, view.board, parts)?;
+    push_tiles(&mut buffer, out, tiles)?;
+    buffer.end(out)
 }
 
 /// How many rows, notes and open nets a report has.
@@ -214,16 +237,23 @@ struct Counts {
     nets: u64,
 }
 
-/// Writes how many rows, notes and open nets there are.
-fn write_counts<W: Sink>(counts: Counts, out: &mut W) -> Result<(), Failed>
-    ensures { Writes (W.written out.old) (W.written out.new) (W.faults out.old) (W.faults out.new) (counts_text counts.rows counts.notes counts.nets) result }
+/// Puts into the buffer how many rows, notes and open nets there are.
+fn push_counts<W: Sink>(
+    buffer: &mut ReportBuffer,
+    out: &mut W,
+    counts: Counts,
+) -> Result<(), Failed>
+    ensures { Buffered W.written W.faults out.old out.new buffer.old
+        (counts_text counts.rows counts.notes counts.nets) buffer.new result }
 {
-    write_line(b"rows ", counts.rows, b"", out)?;
-    write_line(b"not checked ", counts.notes, b"", out)?;
-    write_line(b"open nets ", counts.nets, b"", out)
+    push_line(buffer, out, b"rows ", counts.rows, b"")?;
+    push_line(buffer, out, b"not checked ", counts.notes, b"")?;
+    push_line(buffer, out, b"open nets ", counts.nets, b"")
 }
 
-/// Writes the short report of this number: how many rows, notes and open nets there are, and the tiles. `Failed` is as above.
+/// Writes the short report of this number: how many rows, notes and open nets there are, and how many tiles were gone
+/// through. `Failed` comes only where the sink's count of faults rose, and then a front part of the report was
+/// written. It takes no memory, and makes one write.
 pub fn write_short<W: Sink>(
     number: u64,
     board: &Board,
@@ -233,15 +263,19 @@ pub fn write_short<W: Sink>(
     tiles: Tiles,
     out: &mut W,
 ) -> Result<(), Failed>
-    ensures { Writes (W.written out.old) (W.written out.new) (W.faults out.old) (W.faults out.new)
-        (short_report number board.now (plain_rules rules.now) (record { rows = rows.now; parts = parts.now; held = tiles.held }) tiles.done) result }
+    ensures { Wrote W.written W.faults out.old out.new
+        (short_report number board.now (plain_rules rules.now)
+        (record { rows = rows.now; parts = parts.now; held = tiles.held }) tiles.done)
+        result }
 {
     let counts = Counts {
         rows: rows.len() as u64,
         notes: count_notes(board, rules),
         nets: count_open(parts),
     };
-    write_line(b"report ", number, b"", out)?;
-    write_counts(counts, out)?;
-    write_tiles(tiles, out)
+    let mut buffer = ReportBuffer::new();
+    push_line(&mut buffer, out, b"report ", number, b"")?;
+    push_counts(&mut buffer, out, counts)?;
+    push_tiles(&mut buffer, out, tiles)?;
+    buffer.end(out)
 }

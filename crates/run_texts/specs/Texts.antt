@@ -1,6 +1,7 @@
 -- The texts that a call names, in the order in which they are read, and what each says. A further text is one entry more in each table
 -- here.
 use Rattle.std.specs.Prelude.{◌≡◌, ◌⊎◌, ℕ, ◌<◌, ◌≤◌, List, [], ◌∷◌, ◌++◌, length, codes, decimal, Option, None, Some, Ok, Err, slice_get}
+use Rattle.plain_types.specs.Limits.{most_text, IsReadable, most_trials}
 use Rattle.drc_io.specs.Causes.{Rose}
 use Rattle.drc_io.specs.Files.{IsWholeFile}
 use Rattle.board_errors.specs.declared.errors.BoardError.{BoardError}
@@ -86,10 +87,6 @@ pub record IsRefusalText (reason : List ℕ) (place inner : Option ℕ) (text : 
   pub has_place : place ≡ Some at
   pub text_is : text ≡ at_place reason at inner
 
--- the most commands that are tried
-abbrev pub most_trials : ℕ
-most_trials = 15625
-
 -- a script with more is refused at the first command that is too many
 pub record HasTooMany (commands : List PlainCommand) (why : List ℕ) : Type 0 where
   pub command : PlainCommand
@@ -130,17 +127,14 @@ ReaderSays Text bytes (accepted (a_text text)) = (text ≡ bytes) × ((board : P
 ReaderSays Text bytes (accepted _) = ⊥
 ReaderSays Text bytes (refused why) = (e : BoardError) × BoardSays bytes (Err e) × IsRefusalText (board_reason_of e) (board_place_of e) None why
 
--- the most bytes of a text
-abbrev pub limit : ℕ
-limit = 33554432
-
+-- how a text of too many bytes is refused: at the first that is too many
 abbrev pub too_long : List ℕ
-too_long = at_place (codes "TooLong (0)") 33554432 None
+too_long = at_place (codes "TooLong (0)") most_text None
 
 -- a text says that it is too long, or else what its reader finds
 pub data TextSays (which : Which) (bytes : List ℕ) (said : Said) : Type 0 where
-  longer : limit < length bytes → said ≡ refused too_long → TextSays which bytes said
-  read : length bytes ≤ limit → ReaderSays which bytes said → TextSays which bytes said
+  longer : most_text < length bytes → said ≡ refused too_long → TextSays which bytes said
+  read : IsReadable bytes → ReaderSays which bytes said → TextSays which bytes said
 
 -- the bytes of a text: what the shelf tells of its file, or else any; or those of the generated board
 abbrev pub AreBytesOf : Option (List (List ℕ × List ℕ)) → PlainSource → List ℕ → Type 0

@@ -1,6 +1,8 @@
 //! The texts that the words name: they are fetched and read in their order, each before the next.
 
-ghost use Rattle.std.specs.Prelude.{◌≡◌, ◌≤◌, ℕ, List, [], Option, Some, IfOk, IfErr, MatchResult, MatchOption, Ok, Err, length, map, All, option_map, slice_get};
+ghost use Rattle.std.specs.Prelude.{◌≡◌, ◌≤◌, ℕ, List, [], Option, Some, IfOk, IfErr, MatchResult};
+ghost use Rattle.std.specs.Prelude.{MatchOption, Ok, Err, length, map, All, option_map, slice_get};
+ghost use Rattle.plain_types.specs.Limits.{IsInText, IsReadable, most_trials};
 ghost use Rattle.drc_io.specs.Files.{IsWholeFile};
 ghost use Rattle.net_class.specs.Classes.{plain_classes};
 ghost use Rattle.rule_text.specs.RulesOf.{no_rules};
@@ -11,8 +13,11 @@ ghost use Rattle.made_board.specs.MadeBoard.{made_text};
 ghost use Rattle.run_words.specs.Calls.{PlainCall, check};
 ghost use Rattle.run_words.specs.Views.{source_in, reading_in, SourceFits, RequestFits};
 ghost use Rattle.run_texts.specs.Views.{opened_in};
-ghost use Rattle.run_texts.specs.Texts.{named, word_of, texts_of, a_board, a_project, a_rules, a_script, some_steps, accepted, ReaderSays, AreBytesOf, SourceSays};
-ghost use Rattle.run_texts.specs.Refusing.{StopsReading, StopsText, StopsTexts, StopsOption, StopsReadingOption, AreBytesOfOption, Gives, GivesReading, AreOpened, stop_of, only_board, board_and_script};
+ghost use Rattle.run_texts.specs.Texts.{named, word_of, texts_of, a_board, a_project, a_rules};
+ghost use Rattle.run_texts.specs.Texts.{a_script, some_steps, accepted, ReaderSays, AreBytesOf, SourceSays};
+ghost use Rattle.run_texts.specs.Refusing.{StopsReading, StopsText, StopsTexts, StopsOption};
+ghost use Rattle.run_texts.specs.Refusing.{StopsReadingOption, AreBytesOfOption, Gives, GivesReading};
+ghost use Rattle.run_texts.specs.Refusing.{AreOpened, stop_of, only_board, board_and_script};
 
 use board_items::Board;
 use drc_io::{FetchError, Shelf, fetch};
@@ -21,6 +26,7 @@ use edit_script::{Command, Step, read_script, read_steps};
 use made_board::made_text;
 use net_class::{Classes, read_project};
 use pcb_read::read_board_by;
+use plain_types::{MOST_TEXT, MOST_TRIALS};
 use rule_text::{RuleList, RuleNotes, Rules, read_rules};
 use run_words::{BoardSource, Request, Scripted};
 use sexpr_read::laws::spans_in_order;
@@ -28,10 +34,7 @@ use std::alloc::Global;
 use std::thread::Threads;
 
 /// The most bytes of a text.
-const LIMIT: u32 = 33_554_432;
-
-/// The most commands of a script whose commands are tried.
-const MOST_TRIALS: usize = 15_625;
+const LIMIT: u32 = MOST_TEXT as u32;
 
 /// Which text, in the order in which they are read.
 #[derive(Clone, Copy, Debug, PartialEq, Eq)]
@@ -118,7 +121,8 @@ pub fn refused(
     }
 }
 
-/// Fetches a text.
+/// Fetches a text of at most 33,554,432 bytes. One that is longer is refused, and one whose file is not read, or for
+/// which there is no memory, stops the run too.
 pub fn fetch_text<F: Shelf>(
     alloc: Global,
     which: Which,
@@ -126,8 +130,9 @@ pub fn fetch_text<F: Shelf>(
     shelf: &mut F,
 ) -> Result<Vec<u8>, Stop>
     ensures whole { IfOk result (λ text. IsWholeFile (F.files shelf.old) name.now text.items) }
-    ensures short { IfOk result (λ text. length text.items ≤ 33_554_432) }
-    ensures stop { IfErr result (StopsText (F.files shelf.old) (F.faults shelf.old) (F.faults shelf.new) (named which name.now)) }
+    ensures short { IfOk result (λ text. IsReadable text.items) }
+    ensures stop { IfErr result (StopsText (F.files shelf.old) (F.faults shelf.old)
+        (F.faults shelf.new) (named which name.now)) }
     ensures same { F.files shelf.new ≡ F.files shelf.old }
     ensures counts { (other : List ℕ) → F.faults shelf.old other ≤ F.faults shelf.new other }
 {
@@ -148,7 +153,7 @@ fn generated_text(
 ) -> Result<Vec<u8>, Stop>
     requires { (1 ≤ count) × (count ≤ 90_000) }
     ensures text { IfOk result (λ text. text.items ≡ made_text count) }
-    ensures short { IfOk result (λ text. length text.items ≤ 33_554_432) }
+    ensures short { IfOk result (λ text. IsReadable text.items) }
     ensures stop { IfErr result (λ stop. stop ≡ Stop.OutOfMemory) }
 {
     match made_text(rt, alloc, workers, count) {
@@ -166,9 +171,11 @@ fn board_text<R: Threads + Sync, F: Shelf>(
     shelf: &mut F,
 ) -> Result<Vec<u8>, Stop>
     requires { SourceFits source }
-    ensures whole { IfOk result (λ text. AreBytesOf (F.files shelf.old) (source_in source.entry) text.items) }
-    ensures short { IfOk result (λ text. length text.items ≤ 33_554_432) }
-    ensures stop { IfErr result (StopsText (F.files shelf.old) (F.faults shelf.old) (F.faults shelf.new) (record { which = Which.Board; source = source_in source.entry })) }
+    ensures whole { IfOk result (λ text. AreBytesOf (F.files shelf.old) (source_in source.entry)
+        text.items) }
+    ensures short { IfOk result (λ text. IsReadable text.items) }
+    ensures stop { IfErr result (StopsText (F.files shelf.old) (F.faults shelf.old)
+        (F.faults shelf.new) (record { which = Which.Board; source = source_in source.entry })) }
     ensures same { F.files shelf.new ≡ F.files shelf.old }
     ensures counts { (other : List ℕ) → F.faults shelf.old other ≤ F.faults shelf.new other }
 {
@@ -185,8 +192,9 @@ fn board_in(
     workers: u32,
     text: &[u8],
 ) -> Result<Board, Stop>
-    requires { length text.now ≤ 33_554_432 }
-    ensures { MatchResult result (λ board. ReaderSays Which.Board text.now (accepted (a_board board))) (StopsReading Which.Board text.now) }
+    requires { IsReadable text.now }
+    ensures { MatchResult result (λ board. ReaderSays Which.Board text.now
+        (accepted (a_board board))) (StopsReading Which.Board text.now) }
 {
     match read_board_by(rt, alloc, workers, text) {
         Ok(board) => Ok(board),
@@ -196,8 +204,9 @@ fn board_in(
 
 /// The classes of the text of a project.
 fn classes_in(alloc: Global, text: &[u8]) -> Result<Classes, Stop>
-    requires { length text.now ≤ 33_554_432 }
-    ensures { MatchResult result (λ classes. ReaderSays Which.Project text.now (accepted (a_project classes))) (StopsReading Which.Project text.now) }
+    requires { IsReadable text.now }
+    ensures { MatchResult result (λ classes. ReaderSays Which.Project text.now
+        (accepted (a_project classes))) (StopsReading Which.Project text.now) }
 {
     match read_project(alloc, text) {
         Ok(classes) => Ok(classes),
@@ -207,9 +216,10 @@ fn classes_in(alloc: Global, text: &[u8]) -> Result<Classes, Stop>
 
 /// The rules of the text of a rule file.
 fn rules_in(alloc: Global, text: &[u8]) -> Result<Rules, Stop>
-    requires { length text.now ≤ 33_554_432 }
-    ensures says { MatchResult result (λ rules. ReaderSays Which.Rules text.now (accepted (a_rules (plain_rules rules)))) (StopsReading Which.Rules text.now) }
-    ensures few { IfOk result (λ rules. length rules.rules ≤ 33_554_432) }
+    requires { IsReadable text.now }
+    ensures says { MatchResult result (λ rules. ReaderSays Which.Rules text.now
+        (accepted (a_rules (plain_rules rules)))) (StopsReading Which.Rules text.now) }
+    ensures few { IfOk result (λ rules. IsInText (length rules.rules)) }
 {
     // A text has no more rules than bytes.
     spans_in_order();
@@ -221,11 +231,13 @@ fn rules_in(alloc: Global, text: &[u8]) -> Result<Rules, Stop>
 
 /// The commands of the text of a script, which they borrow.
 pub fn script_in<'t>(alloc: Global, text: &'t [u8]) -> Result<Vec<Command<'t>>, Stop>
-    requires { length text.now ≤ 33_554_432 }
-    ensures says { MatchResult result (λ commands. ReaderSays Which.Script text.entry.now (accepted (a_script (map plain_command commands.items)))) (StopsReading Which.Script text.entry.now) }
+    requires { IsReadable text.now }
+    ensures says { MatchResult result (λ commands. ReaderSays Which.Script text.entry.now
+        (accepted (a_script (map plain_command commands.items))))
+        (StopsReading Which.Script text.entry.now) }
     ensures fit { IfOk result (λ commands. All Fits (map plain_command commands.items)) }
     ensures shallow { IfOk result (λ commands. AreShallow (map plain_command commands.items)) }
-    ensures few { IfOk result (λ commands. length commands.items ≤ 33_554_432) }
+    ensures few { IfOk result (λ commands. IsInText (length commands.items)) }
 {
     // A script has no more commands than bytes.
     spans_in_order();
@@ -238,8 +250,10 @@ pub fn script_in<'t>(alloc: Global, text: &'t [u8]) -> Result<Vec<Command<'t>>, 
 
 /// The steps of the text of a script, which they borrow.
 pub fn steps_in<'t>(alloc: Global, text: &'t [u8]) -> Result<Vec<Step<'t>>, Stop>
-    requires { length text.now ≤ 33_554_432 }
-    ensures says { MatchResult result (λ steps. ReaderSays Which.Steps text.entry.now (accepted (some_steps (map plain_step steps.items)))) (StopsReading Which.Steps text.entry.now) }
+    requires { IsReadable text.now }
+    ensures says { MatchResult result (λ steps. ReaderSays Which.Steps text.entry.now
+        (accepted (some_steps (map plain_step steps.items))))
+        (StopsReading Which.Steps text.entry.now) }
     ensures fit { IfOk result (λ steps. All StepFits (map plain_step steps.items)) }
 {
     match read_steps(alloc, text) {
@@ -250,7 +264,9 @@ pub fn steps_in<'t>(alloc: Global, text: &'t [u8]) -> Result<Vec<Step<'t>>, Stop
 
 /// The place of the first command that is too many to be tried.
 fn first_too_many(commands: &[Command<'_>]) -> Option<u32>
-    ensures { MatchOption result (length commands.now ≤ 15_625) (λ at. (command : PlainCommand) × (slice_get (map plain_command commands.now) 15_625 ≡ Some command) × (at ≡ place_of command)) }
+    ensures { MatchOption result (length commands.now ≤ most_trials)
+        (λ at. (command : PlainCommand) × (slice_get (map plain_command commands.now) most_trials ≡
+        Some command) × (at ≡ place_of command)) }
 {
     match commands.get(MOST_TRIALS) {
         Some(command) => Some(command.at()),
@@ -260,10 +276,12 @@ fn first_too_many(commands: &[Command<'_>]) -> Option<u32>
 
 /// The commands of the text of a script that are tried, which they borrow.
 pub fn trials_in<'t>(alloc: Global, text: &'t [u8]) -> Result<Vec<Command<'t>>, Stop>
-    requires { length text.now ≤ 33_554_432 }
-    ensures says { MatchResult result (λ commands. ReaderSays Which.Trials text.entry.now (accepted (a_script (map plain_command commands.items)))) (StopsReading Which.Trials text.entry.now) }
+    requires { IsReadable text.now }
+    ensures says { MatchResult result (λ commands. ReaderSays Which.Trials text.entry.now
+        (accepted (a_script (map plain_command commands.items))))
+        (StopsReading Which.Trials text.entry.now) }
     ensures fit { IfOk result (λ commands. All Fits (map plain_command commands.items)) }
-    ensures few { IfOk result (λ commands. length commands.items ≤ 15_625) }
+    ensures few { IfOk result (λ commands. length commands.items ≤ most_trials) }
 {
     let commands = match read_script(alloc, text) {
         Ok(commands) => commands,
@@ -284,8 +302,11 @@ fn board_of<R: Threads + Sync, F: Shelf>(
     shelf: &mut F,
 ) -> Result<Board, Stop>
     requires { SourceFits source }
-    ensures ok { IfOk result (λ board. SourceSays (F.files shelf.old) (record { which = Which.Board; source = source_in source.entry }) (accepted (a_board board))) }
-    ensures stop { IfErr result (StopsText (F.files shelf.old) (F.faults shelf.old) (F.faults shelf.new) (record { which = Which.Board; source = source_in source.entry })) }
+    ensures ok { IfOk result (λ board. SourceSays (F.files shelf.old)
+        (record { which = Which.Board; source = source_in source.entry })
+        (accepted (a_board board))) }
+    ensures stop { IfErr result (StopsText (F.files shelf.old) (F.faults shelf.old)
+        (F.faults shelf.new) (record { which = Which.Board; source = source_in source.entry })) }
     ensures same { F.files shelf.new ≡ F.files shelf.old }
     ensures counts { (other : List ℕ) → F.faults shelf.old other ≤ F.faults shelf.new other }
 {
@@ -297,8 +318,10 @@ fn board_of<R: Threads + Sync, F: Shelf>(
 
 /// Fetches the project's text and reads it.
 fn project_of<F: Shelf>(alloc: Global, name: &str, shelf: &mut F) -> Result<Classes, Stop>
-    ensures ok { IfOk result (λ classes. SourceSays (F.files shelf.old) (named Which.Project name.now) (accepted (a_project classes))) }
-    ensures stop { IfErr result (StopsText (F.files shelf.old) (F.faults shelf.old) (F.faults shelf.new) (named Which.Project name.now)) }
+    ensures ok { IfOk result (λ classes. SourceSays (F.files shelf.old)
+        (named Which.Project name.now) (accepted (a_project classes))) }
+    ensures stop { IfErr result (StopsText (F.files shelf.old) (F.faults shelf.old)
+        (F.faults shelf.new) (named Which.Project name.now)) }
     ensures same { F.files shelf.new ≡ F.files shelf.old }
     ensures counts { (other : List ℕ) → F.faults shelf.old other ≤ F.faults shelf.new other }
 {
@@ -310,9 +333,11 @@ fn project_of<F: Shelf>(alloc: Global, name: &str, shelf: &mut F) -> Result<Clas
 
 /// Fetches the text of the rule file and reads it.
 fn rule_file_of<F: Shelf>(alloc: Global, name: &str, shelf: &mut F) -> Result<Rules, Stop>
-    ensures ok { IfOk result (λ rules. SourceSays (F.files shelf.old) (named Which.Rules name.now) (accepted (a_rules (plain_rules rules)))) }
-    ensures few { IfOk result (λ rules. length rules.rules ≤ 33_554_432) }
-    ensures stop { IfErr result (StopsText (F.files shelf.old) (F.faults shelf.old) (F.faults shelf.new) (named Which.Rules name.now)) }
+    ensures ok { IfOk result (λ rules. SourceSays (F.files shelf.old) (named Which.Rules name.now)
+        (accepted (a_rules (plain_rules rules)))) }
+    ensures few { IfOk result (λ rules. IsInText (length rules.rules)) }
+    ensures stop { IfErr result (StopsText (F.files shelf.old) (F.faults shelf.old)
+        (F.faults shelf.new) (named Which.Rules name.now)) }
     ensures same { F.files shelf.new ≡ F.files shelf.old }
     ensures counts { (other : List ℕ) → F.faults shelf.old other ≤ F.faults shelf.new other }
 {
@@ -324,8 +349,10 @@ fn rule_file_of<F: Shelf>(alloc: Global, name: &str, shelf: &mut F) -> Result<Ru
 
 /// The classes of the project, or without one the plain ones.
 fn classes_of<F: Shelf>(alloc: Global, name: Option<&str>, shelf: &mut F) -> Result<Classes, Stop>
-    ensures ok { IfOk result (λ classes. Gives (F.files shelf.old) Which.Project (option_map (λ file. file.now) name.entry) (a_project plain_classes) (a_project classes)) }
-    ensures stop { IfErr result (StopsOption (F.files shelf.old) (F.faults shelf.old) (F.faults shelf.new) Which.Project (option_map (λ file. file.now) name.entry)) }
+    ensures ok { IfOk result (λ classes. Gives (F.files shelf.old) Which.Project
+        (option_map (λ file. file.now) name.entry) (a_project plain_classes) (a_project classes)) }
+    ensures stop { IfErr result (StopsOption (F.files shelf.old) (F.faults shelf.old)
+        (F.faults shelf.new) Which.Project (option_map (λ file. file.now) name.entry)) }
     ensures same { F.files shelf.new ≡ F.files shelf.old }
     ensures counts { (other : List ℕ) → F.faults shelf.old other ≤ F.faults shelf.new other }
 {
@@ -341,7 +368,7 @@ fn classes_of<F: Shelf>(alloc: Global, name: Option<&str>, shelf: &mut F) -> Res
 /// No rules.
 fn no_rules(alloc: Global) -> Rules
     ensures none { plain_rules result ≡ no_rules }
-    ensures few { length result.rules ≤ 33_554_432 }
+    ensures few { IsInText (length result.rules) }
 {
     Rules {
         rules: RuleList::of(Vec::new(alloc)),
@@ -351,9 +378,12 @@ fn no_rules(alloc: Global) -> Rules
 
 /// The rules of the rule file, or without one none.
 fn rules_of<F: Shelf>(alloc: Global, name: Option<&str>, shelf: &mut F) -> Result<Rules, Stop>
-    ensures ok { IfOk result (λ rules. Gives (F.files shelf.old) Which.Rules (option_map (λ file. file.now) name.entry) (a_rules no_rules) (a_rules (plain_rules rules))) }
-    ensures few { IfOk result (λ rules. length rules.rules ≤ 33_554_432) }
-    ensures stop { IfErr result (StopsOption (F.files shelf.old) (F.faults shelf.old) (F.faults shelf.new) Which.Rules (option_map (λ file. file.now) name.entry)) }
+    ensures ok { IfOk result (λ rules. Gives (F.files shelf.old) Which.Rules
+        (option_map (λ file. file.now) name.entry) (a_rules no_rules)
+        (a_rules (plain_rules rules))) }
+    ensures few { IfOk result (λ rules. IsInText (length rules.rules)) }
+    ensures stop { IfErr result (StopsOption (F.files shelf.old) (F.faults shelf.old)
+        (F.faults shelf.new) Which.Rules (option_map (λ file. file.now) name.entry)) }
     ensures same { F.files shelf.new ≡ F.files shelf.old }
     ensures counts { (other : List ℕ) → F.faults shelf.old other ≤ F.faults shelf.new other }
 {
@@ -371,9 +401,11 @@ pub fn texts_of<R: Threads + Sync, F: Shelf>(
     shelf: &mut F,
 ) -> Result<Texts, Stop>
     requires { RequestFits request }
-    ensures ok { IfOk result (λ texts. AreOpened (F.files shelf.old) (reading_in request.entry) (opened_in texts)) }
-    ensures few { IfOk result (λ texts. length texts.rules.rules ≤ 33_554_432) }
-    ensures stop { IfErr result (StopsTexts (F.files shelf.old) (check (reading_in request.entry)) (F.faults shelf.old) (F.faults shelf.new)) }
+    ensures ok { IfOk result (λ texts. AreOpened (F.files shelf.old) (reading_in request.entry)
+        (opened_in texts)) }
+    ensures few { IfOk result (λ texts. IsInText (length texts.rules.rules)) }
+    ensures stop { IfErr result (StopsTexts (F.files shelf.old) (check (reading_in request.entry))
+        (F.faults shelf.old) (F.faults shelf.new)) }
     ensures same { F.files shelf.new ≡ F.files shelf.old }
     ensures counts { (other : List ℕ) → F.faults shelf.old other ≤ F.faults shelf.new other }
 {
@@ -401,9 +433,11 @@ pub fn script_text<F: Shelf>(
     name: Option<&str>,
     shelf: &mut F,
 ) -> Result<Vec<u8>, Stop>
-    ensures whole { IfOk result (λ text. AreBytesOfOption (F.files shelf.old) (option_map (λ file. file.now) name.entry) text.items) }
-    ensures short { IfOk result (λ text. length text.items ≤ 33_554_432) }
-    ensures stop { IfErr result (StopsOption (F.files shelf.old) (F.faults shelf.old) (F.faults shelf.new) Which.Script (option_map (λ file. file.now) name.entry)) }
+    ensures whole { IfOk result (λ text. AreBytesOfOption (F.files shelf.old)
+        (option_map (λ file. file.now) name.entry) text.items) }
+    ensures short { IfOk result (λ text. IsReadable text.items) }
+    ensures stop { IfErr result (StopsOption (F.files shelf.old) (F.faults shelf.old)
+        (F.faults shelf.new) Which.Script (option_map (λ file. file.now) name.entry)) }
     ensures same { F.files shelf.new ≡ F.files shelf.old }
     ensures counts { (other : List ℕ) → F.faults shelf.old other ≤ F.faults shelf.new other }
 {
@@ -419,9 +453,12 @@ pub fn commands_of<'t>(
     name: Option<&str>,
     text: &'t [u8],
 ) -> Result<Vec<Command<'t>>, Stop>
-    requires { length text.now ≤ 33_554_432 }
-    ensures says { IfOk result (λ commands. GivesReading Which.Script (option_map (λ file. file.now) name.entry) text.entry.now (a_script []) (a_script (map plain_command commands.items))) }
-    ensures stop { IfErr result (StopsReadingOption Which.Script (option_map (λ file. file.now) name.entry) text.entry.now) }
+    requires { IsReadable text.now }
+    ensures says { IfOk result (λ commands. GivesReading Which.Script
+        (option_map (λ file. file.now) name.entry) text.entry.now (a_script [])
+        (a_script (map plain_command commands.items))) }
+    ensures stop { IfErr result (StopsReadingOption Which.Script
+        (option_map (λ file. file.now) name.entry) text.entry.now) }
     ensures fit { IfOk result (λ commands. All Fits (map plain_command commands.items)) }
 {
     match name {
@@ -452,11 +489,15 @@ pub fn scripted_texts<R: Threads + Sync, F: Shelf>(
     files: Scripted<'_>,
     shelf: &mut F,
 ) -> Result<(Texts, Vec<u8>), Stop>
-    ensures ok { IfOk result (λ r. AreOpened (F.files shelf.old) (only_board files.entry.board.now) (opened_in r.0)) }
-    ensures few { IfOk result (λ r. length r.0.rules.rules ≤ 33_554_432) }
-    ensures whole { IfOk result (λ r. IsWholeFile (F.files shelf.old) files.entry.script.now r.1.items) }
-    ensures short { IfOk result (λ r. length r.1.items ≤ 33_554_432) }
-    ensures stop { IfErr result (λ stop. (call : PlainCall) → texts_of call ≡ board_and_script which files.entry.board.now files.entry.script.now → StopsTexts (F.files shelf.old) call (F.faults shelf.old) (F.faults shelf.new) stop) }
+    ensures ok { IfOk result (λ r. AreOpened (F.files shelf.old) (only_board files.entry.board.now)
+        (opened_in r.0)) }
+    ensures few { IfOk result (λ r. IsInText (length r.0.rules.rules)) }
+    ensures whole { IfOk result (λ r. IsWholeFile (F.files shelf.old) files.entry.script.now
+        r.1.items) }
+    ensures short { IfOk result (λ r. IsReadable r.1.items) }
+    ensures stop { IfErr result (λ stop. (call : PlainCall) → texts_of call ≡ board_and_script which
+        files.entry.board.now files.entry.script.now → StopsTexts (F.files shelf.old) call
+        (F.faults shelf.old) (F.faults shelf.new) stop) }
     ensures same { F.files shelf.new ≡ F.files shelf.old }
     ensures counts { (other : List ℕ) → F.faults shelf.old other ≤ F.faults shelf.new other }
 {

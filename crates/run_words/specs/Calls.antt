@@ -3,6 +3,7 @@
 use Rattle.std.specs.Prelude.{ℕ, List, [], ◌∷◌, Option, None, Some, Result, Ok, Err, Bool, true, ◌&&◌, not, nat_eq, nat_le, bytes_eq, if◌then◌else◌, map, codes}
 use Rattle.std.specs.Option.{option_map}
 use Rattle.std.proofs.Common.{Bor}
+use Rattle.plain_types.specs.Limits.{most_workers}
 use Rattle.exact_dec.specs.declared.DecError.{DecError}
 use Rattle.exact_dec.specs.Computed.{count_answer}
 use Rattle.clap.specs.Words.{App, Rule, Row, Kinds, new_app, new_rule, with_rule, fault_of, matches_of, first_of}
@@ -22,10 +23,14 @@ option_rule name = record (new_rule name) { long = Some name }
 abbrev pub bare_app : App
 bare_app = on_top settings_of (new_app (codes "drc"))
 
--- the board's file, and after `--project`, `--rules` and `--script` the other files
+-- with the board's file
+abbrev pub app_with_board : App
+app_with_board = with_rule bare_app (new_rule (codes "BOARD"))
+
+-- and after `--project`, `--rules` and `--script` the other files
 abbrev pub app_with_files : App
 app_with_files =
-    with_rule (with_rule (with_rule (with_rule bare_app (new_rule (codes "BOARD"))) (option_rule (codes "project"))) (option_rule (codes "rules"))) (option_rule (codes "script"))
+    with_rule (with_rule (with_rule app_with_board (option_rule (codes "project"))) (option_rule (codes "rules"))) (option_rule (codes "script"))
 
 -- and after `--workers` and `--make` a number; none of the six must be there
 abbrev pub drc_app : App
@@ -57,7 +62,7 @@ number_in low high text = in_range low high (count_answer text)
 -- one worker, where no number is given
 abbrev pub workers_of : Option (List ℕ) → Option ℕ
 workers_of None = Some 1
-workers_of (Some text) = number_in 1 64 text
+workers_of (Some text) = number_in 1 most_workers text
 
 -- exactly one of a file and a generated board
 abbrev pub source_of : Option (List ℕ) → Option (List ℕ) → Option PlainSource
@@ -158,7 +163,7 @@ abbrev pub call_by : List ℕ → List (List ℕ) → PlainCall
 call_by first words =
     if bytes_eq first (codes "undo") then undo_if (two_files words)
     else if bytes_eq first (codes "try") then try_call words
-    else if bytes_eq first (codes "steal") then steal_if (file_and_number 64 words)
+    else if bytes_eq first (codes "steal") then steal_if (file_and_number most_workers words)
     else if bytes_eq first (codes "write") then write_if (two_files words)
     else check_call (first ∷ words)
 

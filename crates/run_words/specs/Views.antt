@@ -1,6 +1,7 @@
 -- What the words call for, as the program holds it.
 use Rattle.std.specs.Prelude.{◌≤◌, ℕ, List}
 use Rattle.std.specs.Option.{option_map}
+use Rattle.plain_types.specs.Limits.{IsWorkerCount}
 use Rattle.run_words.specs.declared.calls.Call.{Call}
 use Rattle.run_words.specs.declared.calls.Call.TheVariants.{Nothing, Check, Undo, Try, Steal, Write}
 use Rattle.run_words.specs.declared.calls.Scripted.{Scripted}
@@ -31,7 +32,7 @@ SourceFits (Made count) = (1 ≤ count) × (count ≤ 90000)
 -- and so is that of the workers
 pub record RequestFits (request : Request) : Type 0 where
   pub source : SourceFits request.board
-  pub workers : (1 ≤ request.workers) × (request.workers ≤ 64)
+  pub workers : IsWorkerCount request.workers
 
 -- ---- calls
 
@@ -54,5 +55,5 @@ CallFits (Nothing usage) = Unit {0}
 CallFits (Check request) = RequestFits request
 CallFits (Undo files) = Unit {0}
 CallFits (Try files workers) = (1 ≤ workers) × (workers ≤ 8)
-CallFits (Steal found) = (1 ≤ found.number) × (found.number ≤ 64)
+CallFits (Steal found) = IsWorkerCount found.number
 CallFits (Write files) = Unit {0}

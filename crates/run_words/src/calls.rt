@@ -1,7 +1,9 @@
 //! What is asked for: a check, or what the first word names.
 
 ghost use Rattle.std.specs.Prelude.{◌≡◌, ◌≤◌, [], ◌∷◌, IfOk, IfSome, option_map};
-ghost use Rattle.run_words.specs.Calls.{check_call, names_file, two_files, undo_if, try_if, try_call, number_in, call_of, words_of, file_and_number, steal_if, write_if};
+ghost use Rattle.plain_types.specs.Limits.{most_workers};
+ghost use Rattle.run_words.specs.Calls.{check_call, names_file, two_files, undo_if, try_if, try_call};
+ghost use Rattle.run_words.specs.Calls.{call_of, words_of, file_and_number, steal_if, write_if};
 ghost use Rattle.run_words.specs.Views.{files_in, call_in, CallFits, numbered_in};
 
 use crate::words::{MOST_WORKERS, Request, number_in, request_of};
@@ -41,7 +43,8 @@ pub enum Call<'a> {
     Write(Scripted<'a>),
 }
 
-/// The call of a check, whatever the first word is.
+/// The call of a check, whatever the first word is. Words that call for nothing give the line that says how the
+/// program is called. The one error is want of memory.
 pub fn check_call<'a>(alloc: Global, words: &'a [&'a str]) -> Result<Call<'a>, AllocError>
     ensures call { IfOk result (λ call. call_in call ≡ check_call (words_of words.entry.now)) }
     ensures fits { IfOk result CallFits }
@@ -101,7 +104,8 @@ fn try_if<'a>(files: Option<Scripted<'a>>, workers: Option<u32>) -> Call<'a>
 
 /// The two files of trials.
 fn files_of<'a>(board: &'a str, script: &'a str) -> Option<Scripted<'a>>
-    ensures { option_map files_in result ≡ two_files (board.entry.now ∷ script.entry.now ∷ []) }
+    ensures { option_map files_in result
+        ≡ two_files (board.entry.now ∷ script.entry.now ∷ []) }
 {
     if names_file(board) && names_file(script) {
         Some(Scripted { board, script })
@@ -125,7 +129,8 @@ fn try_call<'a>(words: &'a [&'a str]) -> Call<'a>
 
 /// The file of a board, and a number from 1 to `most`: two words.
 fn file_and_number<'a>(most: u32, words: &'a [&'a str]) -> Option<Numbered<'a>>
-    ensures found { option_map numbered_in result ≡ file_and_number most (words_of words.entry.now) }
+    ensures found { option_map numbered_in result
+        ≡ file_and_number most (words_of words.entry.now) }
     ensures fits { IfSome result (λ found. (1 ≤ found.number) × (found.number ≤ most)) }
 {
     match words {
@@ -143,7 +148,8 @@ fn file_and_number<'a>(most: u32, words: &'a [&'a str]) -> Option<Numbered<'a>>
 
 /// The call of the words behind `steal`.
 fn steal_call<'a>(words: &'a [&'a str]) -> Call<'a>
-    ensures call { call_in result ≡ steal_if (file_and_number 64 (words_of words.entry.now)) }
+    ensures call { call_in result
+        ≡ steal_if (file_and_number most_workers (words_of words.entry.now)) }
     ensures fits { CallFits result }
 {
     match file_and_number(MOST_WORKERS, words) {
@@ -163,7 +169,9 @@ fn write_call<'a>(words: &'a [&'a str]) -> Call<'a>
     }
 }
 
-/// The call of the words.
+/// The call of the words, by the first of them: `undo`, `try`, `steal` and `write` have calls of their own, and all
+/// else calls for a check. Words that call for nothing give the line that says how the program is called. The one error
+/// is want of memory.
 pub fn call_of<'a>(alloc: Global, words: &'a [&'a str]) -> Result<Call<'a>, AllocError>
     ensures call { IfOk result (λ call. call_in call ≡ call_of (words_of words.entry.now)) }
     ensures fits { IfOk result CallFits }

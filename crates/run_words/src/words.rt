@@ -2,7 +2,9 @@
 
 ghost use Rattle.std.specs.Prelude.{◌≡◌, ◌≤◌, false, Some, None, IfOk, IfSome, option_map};
 ghost use Rattle.clap.specs.Words.{app_of, rule_of, with_rule, first_value, found_of};
-ghost use Rattle.run_words.specs.Calls.{option_rule, bare_app, app_with_files, drc_app, number_in, workers_of, source_of, reading_of, reading_by, words_of};
+ghost use Rattle.plain_types.specs.Limits.{IsWorkerCount};
+ghost use Rattle.run_words.specs.Calls.{option_rule, bare_app, app_with_board, app_with_files, drc_app};
+ghost use Rattle.run_words.specs.Calls.{number_in, workers_of, source_of, reading_of, reading_by, words_of};
 ghost use Rattle.run_words.specs.Views.{source_in, reading_in, SourceFits, RequestFits};
 
 use clap::error::ErrorKind;
@@ -11,7 +13,7 @@ use exact_dec::count_of;
 use std::alloc::{AllocError, Global};
 
 /// The most workers.
-pub(crate) const MOST_WORKERS: u32 = 64;
+pub(crate) const MOST_WORKERS: u32 = plain_types::MOST_WORKERS as u32;
 
 /// The greatest generated board.
 const MOST_MADE: u32 = 90_000;
@@ -59,16 +61,24 @@ fn with_option<'a>(
     command: Command<'a>,
     name: &'a str,
 ) -> Result<Command<'a>, AllocError>
-    ensures { IfOk result (λ more. app_of more ≡ with_rule (app_of command.entry) (option_rule name.entry.now)) }
+    ensures { IfOk result (λ more.
+        app_of more ≡ with_rule (app_of command.entry) (option_rule name.entry.now)) }
 {
     command.arg(option(alloc, name))
+}
+
+/// `drc [BOARD]`.
+fn command_with_board<'a>(alloc: Global) -> Result<Command<'a>, AllocError>
+    ensures { IfOk result (λ command. app_of command ≡ app_with_board) }
+{
+    bare_command(alloc).arg(Arg::new(alloc, "BOARD"))
 }
 
 /// `drc [BOARD] [--project FILE] [--rules FILE] [--script FILE]`.
 fn command_with_files<'a>(alloc: Global) -> Result<Command<'a>, AllocError>
     ensures { IfOk result (λ command. app_of command ≡ app_with_files) }
 {
-    let command = bare_command(alloc).arg(Arg::new(alloc, "BOARD"))?;
+    let command = command_with_board(alloc)?;
     let command = with_option(alloc, command, "project")?;
     let command = with_option(alloc, command, "rules")?;
     with_option(alloc, command, "script")
@@ -88,7 +98,8 @@ pub(crate) fn request_of<'a>(
     alloc: Global,
     words: &'a [&'a str],
 ) -> Result<Option<Request<'a>>, AllocError>
-    ensures reading { IfOk result (λ request. option_map reading_in request ≡ reading_of (words_of words.entry.now)) }
+    ensures reading { IfOk result (λ request.
+        option_map reading_in request ≡ reading_of (words_of words.entry.now)) }
     ensures fits { IfOk result (λ request. IfSome request RequestFits) }
 {
     let command = command(alloc)?;
@@ -103,7 +114,8 @@ pub(crate) fn request_of<'a>(
 
 /// What the matches ask for.
 fn request_in<'a>(matches: &ArgMatches<'a>) -> Option<Request<'a>>
-    ensures reading { option_map reading_in result ≡ reading_by (λ name. first_value (found_of matches.now) name) }
+    ensures reading { option_map reading_in result
+        ≡ reading_by (λ name. first_value (found_of matches.now) name) }
     ensures fits { IfSome result RequestFits }
 {
     let board = source_of(matches.get_str("BOARD"), matches.get_str("make"))?;
@@ -119,7 +131,9 @@ fn request_in<'a>(matches: &ArgMatches<'a>) -> Option<Request<'a>>
 
 /// Exactly one of a file and a generated board.
 fn source_of<'a>(name: Option<&'a str>, count: Option<&'a str>) -> Option<BoardSource<'a>>
-    ensures source { option_map source_in result ≡ source_of (option_map (λ text. text.now) name.entry) (option_map (λ text. text.now) count.entry) }
+    ensures source { option_map source_in result
+        ≡ source_of (option_map (λ text. text.now) name.entry)
+        (option_map (λ text. text.now) count.entry) }
     ensures fits { IfSome result SourceFits }
 {
     match (name, count) {
@@ -141,7 +155,7 @@ fn made_of<'a>(count: &str) -> Option<BoardSource<'a>>
 /// A number of workers from 1 to 64, 1 where none is given.
 fn workers_of(count: Option<&str>) -> Option<u32>
     ensures workers { result ≡ workers_of (option_map (λ text. text.now) count.entry) }
-    ensures fits { IfSome result (λ number. (1 ≤ number) × (number ≤ 64)) }
+    ensures fits { IfSome result IsWorkerCount }
 {
     match count {
         Some(count) => number_in(count, MOST_WORKERS),

@@ -3,7 +3,7 @@ use Rattle.std.proofs.Common.{◌≡◌, sym, ap, subst, ◌∙◌, ℕ, ◌≤�
 use Rattle.board_items.specs.declared.item.Item.{Item}
 use Rattle.board_items.specs.Boards.{PlainBoard, with_item}
 use Rattle.pcb_read.specs.BoardOf.{with_items}
-use Rattle.board_edits.specs.declared.reason.Refusal.{Refusal}
+use Rattle.board_edits.specs.declared.refusal.Refusal.{Refusal}
 use Rattle.board_edits.specs.Deeds.{PlainDeed, nothing, append, put_back, take_out, shift, After, Does}
 use Rattle.rule_text.specs.declared.error.RuleError.{RuleError}
 use Rattle.rule_text.specs.RulesOf.{PlainRules}

@@ -6,8 +6,8 @@ use Rattle.board_items.specs.declared.found.Found.TheVariants.{None as NoUnit, S
 use Rattle.board_items.specs.Boards.{PlainBoard}
 use Rattle.board_items.specs.Moves.{unit_stays}
 use Rattle.board_items.specs.Units.{found_of}
-use Rattle.board_edits.specs.declared.reason.Refusal.{Refusal}
-use Rattle.board_edits.specs.declared.reason.Refusal.TheVariants.{Item as ItemRefused}
+use Rattle.board_edits.specs.declared.refusal.Refusal.{Refusal}
+use Rattle.board_edits.specs.declared.refusal.Refusal.TheVariants.{Item as ItemRefused}
 use Rattle.board_edits.specs.Deeds.{PlainDeed, nothing, append, put_back, take_out, shift, After, Does, to_unit, shifted}
 use Rattle.board_edits.specs.Fitting.{AddsNone}
 use Rattle.rule_text.specs.declared.error.RuleError.{RuleError}

@@ -1,5 +1,5 @@
 use Rattle.std.proofs.Common.{◌≡◌, take}
-use Rattle.drc_rows.specs.Line.{escaped}
+use Rattle.drc_rows.specs.Buffer.{escaped}
 use Rattle.drc_rows.proofs.pieces.is_short_plain.Given as goal
 
 -- what has been passed stands for itself

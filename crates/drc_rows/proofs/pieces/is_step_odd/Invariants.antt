@@ -1,5 +1,5 @@
 use Rattle.std.proofs.Common.{◌≡◌, false}
-use Rattle.drc_rows.specs.Line.{AreOwn}
+use Rattle.drc_rows.specs.Buffer.{AreOwn}
 use Rattle.drc_rows.proofs.pieces.is_step_odd.Given as goal
 
 -- what has been passed stands for itself, unless some of it does not

@@ -1,6 +1,6 @@
 use Rattle.std.proofs.Common.{sym, arith}
 use Rattle.std.proofs.lemmas.Result.{err_from_is_err_and}
-use Rattle.drc_rows.specs.Line.{escaped_byte}
+use Rattle.drc_rows.specs.Buffer.{escaped_byte}
 use Rattle.drc_rows.proofs.Lines.{Puts-then, Puts-cut, Puts-text, flat_more, flat_rest}
 use Rattle.drc_rows.proofs.pieces.push_bytes.Goals as goal
 

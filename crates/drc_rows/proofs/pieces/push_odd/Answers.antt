@@ -1,6 +1,6 @@
 use Rattle.std.proofs.Common.{refl, ◌++◌, append_assoc, codes}
 use Rattle.std.proofs.lemmas.Result.{err_from_is_err_and}
-use Rattle.drc_rows.specs.Line.{escaped}
+use Rattle.drc_rows.specs.Buffer.{escaped}
 use Rattle.drc_rows.proofs.Lines.{Puts-then, Puts-cut}
 use Rattle.drc_rows.proofs.pieces.push_odd.Goals as goal
 

@@ -1,11 +1,11 @@
-use Rattle.std.proofs.Common.{◌≡◌, ◌++◌, codes, decimal, rules, append_assoc}
-use Rattle.drc_io.proofs.Writing.{Writes-text}
-use Rattle.drc_rows.specs.Report.{number_line}
+use Rattle.std.proofs.lemmas.Result.{err_from_is_err_and}
+use Rattle.drc_rows.proofs.Lines.{Puts-ends, Puts-broke}
 use Rattle.drc_rows.proofs.report.write_line.Goals as goal
 
+pub returns-in_err-push_line : goal.returns-in_err-push_line
+returns-in_err-push_line g c =
+    let p = err_from_is_err_and c.from_residual.result c.from_residual.ensures.1 in
+    Puts-broke _ _ _ _ _ _ _ _ _ _ p.1 c.new-buffer.ensures c.in_err-push_line.ensures
+
 pub returns : goal.returns
-unfolding number_line
-returns g c =
-    let number : c.as_bytes.result.now ≡ decimal c.args.number = search rules in
-    let text : c.args.before.now ++ (c.as_bytes.result.now ++ (c.args.after.now ++ codes "\n")) ≡ c.args.before.now ++ decimal c.args.number ++ c.args.after.now ++ codes "\n" = rw number (simp append_assoc) in
-    Writes-text _ _ _ _ _ _ _ text c.write_pieces.ensures
+returns g c = Puts-ends _ _ _ _ _ _ _ _ _ _ _ c.new-buffer.ensures c.in_ok-push_line.ensures c.end.ensures

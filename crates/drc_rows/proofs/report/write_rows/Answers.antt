@@ -5,7 +5,7 @@ use Rattle.drc_rows.proofs.report.write_rows.Goals as goal
 pub returns-in_err-push_rows : goal.returns-in_err-push_rows
 returns-in_err-push_rows g c =
     let p = err_from_is_err_and c.from_residual.result c.from_residual.ensures.1 in
-    Puts-broke _ _ _ _ _ _ _ _ _ _ p.1 c.new-line.ensures c.in_err-push_rows.ensures
+    Puts-broke _ _ _ _ _ _ _ _ _ _ p.1 c.new-buffer.ensures c.in_err-push_rows.ensures
 
 pub returns : goal.returns
-returns g c = Puts-ends _ _ _ _ _ _ _ _ _ _ _ c.new-line.ensures c.in_ok-push_rows.ensures c.end.ensures
+returns g c = Puts-ends _ _ _ _ _ _ _ _ _ _ _ c.new-buffer.ensures c.in_ok-push_rows.ensures c.end.ensures

@@ -1,0 +1,17 @@
+use Rattle.std.proofs.Common.{refl, subst, sym}
+use Rattle.run_texts.specs.declared.texts.Stop.{Stop}
+use Rattle.run_texts.specs.Refusing.{why_of}
+use Rattle.drc_run.specs.declared.status.Status.TheVariants.{Refused}
+use Rattle.drc_run.specs.Output.{refusal}
+use Rattle.drc_run.specs.Refusing.{IsLineOf}
+use Rattle.drc_run.specs.Endings.{IsTextOfOne}
+use Rattle.drc_run.proofs.Written.{written, its_text}
+use Rattle.drc_run.proofs.status.write_stop.Goals as goal
+
+pub returns-in-Refused-clause-ends : goal.returns-in-Refused-clause-ends
+returns-in-Refused-clause-ends g c =
+    let r = c.in-Refused.why in
+    let line = refusal r.which (why_of r) in
+    let is = subst (λ (x : Stop). IsLineOf x line) (sym c.in-Refused.is) refl in
+    written (IsLineOf c.args.stop) (IsTextOfOne (IsLineOf c.args.stop)) _ _ _ _ _ line c.write_refusal.result Refused c.after.result is (its_text (IsLineOf c.args.stop) line is) (λ w. w) c.write_refusal.ensures
+    c.after.ensures
