@@ -13,9 +13,6 @@ use box_index::{TileIndex, push_ids_near, put_in_order};
 use geo_seg::Bounds;
 use std::alloc::{AllocError, Global};
 
-/// How many tiles lie beside one another.
-const LANES: usize = 125;
-
 fn is_mark(what: &What) -> bool
     ensures { result ≡ is_mark what.now }
 {

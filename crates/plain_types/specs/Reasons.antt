@@ -2,6 +2,7 @@
 -- It is written with points between the names and between the numbers, as `EmptyText (6)` and `Text.EmptyText (1.6)`.
 use Rattle.std.specs.Prelude.{ℕ, List, [], ◌∷◌, ◌++◌, Option, Some, None, map, codes, decimal}
 use Rattle.plain_types.specs.declared.reason.Cause.{Cause}
+use Rattle.plain_types.specs.declared.reason.Causes.{Causes}
 use Rattle.plain_types.specs.declared.reason.Path.{Path}
 use Rattle.plain_types.specs.declared.reason.Path.TheVariants.{One, Two, Three, Four}
 
@@ -23,6 +24,14 @@ causes_of (One a) = plain_cause a ∷ []
 causes_of (Two a b) = plain_cause a ∷ plain_cause b ∷ []
 causes_of (Three a b c) = plain_cause a ∷ plain_cause b ∷ plain_cause c ∷ []
 causes_of (Four a b c d) = plain_cause a ∷ plain_cause b ∷ plain_cause c ∷ plain_cause d ∷ []
+
+-- the cause, if there is one, and those behind it
+abbrev pub cause_before : Option Cause → List PlainCause → List PlainCause
+cause_before None rest = rest
+cause_before (Some c) rest = plain_cause c ∷ rest
+
+abbrev pub listed_causes : Causes → List PlainCause
+listed_causes c = plain_cause c.first ∷ cause_before c.second (cause_before c.third (cause_before c.fourth []))
 
 -- a refusal that carries no other
 abbrev pub refused : List ℕ → ℕ → Option ℕ → PlainReason

@@ -11,5 +11,5 @@ mod shared;
 pub use lengths::{GREATEST_LENGTH, Length, is_length};
 pub use limits::{MOST_ITEMS, MOST_TEXT, MOST_TILES, MOST_TRIALS, MOST_WORKERS};
 pub use lists::{Listed, one};
-pub use reason::{Cause, HasReason, Reason};
+pub use reason::{Cause, Causes, HasReason, Reason};
 pub use shared::crosses_threads;

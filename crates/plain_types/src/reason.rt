@@ -11,6 +11,15 @@ pub struct Cause {
     pub number: u8,
 }
 
+/// The causes of a reason, the outermost first. Those that are `None` are passed over.
+#[derive(Clone, Copy, Debug, Drop, PartialEq, Eq)]
+pub struct Causes {
+    pub first: Cause,
+    pub second: Option<Cause>,
+    pub third: Option<Cause>,
+    pub fourth: Option<Cause>,
+}
+
 /// One to four causes: a refusal, and before it those that carry it, the outermost first.
 #[derive(Clone, Copy, Debug, Drop, PartialEq, Eq)]
 enum Path {
@@ -39,7 +48,7 @@ impl Model for Reason {
 
 impl Reason {
     ghost use Rattle.std.specs.Prelude.{◌≡◌, ◌≤◌, Some, None, length};
-    ghost use Rattle.plain_types.specs.Reasons.{refused, carried, with_inner_place};
+    ghost use Rattle.plain_types.specs.Reasons.{refused, carried, with_inner_place, listed_causes};
 
     /// A refusal that carries no other, and its byte of the text where it has one.
     pub fn new(name: &'static str, number: u8, place: Option<u32>) -> Reason
@@ -79,6 +88,38 @@ impl Reason {
             path: self.path,
             place: Some(at),
             inner_place: self.place,
+        }
+    }
+
+    /// Its causes, for who writes them.
+    pub fn causes(&self) -> Causes
+        ensures { listed_causes result ≡ self.now.causes }
+    {
+        match self.path {
+            Path::One(first) => Causes {
+                first,
+                second: None,
+                third: None,
+                fourth: None,
+            },
+            Path::Two(first, second) => Causes {
+                first,
+                second: Some(second),
+                third: None,
+                fourth: None,
+            },
+            Path::Three(first, second, third) => Causes {
+                first,
+                second: Some(second),
+                third: Some(third),
+                fourth: None,
+            },
+            Path::Four(first, second, third, fourth) => Causes {
+                first,
+                second: Some(second),
+                third: Some(third),
+                fourth: Some(fourth),
+            },
         }
     }
 
