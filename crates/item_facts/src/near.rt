@@ -9,7 +9,7 @@ ghost use Rattle.box_index.specs.Tiles.{IsAbsent};
 ghost use Rattle.item_facts.specs.Near.{is_mark_of, HoldsMarks, IsMarked, AreEnough};
 
 use board_items::{Board, Item, What};
-use box_index::{TileIndex, push_ids_near, put_in_order};
+use box_index::{LANES, TileIndex, push_ids_near, put_in_order};
 use geo_seg::Bounds;
 use std::alloc::{AllocError, Global};
 
