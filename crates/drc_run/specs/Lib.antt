@@ -1,5 +1,6 @@
 pub mod CommandLine
 pub mod Reports
+pub mod Lines
 pub mod Turns
 pub mod Output
 pub mod Endings

@@ -1,16 +1,17 @@
 -- The report of a state, whole or short, and the line of a command that is refused.
-use Rattle.std.specs.Prelude.{◌≡◌, ℕ, Bool, true, false, List, ◌++◌, codes, decimal, Option, None, Some}
+use Rattle.std.specs.Prelude.{◌≡◌, ℕ, Bool, true, false, List, ◌++◌, codes, decimal}
+use Rattle.plain_types.specs.Reasons.{PlainReason}
 use Rattle.pair_check.specs.Rows.{AreRows}
 use Rattle.net_groups.specs.NetParts.{AreParts}
 use Rattle.drc_rows.specs.ReportOf.{Found, whole_report, short_report}
 use Rattle.drc_state.specs.declared.error.EditError.{EditError}
-use Rattle.drc_state.specs.Reasons.{edit_reason_of, edit_place_of, edit_inner_place_of}
+use Rattle.drc_state.specs.Reasons.{edit_reason}
 use Rattle.drc_state.specs.States.{State, checked_in}
 use Rattle.drc_state.specs.Recheck.{IsHeldCount}
 use Rattle.undo_log.specs.declared.error.HistoryError.{HistoryError}
 use Rattle.undo_log.specs.declared.error.HistoryError.TheVariants.{Edit, NothingToUndo, NothingToRedo, Stopped, OutOfMemory}
-use Rattle.undo_log.specs.Reasons.{step_reason_of}
-use Rattle.run_texts.specs.Texts.{at_place}
+use Rattle.undo_log.specs.Reasons.{step_reason}
+use Rattle.run_texts.specs.Texts.{reason_text}
 
 -- ---- reports
 
@@ -38,21 +39,19 @@ pub record IsOpening (short : Bool) (s : State) (text : List ℕ) : Type 0 where
 
 -- ---- refusals
 
--- what is refused by a name alone has no place
-abbrev pub why_at : List ℕ → Option ℕ → Option ℕ → List ℕ
-why_at reason None inner = reason
-why_at reason (Some at) inner = at_place reason at inner
-
 abbrev pub why_edit : EditError → List ℕ
-why_edit e = why_at (edit_reason_of e) (edit_place_of e) (edit_inner_place_of e)
+why_edit e = reason_text (edit_reason e)
 
 -- a step that is a refused command is told as that command
+abbrev pub step_told : HistoryError → PlainReason
+step_told (Edit e) = edit_reason e
+step_told NothingToUndo = step_reason NothingToUndo
+step_told NothingToRedo = step_reason NothingToRedo
+step_told Stopped = step_reason Stopped
+step_told OutOfMemory = step_reason OutOfMemory
+
 abbrev pub why_step : HistoryError → List ℕ
-why_step (Edit e) = why_edit e
-why_step NothingToUndo = step_reason_of NothingToUndo
-why_step NothingToRedo = step_reason_of NothingToRedo
-why_step Stopped = step_reason_of Stopped
-why_step OutOfMemory = step_reason_of OutOfMemory
+why_step e = reason_text (step_told e)
 
 -- the line of what has this number and is refused
 unfoldable pub refused_behind : List ℕ → ℕ → List ℕ → List ℕ

@@ -1,5 +1,5 @@
 -- What the parts of a run leave of a session and of a sink.
-use Rattle.std.specs.Prelude.{◌≡◌, ◌≤◌, ◌⊎◌, ℕ, Bool, false, List, [], length, codes, Option, None, Some, Result, Ok, Err, MatchResult}
+use Rattle.std.specs.Prelude.{◌≡◌, ◌≤◌, ◌⊎◌, ℕ, Bool, false, List, length, Option, Result, Ok, Err, MatchResult}
 use Rattle.std.specs.Io.KnownBytes.{Appends, Keeps}
 use Rattle.drc_io.specs.Sinks.{AppendsFront, Writes}
 use Rattle.drc_io.specs.declared.Failed.{Failed}
@@ -19,16 +19,6 @@ use Rattle.drc_run.specs.declared.check.Break.TheVariants.{Unwritten, OutOfMemor
 use Rattle.drc_run.specs.Reports.{AreFindings, report_text, refused_line, why_edit, why_step}
 use Rattle.drc_run.specs.Turns.{AreTurns, AreFirstTurns, IsStepTurn}
 use Rattle.drc_run.specs.Output.{Output, IsLeastLine, AreTrialsTold, AreFirstTrials}
-
--- the piece before the place of a refusal
-abbrev pub at_text : Option ℕ → List ℕ
-at_text None = []
-at_text (Some at) = codes " at "
-
--- the place in a condition counts where there is a place
-abbrev pub inner_behind : Option ℕ → Option ℕ → Option ℕ
-inner_behind None inner = None
-inner_behind (Some at) inner = inner
 
 -- what is found of a session, where so many tiles hold an item
 abbrev pub found_of : PlainSession → ℕ → Found

@@ -2,17 +2,93 @@
 
 ghost use Rattle.std.specs.Prelude.{◌≡◌};
 ghost use Rattle.drc_io.specs.Sinks.{Wrote};
-ghost use Rattle.run_texts.specs.Refusing.{plus_text, digits_text, why_of};
+ghost use Rattle.drc_state.specs.Reasons.{edit_reason};
+ghost use Rattle.run_texts.specs.Texts.{reason_text};
+ghost use Rattle.run_texts.specs.Refusing.{plus_text, digits_text, reason_in, why_of};
 ghost use Rattle.drc_run.specs.Output.{refusal, cannot_read};
-ghost use Rattle.drc_run.specs.Reports.{why_edit, why_step, refused_behind, refused_line, refused_trial};
-ghost use Rattle.drc_run.specs.Running.{at_text, inner_behind};
+ghost use Rattle.drc_run.specs.Reports.{why_edit, why_step, step_told};
+ghost use Rattle.drc_run.specs.Reports.{refused_behind, refused_line, refused_trial};
+ghost use Rattle.drc_run.specs.Lines.{at_text, inner_behind, point_text, name_text, number_text};
+ghost use Rattle.drc_run.specs.Lines.{reason_told, reason_line};
 
 use drc_io::{Failed, Sink};
 use drc_rows::write_pieces;
 use drc_state::EditError;
 use itoa::Buffer;
+use plain_types::{Cause, Causes, HasReason};
 use run_texts::{Refusal, Which};
 use undo_log::HistoryError;
+
+/// Why something is refused, and where: for the line that tells it.
+#[derive(Clone, Copy)]
+struct Told {
+    causes: Causes,
+    place: Option<u32>,
+    inner: Option<u32>,
+}
+
+/// Why it is refused, of an error.
+fn told_of<E: HasReason>(error: &E) -> Told
+    ensures { reason_told result ≡ E.reason_of error.now }
+{
+    let why = error.reason();
+    Told {
+        causes: why.causes(),
+        place: why.place(),
+        inner: why.inner_place(),
+    }
+}
+
+/// Why a text is refused.
+fn told_in(why: Refusal) -> Told
+    ensures { reason_told result ≡ reason_in why }
+{
+    Told {
+        causes: why.causes,
+        place: Some(why.at),
+        inner: why.inner,
+    }
+}
+
+/// Why a step is refused: one that is a refused command is told as that command.
+fn step_told(why: &HistoryError) -> Told
+    ensures { reason_told result ≡ step_told why.now }
+{
+    match why {
+        HistoryError::Edit(edit) => told_of(edit),
+        _ => told_of(why),
+    }
+}
+
+/// What stands before a cause that is behind another.
+fn point(cause: Option<Cause>) -> &'static [u8]
+    ensures { result.now ≡ point_text cause }
+{
+    match cause {
+        Some(_) => b".",
+        None => b"",
+    }
+}
+
+/// The name of a cause.
+fn name(cause: Option<Cause>) -> &'static [u8]
+    ensures { result.now ≡ name_text cause }
+{
+    match cause {
+        Some(cause) => cause.name.as_bytes(),
+        None => b"",
+    }
+}
+
+/// The digits of a cause's number.
+fn number_digits(cause: Option<Cause>, digits: &mut Buffer) -> &[u8]
+    ensures { result.now ≡ number_text cause }
+{
+    match cause {
+        Some(cause) => digits.format(cause.number).as_bytes(),
+        None => b"",
+    }
+}
 
 /// What stands between a place and the place in a condition.
 fn plus(inner: Option<u32>) -> &'static [u8]
@@ -54,29 +130,68 @@ fn inner_behind(place: Option<u32>, inner: Option<u32>) -> Option<u32>
     }
 }
 
-/// Writes `refused WHICH: NAME (CODE) at PLACE`, and for a condition ` + PLACE` behind it.
-pub(crate) fn write_refusal<W: Sink>(why: Refusal, out: &mut W) -> Result<(), Failed>
+/// Writes a line of three texts and of why something is refused, as `NAME (NUMBER)`, behind that ` at PLACE` where there is
+/// a place, and for a condition ` + PLACE`. The names have points between them, and so have the numbers.
+fn write_reason<W: Sink>(
+    front: &[u8],
+    middle: &[u8],
+    behind: &[u8],
+    told: Told,
+    out: &mut W,
+) -> Result<(), Failed>
     ensures { Wrote W.written W.faults out.old out.new
-        (refusal why.which (why_of why)).text result }
+        (reason_line front.now middle.now behind.now (reason_told told)) result }
 {
+    let Causes {
+        first,
+        second,
+        third,
+        fourth,
+    } = told.causes;
+    let inner = inner_behind(told.place, told.inner);
     let mut digits = Buffer::new();
-    let mut more_digits = Buffer::new();
+    let mut second_digits = Buffer::new();
+    let mut third_digits = Buffer::new();
+    let mut fourth_digits = Buffer::new();
+    let mut digits_of_place = Buffer::new();
+    let mut digits_of_inner = Buffer::new();
     write_pieces(
         &[
-            b"refused ",
-            why.which.word(),
-            b": ",
-            why.name.as_bytes(),
+            front,
+            middle,
+            behind,
+            first.name.as_bytes(),
+            point(second),
+            name(second),
+            point(third),
+            name(third),
+            point(fourth),
+            name(fourth),
             b" (",
-            why.code.as_bytes(),
-            b") at ",
-            digits.format(why.at).as_bytes(),
-            plus(why.inner),
-            place_digits(why.inner, &mut more_digits),
+            digits.format(first.number).as_bytes(),
+            point(second),
+            number_digits(second, &mut second_digits),
+            point(third),
+            number_digits(third, &mut third_digits),
+            point(fourth),
+            number_digits(fourth, &mut fourth_digits),
+            b")",
+            at(told.place),
+            place_digits(told.place, &mut digits_of_place),
+            plus(inner),
+            place_digits(inner, &mut digits_of_inner),
             b"\n",
         ],
         out,
     )
+}
+
+/// Writes `refused WHICH: `, and why it is refused.
+pub(crate) fn write_refusal<W: Sink>(why: Refusal, out: &mut W) -> Result<(), Failed>
+    ensures { Wrote W.written W.faults out.old out.new
+        (refusal why.which (why_of why)).text result }
+{
+    write_reason(b"refused ", why.which.word(), b": ", told_in(why), out)
 }
 
 /// Writes `cannot read WHICH`.
@@ -86,45 +201,27 @@ pub(crate) fn write_unread<W: Sink>(which: Which, out: &mut W) -> Result<(), Fai
     write_pieces(&[b"cannot read ", which.word(), b"\n"], out)
 }
 
-/// Writes, behind a text, `NUMBER refused: NAME (CODE)`, behind that ` at PLACE` where there is a place, and for a condition ` + PLACE`.
+/// Writes, behind a text, `NUMBER refused: `, and why it is refused.
 fn write_refused_behind<W: Sink>(
     before: &'static [u8],
     number: u64,
-    why: &EditError,
+    told: Told,
     out: &mut W,
 ) -> Result<(), Failed>
     ensures { Wrote W.written W.faults out.old out.new
-        (refused_behind before.now number (why_edit why.now)) result }
+        (refused_behind before.now number (reason_text (reason_told told))) result }
 {
-    let name = why.name();
-    let code = why.code();
-    let place = why.place();
-    let inner = inner_behind(place, why.inner_place());
     let mut digits = Buffer::new();
-    let mut digits_of_place = Buffer::new();
-    let mut digits_of_inner = Buffer::new();
-    write_pieces(
-        &[
-            before,
-            digits.format(number).as_bytes(),
-            b" refused: ",
-            name.front.as_bytes(),
-            name.rest.as_bytes(),
-            b" (",
-            code.front.as_bytes(),
-            code.rest.as_bytes(),
-            b")",
-            at(place),
-            place_digits(place, &mut digits_of_place),
-            plus(inner),
-            place_digits(inner, &mut digits_of_inner),
-            b"\n",
-        ],
+    write_reason(
+        before,
+        digits.format(number).as_bytes(),
+        b" refused: ",
+        told,
         out,
     )
 }
 
-/// Writes the line of the command of this number, which is refused: `command NUMBER refused: NAME (CODE)` and the places.
+/// Writes the line of the command of this number, which is refused: `command NUMBER refused: `, and why.
 pub(crate) fn write_refused<W: Sink>(
     number: u64,
     why: &EditError,
@@ -133,11 +230,10 @@ pub(crate) fn write_refused<W: Sink>(
     ensures { Wrote W.written W.faults out.old out.new
         (refused_line number (why_edit why.now)) result }
 {
-    write_refused_behind(b"command ", number, why, out)
+    write_refused_behind(b"command ", number, told_of(why), out)
 }
 
-/// Writes the line of the command of this number, which is tried and refused: `trial NUMBER refused: NAME (CODE)` and the
-/// places.
+/// Writes the line of the command of this number, which is tried and refused: `trial NUMBER refused: `, and why.
 pub(crate) fn write_refused_trial<W: Sink>(
     number: u64,
     why: &EditError,
@@ -146,11 +242,11 @@ pub(crate) fn write_refused_trial<W: Sink>(
     ensures { Wrote W.written W.faults out.old out.new
         (refused_trial number (why_edit why.now)) result }
 {
-    write_refused_behind(b"trial ", number, why, out)
+    write_refused_behind(b"trial ", number, told_of(why), out)
 }
 
-/// Writes the line of the step of this number, which is refused: `command NUMBER refused: NAME (CODE)`. A step that is a
-/// refused command is told as that command, with its places.
+/// Writes the line of the step of this number, which is refused: `command NUMBER refused: `, and why. A step that is a
+/// refused command is told as that command.
 pub(crate) fn write_refused_step<W: Sink>(
     number: u64,
     why: &HistoryError,
@@ -159,27 +255,5 @@ pub(crate) fn write_refused_step<W: Sink>(
     ensures { Wrote W.written W.faults out.old out.new
         (refused_line number (why_step why.now)) result }
 {
-    if let HistoryError::Edit(edit) = why {
-        return write_refused(number, edit, out);
-    }
-    let name = why.name();
-    let code = why.code();
-    let mut digits = Buffer::new();
-    write_pieces(
-        &[
-            b"command ",
-            digits.format(number).as_bytes(),
-            b" refused: ",
-            name.front.as_bytes(),
-            name.rest.front.as_bytes(),
-            name.rest.rest.as_bytes(),
-            b" (",
-            code.front.as_bytes(),
-            code.rest.front.as_bytes(),
-            code.rest.rest.as_bytes(),
-            b")",
-            b"\n",
-        ],
-        out,
-    )
+    write_refused_behind(b"command ", number, step_told(why), out)
 }

@@ -16,10 +16,10 @@ ghost use Rattle.drc_run.specs.Output.{IsBoardWritten, status_after};
 ghost use Rattle.drc_run.specs.Endings.{Ends, EndsFor, IsTextOfOne, number_of};
 
 use crate::status::{Status, write_stop};
-use roundtrip_edited::laws::read_back;
 use board_write::{SourceText, WriteError, read_source, write_source};
 use drc_io::{Shelf, Sink};
 use edit_script::Command;
+use roundtrip_edited::laws::read_back;
 use run_texts::{Stop, Which, fetch_text, refused, script_in, script_text};
 use run_words::Scripted;
 use std::alloc::Global;
@@ -44,9 +44,7 @@ fn source_in<'t>(alloc: Global, text: &'t [u8]) -> Result<SourceText<'t>, Stop>
 {
     match read_source(alloc, text) {
         Ok(source) => Ok(source),
-        Err(WriteError::Board(e)) => {
-            Err(refused(Which::Text, e.name(), e.code(), e.place(), None))
-        }
+        Err(WriteError::Board(e)) => Err(refused(Which::Text, &e)),
         Err(WriteError::Failed | WriteError::OutOfMemory) => Err(Stop::OutOfMemory),
     }
 }

@@ -1,6 +1,6 @@
 -- What the parts of a run find, and what they write.
 use Rattle.std.specs.Prelude.{◌≡◌, ℕ, List, [], ◌∷◌, ◌++◌, codes, decimal, Option, None, Some}
-use Rattle.std.proofs.Common.{Bor}
+use Rattle.plain_types.specs.Reasons.{PlainReason, listed_causes}
 use Rattle.drc_io.specs.Causes.{Rose}
 use Rattle.drc_io.specs.Files.{IsWholeFile}
 use Rattle.net_class.specs.Classes.{plain_classes}
@@ -12,15 +12,15 @@ use Rattle.run_texts.specs.declared.texts.Which.TheVariants.{Board, Project, Rul
 use Rattle.run_texts.specs.declared.texts.Refusal.{Refusal}
 use Rattle.run_texts.specs.declared.texts.Stop.{Stop}
 use Rattle.run_texts.specs.declared.texts.Stop.TheVariants.{Refused, Unread, OutOfMemory}
-use Rattle.run_texts.specs.Texts.{Named, named, texts_of, Value, a_board, a_project, a_rules, accepted, refused, at_place, ReaderSays, SourceSays, IsReached, ReadFails}
+use Rattle.run_texts.specs.Texts.{Named, named, texts_of, Value, a_board, a_project, a_rules, accepted, refused, reason_text, ReaderSays, SourceSays, IsReached, ReadFails}
 
--- the name and the number of a reason, as they are written
-abbrev pub reason : List ℕ → List ℕ → List ℕ
-reason name code = name ++ codes " (" ++ code ++ codes ")"
+-- why a text is refused, as the program holds it
+abbrev pub reason_in : Refusal → PlainReason
+reason_in r = record { causes = listed_causes r.causes; place = Some r.at; inner_place = r.inner }
 
 -- a refusal, as it is written
 abbrev pub why_of : Refusal → List ℕ
-why_of r = at_place (reason r.name.now r.code.now) r.at r.inner
+why_of r = reason_text (reason_in r)
 
 -- the two pieces of the place in a condition
 abbrev pub plus_text : Option ℕ → List ℕ
@@ -50,10 +50,11 @@ StopsText told before now text (Refused r) = (r.which ≡ text.which) × SourceS
 StopsText told before now text (Unread it) = (it ≡ text.which) × HasRisen before now text.source
 StopsText told before now text OutOfMemory = Unit {0}
 
--- the stop of a refusal with this place, and this one in a condition
-abbrev pub stop_of : Which → Bor (List ℕ) → Bor (List ℕ) → Option ℕ → Option ℕ → Stop
-stop_of which name code None inner = OutOfMemory
-stop_of which name code (Some at) inner = Refused (record { which = which; name = name; code = code; at = at; inner = inner })
+-- the stop of a text that is refused for this reason. Want of memory has no place
+abbrev pub IsStopOf : Which → PlainReason → Stop → Type 0
+IsStopOf which why (Refused r) = (r.which ≡ which) × (reason_in r ≡ why)
+IsStopOf which why (Unread it) = ⊥
+IsStopOf which why OutOfMemory = why.place ≡ None
 
 -- the option's text is not accepted
 abbrev pub StopsOption : Option (List (List ℕ × List ℕ)) → (List ℕ → ℕ) → (List ℕ → ℕ) → Which → Option (List ℕ) → Stop → Type 0

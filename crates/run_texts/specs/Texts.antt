@@ -2,22 +2,23 @@
 -- here.
 use Rattle.std.specs.Prelude.{◌≡◌, ◌⊎◌, ℕ, ◌<◌, ◌≤◌, List, [], ◌∷◌, ◌++◌, length, codes, decimal, Option, None, Some, Ok, Err, slice_get}
 use Rattle.plain_types.specs.Limits.{most_text, IsReadable, most_trials}
+use Rattle.plain_types.specs.Reasons.{PlainReason, written, refused_at}
 use Rattle.drc_io.specs.Causes.{Rose}
 use Rattle.drc_io.specs.Files.{IsWholeFile}
 use Rattle.board_errors.specs.declared.errors.BoardError.{BoardError}
-use Rattle.board_errors.specs.Reasons.{board_reason_of, board_place_of}
+use Rattle.board_errors.specs.Reasons.{board_reason}
 use Rattle.board_items.specs.Boards.{PlainBoard}
 use Rattle.pcb_read.specs.BoardText.{BoardSays}
 use Rattle.net_class.specs.declared.error.ProjectError.{ProjectError}
-use Rattle.net_class.specs.Reasons.{project_reason_of, project_place_of}
+use Rattle.net_class.specs.Reasons.{class_reason}
 use Rattle.net_class.specs.Classes.{PlainClasses}
 use Rattle.net_class.specs.ProjectText.{ProjectSays}
 use Rattle.rule_text.specs.declared.error.RuleError.{RuleError}
-use Rattle.rule_text.specs.Reasons.{rules_reason_of, rules_place_of, rules_inner_place_of}
+use Rattle.rule_text.specs.Reasons.{rules_reason}
 use Rattle.rule_text.specs.RulesOf.{PlainRules}
 use Rattle.rule_text.specs.RuleText.{RulesSays}
 use Rattle.edit_script.specs.declared.error.ScriptError.{ScriptError}
-use Rattle.edit_script.specs.Reasons.{script_reason_of, script_place_of}
+use Rattle.edit_script.specs.Reasons.{script_reason}
 use Rattle.edit_script.specs.Commands.{PlainCommand, PlainStep, place_of}
 use Rattle.edit_script.specs.ScriptText.{ScriptSays, SaysSteps}
 use Rattle.made_board.specs.MadeBoard.{made_text}
@@ -77,25 +78,34 @@ abbrev pub inner_text : Option ℕ → List ℕ
 inner_text None = []
 inner_text (Some inner) = codes " + " ++ decimal inner
 
--- the name and the number of a refusal, and its place, which is a byte of the text
-abbrev pub at_place : List ℕ → ℕ → Option ℕ → List ℕ
-at_place reason at inner = reason ++ codes " at " ++ decimal at ++ inner_text inner
+-- a refusal as it is written: what it is called and its numbers, and its place, which is a byte of the text. What is refused by a name
+-- alone has no place
+abbrev pub why_at : List ℕ → Option ℕ → Option ℕ → List ℕ
+why_at names None inner = names
+why_at names (Some at) inner = names ++ codes " at " ++ decimal at ++ inner_text inner
+
+abbrev pub reason_text : PlainReason → List ℕ
+reason_text why = why_at (written why) why.place why.inner_place
 
 -- a refusal that has a place, as it is written. Want of memory has none: no text is refused for it
-pub record IsRefusalText (reason : List ℕ) (place inner : Option ℕ) (text : List ℕ) : Type 0 where
+pub record IsRefusalText (why : PlainReason) (text : List ℕ) : Type 0 where
   pub at : ℕ
-  pub has_place : place ≡ Some at
-  pub text_is : text ≡ at_place reason at inner
+  pub has_place : why.place ≡ Some at
+  pub text_is : text ≡ reason_text why
+
+-- a script of too many commands is refused at this place
+abbrev pub too_many : ℕ → PlainReason
+too_many at = refused_at (codes "TooMany") 9 at
 
 -- a script with more is refused at the first command that is too many
 pub record HasTooMany (commands : List PlainCommand) (why : List ℕ) : Type 0 where
   pub command : PlainCommand
   pub stands : slice_get commands most_trials ≡ Some command
-  pub why_is : why ≡ at_place (codes "TooMany (9)") (place_of command) None
+  pub why_is : why ≡ reason_text (too_many (place_of command))
 
 -- the reader of scripts refuses the bytes so
 abbrev pub RefusesScript : List ℕ → List ℕ → Type 0
-RefusesScript bytes why = (e : ScriptError) × ScriptSays bytes (Err e) × IsRefusalText (script_reason_of e) (script_place_of e) None why
+RefusesScript bytes why = (e : ScriptError) × ScriptSays bytes (Err e) × IsRefusalText (script_reason e) why
 
 -- the script has too many commands to be tried
 abbrev pub RefusesTrials : List ℕ → List ℕ → Type 0
@@ -105,31 +115,30 @@ RefusesTrials bytes why = (commands : List PlainCommand) × ScriptSays bytes (Ok
 abbrev pub ReaderSays : Which → List ℕ → Said → Type 0
 ReaderSays Board bytes (accepted (a_board board)) = BoardSays bytes (Ok board)
 ReaderSays Board bytes (accepted _) = ⊥
-ReaderSays Board bytes (refused why) = (e : BoardError) × BoardSays bytes (Err e) × IsRefusalText (board_reason_of e) (board_place_of e) None why
+ReaderSays Board bytes (refused why) = (e : BoardError) × BoardSays bytes (Err e) × IsRefusalText (board_reason e) why
 ReaderSays Project bytes (accepted (a_project classes)) = ProjectSays bytes (Ok classes)
 ReaderSays Project bytes (accepted _) = ⊥
-ReaderSays Project bytes (refused why) = (e : ProjectError) × ProjectSays bytes (Err e) × IsRefusalText (project_reason_of e) (project_place_of e) None why
+ReaderSays Project bytes (refused why) = (e : ProjectError) × ProjectSays bytes (Err e) × IsRefusalText (class_reason e) why
 ReaderSays Rules bytes (accepted (a_rules rules)) = RulesSays bytes (Ok rules)
 ReaderSays Rules bytes (accepted _) = ⊥
-ReaderSays Rules bytes (refused why) =
-    (e : RuleError) × RulesSays bytes (Err e) × IsRefusalText (rules_reason_of e) (rules_place_of e) (rules_inner_place_of e) why
+ReaderSays Rules bytes (refused why) = (e : RuleError) × RulesSays bytes (Err e) × IsRefusalText (rules_reason e) why
 ReaderSays Script bytes (accepted (a_script commands)) = ScriptSays bytes (Ok commands)
 ReaderSays Script bytes (accepted _) = ⊥
 ReaderSays Script bytes (refused why) = RefusesScript bytes why
 ReaderSays Steps bytes (accepted (some_steps steps)) = SaysSteps bytes (Ok steps)
 ReaderSays Steps bytes (accepted _) = ⊥
-ReaderSays Steps bytes (refused why) = (e : ScriptError) × SaysSteps bytes (Err e) × IsRefusalText (script_reason_of e) (script_place_of e) None why
+ReaderSays Steps bytes (refused why) = (e : ScriptError) × SaysSteps bytes (Err e) × IsRefusalText (script_reason e) why
 ReaderSays Trials bytes (accepted (a_script commands)) = ScriptSays bytes (Ok commands) × (length commands ≤ most_trials)
 ReaderSays Trials bytes (accepted _) = ⊥
 ReaderSays Trials bytes (refused why) = RefusesScript bytes why ⊎ RefusesTrials bytes why
 -- a text that stands for its bytes, where a board is read of them; it is refused as a board is
 ReaderSays Text bytes (accepted (a_text text)) = (text ≡ bytes) × ((board : PlainBoard) × BoardSays bytes (Ok board))
 ReaderSays Text bytes (accepted _) = ⊥
-ReaderSays Text bytes (refused why) = (e : BoardError) × BoardSays bytes (Err e) × IsRefusalText (board_reason_of e) (board_place_of e) None why
+ReaderSays Text bytes (refused why) = (e : BoardError) × BoardSays bytes (Err e) × IsRefusalText (board_reason e) why
 
 -- how a text of too many bytes is refused: at the first that is too many
 abbrev pub too_long : List ℕ
-too_long = at_place (codes "TooLong (0)") most_text None
+too_long = reason_text (refused_at (codes "TooLong") 0 most_text)
 
 -- a text says that it is too long, or else what its reader finds
 pub data TextSays (which : Which) (bytes : List ℕ) (said : Said) : Type 0 where

@@ -17,7 +17,7 @@ ghost use Rattle.run_texts.specs.Texts.{named, word_of, texts_of, a_board, a_pro
 ghost use Rattle.run_texts.specs.Texts.{a_script, some_steps, accepted, ReaderSays, AreBytesOf, SourceSays};
 ghost use Rattle.run_texts.specs.Refusing.{StopsReading, StopsText, StopsTexts, StopsOption};
 ghost use Rattle.run_texts.specs.Refusing.{StopsReadingOption, AreBytesOfOption, Gives, GivesReading};
-ghost use Rattle.run_texts.specs.Refusing.{AreOpened, stop_of, only_board, board_and_script};
+ghost use Rattle.run_texts.specs.Refusing.{AreOpened, IsStopOf, only_board, board_and_script};
 
 use board_items::Board;
 use drc_io::{FetchError, Shelf, fetch};
@@ -26,7 +26,7 @@ use edit_script::{Command, Step, read_script, read_steps};
 use made_board::made_text;
 use net_class::{Classes, read_project};
 use pcb_read::read_board_by;
-use plain_types::{MOST_TEXT, MOST_TRIALS};
+use plain_types::{Causes, HasReason, MOST_TEXT, MOST_TRIALS, Reason};
 use rule_text::{RuleList, RuleNotes, Rules, read_rules};
 use run_words::{BoardSource, Request, Scripted};
 use sexpr_read::laws::spans_in_order;
@@ -70,10 +70,8 @@ impl Which {
 #[derive(Clone, Copy)]
 pub struct Refusal {
     pub which: Which,
-    /// The name of the reason.
-    pub name: &'static str,
-    /// Its number.
-    pub code: &'static str,
+    /// What the reason is called, and its numbers.
+    pub causes: Causes,
     /// The byte of the text.
     pub at: u32,
     /// For a condition, the byte of what its text stands for.
@@ -99,26 +97,26 @@ pub struct Texts {
     pub rules: Rules,
 }
 
-/// The refusal of a text. Want of memory has no place.
-pub fn refused(
-    which: Which,
-    name: &'static str,
-    code: &'static str,
-    place: Option<u32>,
-    inner: Option<u32>,
-) -> Stop
-    ensures { result ≡ stop_of which name.entry code.entry place inner }
+/// The refusal of a text for this reason. Want of memory has no place.
+fn refused_for(which: Which, why: &Reason) -> Stop
+    ensures { IsStopOf which why.now result }
 {
-    match place {
+    match why.place() {
         None => Stop::OutOfMemory,
         Some(at) => Stop::Refused(Refusal {
             which,
-            name,
-            code,
+            causes: why.causes(),
             at,
-            inner,
+            inner: why.inner_place(),
         }),
     }
+}
+
+/// The refusal of a text by its reader. Want of memory has no place.
+pub fn refused<E: HasReason>(which: Which, error: &E) -> Stop
+    ensures { IsStopOf which (E.reason_of error.now) result }
+{
+    refused_for(which, &error.reason())
 }
 
 /// Fetches a text of at most 33,554,432 bytes. One that is longer is refused, and one whose file is not read, or for
@@ -138,7 +136,9 @@ pub fn fetch_text<F: Shelf>(
 {
     match fetch(alloc, shelf, name, LIMIT) {
         Ok(text) => Ok(text),
-        Err(FetchError::TooLong) => Err(refused(which, "TooLong", "0", Some(LIMIT), None)),
+        Err(FetchError::TooLong) => {
+            Err(refused_for(which, &Reason::new("TooLong", 0, Some(LIMIT))))
+        }
         Err(FetchError::Failed) => Err(Stop::Unread(which)),
         Err(FetchError::OutOfMemory) => Err(Stop::OutOfMemory),
     }
@@ -198,7 +198,7 @@ fn board_in(
 {
     match read_board_by(rt, alloc, workers, text) {
         Ok(board) => Ok(board),
-        Err(e) => Err(refused(Which::Board, e.name(), e.code(), e.place(), None)),
+        Err(e) => Err(refused(Which::Board, &e)),
     }
 }
 
@@ -210,7 +210,7 @@ fn classes_in(alloc: Global, text: &[u8]) -> Result<Classes, Stop>
 {
     match read_project(alloc, text) {
         Ok(classes) => Ok(classes),
-        Err(e) => Err(refused(Which::Project, e.name(), e.code(), e.place(), None)),
+        Err(e) => Err(refused(Which::Project, &e)),
     }
 }
 
@@ -225,7 +225,7 @@ fn rules_in(alloc: Global, text: &[u8]) -> Result<Rules, Stop>
     spans_in_order();
     match read_rules(alloc, text) {
         Ok(rules) => Ok(rules),
-        Err(e) => Err(refused(Which::Rules, e.name(), e.code(), e.place(), e.inner_place())),
+        Err(e) => Err(refused(Which::Rules, &e)),
     }
 }
 
@@ -244,7 +244,7 @@ pub fn script_in<'t>(alloc: Global, text: &'t [u8]) -> Result<Vec<Command<'t>>, 
     accepted_forms();
     match read_script(alloc, text) {
         Ok(commands) => Ok(commands),
-        Err(e) => Err(refused(Which::Script, e.name(), e.code(), e.place(), None)),
+        Err(e) => Err(refused(Which::Script, &e)),
     }
 }
 
@@ -258,7 +258,7 @@ pub fn steps_in<'t>(alloc: Global, text: &'t [u8]) -> Result<Vec<Step<'t>>, Stop
 {
     match read_steps(alloc, text) {
         Ok(steps) => Ok(steps),
-        Err(e) => Err(refused(Which::Steps, e.name(), e.code(), e.place(), None)),
+        Err(e) => Err(refused(Which::Steps, &e)),
     }
 }
 
@@ -285,10 +285,10 @@ pub fn trials_in<'t>(alloc: Global, text: &'t [u8]) -> Result<Vec<Command<'t>>, 
 {
     let commands = match read_script(alloc, text) {
         Ok(commands) => commands,
-        Err(e) => return Err(refused(Which::Trials, e.name(), e.code(), e.place(), None)),
+        Err(e) => return Err(refused(Which::Trials, &e)),
     };
     match first_too_many(&commands) {
-        Some(at) => Err(refused(Which::Trials, "TooMany", "9", Some(at), None)),
+        Some(at) => { Err(refused_for(Which::Trials, &Reason::new("TooMany", 9, Some(at)))) }
         None => Ok(commands),
     }
 }
