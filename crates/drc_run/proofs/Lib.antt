@@ -1,3 +1,4 @@
+pub mod Reasons
 pub mod Written
 pub mod Opening
 pub mod OneProject

@@ -1,38 +1,36 @@
 -- The words and the files have one output.
-use Rattle.std.proofs.Common.{◌≡◌, ℕ, ◌≤◌, Bool, List, [], ◌∷◌, ◌++◌, length, codes, append-nil, slice_get, Option, Some, None, Result, Ok, Err, inl, inr, sym, ap, subst, ◌∙◌, refl, arith}
+use Rattle.std.proofs.Common.{◌≡◌, ℕ, ◌≤◌, Bool, List, [], ◌∷◌, ◌++◌, length, append-nil, slice_get, Some, Result, Ok, Err, inl, inr, sym, ap, subst, ◌∙◌, refl, arith}
 use Rattle.std.proofs.lemmas.Option.{slice_get_within}
 use Rattle.drc_io.specs.Files.{file_of}
 use Rattle.board_errors.specs.declared.errors.BoardError.{BoardError}
 use Rattle.board_items.specs.Boards.{PlainBoard}
-use Rattle.board_errors.specs.Reasons.{board_reason_of, board_place_of}
+use Rattle.board_errors.specs.Reasons.{board_reason}
 use Rattle.pcb_read.specs.BoardText.{BoardSays}
 use Rattle.net_class.specs.Classes.{PlainClasses}
 use Rattle.net_class.specs.ProjectText.{ProjectSays}
-use Rattle.net_class.specs.Reasons.{project_reason_of, project_place_of}
+use Rattle.net_class.specs.Reasons.{class_reason}
 use Rattle.rule_text.specs.declared.error.RuleError.{RuleError}
-use Rattle.rule_text.specs.Reasons.{rules_reason_of, rules_place_of, rules_inner_place_of}
+use Rattle.rule_text.specs.Reasons.{rules_reason}
 use Rattle.rule_text.specs.RulesOf.{PlainRules}
 use Rattle.rule_text.specs.RuleText.{RulesSays}
 use Rattle.edit_script.specs.declared.error.ScriptError.{ScriptError}
 use Rattle.edit_script.specs.Commands.{PlainCommand, PlainStep, place_of}
-use Rattle.edit_script.specs.Reasons.{script_reason_of, script_place_of}
+use Rattle.edit_script.specs.Reasons.{script_reason}
 use Rattle.edit_script.specs.ScriptText.{ScriptSays, SaysSteps}
 use Rattle.drc_state.specs.States.{State}
 use Rattle.run_words.specs.Calls.{PlainSource, file, made, PlainCall, nothing, check, undo, try, steal, write}
 use Rattle.run_texts.specs.declared.texts.Which.{Which}
 use Rattle.run_texts.specs.declared.texts.Which.TheVariants.{Board, Project, Rules, Script, Steps, Trials, Text}
 use Rattle.plain_types.specs.Limits.{most_trials}
-use Rattle.run_texts.specs.Texts.{Named, texts_of, Value, a_board, a_project, a_rules, a_script, some_steps, Said, accepted, refused, at_place, IsRefusalText, RefusesScript, RefusesTrials, ReaderSays, TextSays, longer, read, AreBytesOf, SourceSays, AreAccepted, IsReached, a_text}
+use Rattle.plain_types.specs.Reasons.{PlainReason}
+use Rattle.run_texts.specs.Texts.{Named, texts_of, Value, a_board, a_project, a_rules, a_script, some_steps, Said, accepted, refused, reason_text, IsRefusalText, too_many, RefusesScript, RefusesTrials, ReaderSays, TextSays, longer, read, AreBytesOf, SourceSays, AreAccepted, IsReached, a_text}
 use Rattle.drc_run.specs.Output.{Output, commands_among, steps_among, IsOpenedBy, is_short, IsTold, IsToldSoFar, AreStepsTold, AreStepsToldSoFar, AreTrialsTold, AreFirstTrials, IsTextOf, IsBegunBy, IsOutputFor, unclear, stopped, given, IsBegunFor, whole, begun_by, usage, refusal, AreRowsTold, IsBoardWritten}
 use Rattle.drc_run.proofs.OneProject.{one_project}
 
 -- ---- what a text says
 
-same_line : (reason : List ℕ) (place inner : Option ℕ) (a b : List ℕ) → IsRefusalText reason place inner a → IsRefusalText reason place inner b → a ≡ b
-same_line reason place inner a b p q =
-    let both : Some p.at ≡ Some q.at = sym p.has_place ∙ q.has_place in
-    let at : p.at ≡ q.at = cc in
-    p.text_is ∙ (ap (λ (n : ℕ). at_place reason n inner) at ∙ sym q.text_is)
+same_line : (why : PlainReason) (a b : List ℕ) → IsRefusalText why a → IsRefusalText why b → a ≡ b
+same_line why a b p q = p.text_is ∙ sym q.text_is
 
 same_file : (files : List (List ℕ × List ℕ)) (name a b : List ℕ) → file_of files name ≡ Some a → file_of files name ≡ Some b → a ≡ b
 same_file files name a b p q = let both : Some a ≡ Some b = sym p ∙ q in cc
@@ -52,9 +50,9 @@ same_whys a b e = cc
 
 -- what a reader finds, where its bytes say one thing
 module _ {A E : Type 0} (BoardSays : Result A E → Type 0) (one : (a b : Result A E) → BoardSays a → BoardSays b → a ≡ b)
-    (value : A → Value) (reason : E → List ℕ) (place inner : E → Option ℕ) where
+    (value : A → Value) (reason : E → PlainReason) where
   abbrev Refuses : List ℕ → Type 0
-  Refuses why = (e : E) × BoardSays (Err e) × IsRefusalText (reason e) (place e) (inner e) why
+  Refuses why = (e : E) × BoardSays (Err e) × IsRefusalText (reason e) why
 
   value_once : (x y : A) → BoardSays (Ok x) → BoardSays (Ok y) → accepted (value x) ≡ accepted (value y)
   value_once x y p q =
@@ -69,7 +67,7 @@ module _ {A E : Type 0} (BoardSays : Result A E → Type 0) (one : (a b : Result
   why_once a b p q =
       let both : Err p.0 ≡ Err q.0 = one (Err p.0) (Err q.0) p.1 q.1 in
       let same : p.0 ≡ q.0 = cc in
-      ap refused (same_line (reason q.0) (place q.0) (inner q.0) a b (subst (λ (e : E). IsRefusalText (reason e) (place e) (inner e) a) same p.2) q.2)
+      ap refused (same_line (reason q.0) a b (subst (λ (e : E). IsRefusalText (reason e) a) same p.2) q.2)
 
 module _ (one_reading : (text : List ℕ) (a b : Result PlainBoard BoardError) → BoardSays text a → BoardSays text b → a ≡ b)
     (one_rules : (text : List ℕ) (a b : Result PlainRules RuleError) → RulesSays text a → RulesSays text b → a ≡ b)
@@ -84,67 +82,67 @@ module _ (one_reading : (text : List ℕ) (a b : Result PlainBoard BoardError) �
     (one_stolen : (s : State) (a b : Output) → AreRowsTold s a → AreRowsTold s b → a ≡ b)
     (one_written : (text : List ℕ) (commands : List PlainCommand) (a b : Output) → IsBoardWritten text commands a → IsBoardWritten text commands b → a ≡ b) where
   board_once : (bytes : List ℕ) (s t : Said) → ReaderSays Board bytes s → ReaderSays Board bytes t → s ≡ t
-  board_once bytes (accepted (a_board x)) (accepted (a_board y)) p q = value_once (BoardSays bytes) (one_reading bytes) a_board board_reason_of board_place_of (λ e. None) x y p q
+  board_once bytes (accepted (a_board x)) (accepted (a_board y)) p q = value_once (BoardSays bytes) (one_reading bytes) a_board board_reason x y p q
   board_once bytes (accepted (a_board x)) (accepted (a_project y)) p q = absurd q
   board_once bytes (accepted (a_board x)) (accepted (a_rules y)) p q = absurd q
   board_once bytes (accepted (a_board x)) (accepted (a_script y)) p q = absurd q
   board_once bytes (accepted (a_board x)) (accepted (some_steps y)) p q = absurd q
   board_once bytes (accepted (a_board x)) (accepted (a_text y)) p q = absurd q
-  board_once bytes (accepted (a_board x)) (refused b) p q = absurd (value_or_not (BoardSays bytes) (one_reading bytes) a_board board_reason_of board_place_of (λ e. None) x b p q)
+  board_once bytes (accepted (a_board x)) (refused b) p q = absurd (value_or_not (BoardSays bytes) (one_reading bytes) a_board board_reason x b p q)
   board_once bytes (accepted (a_project x)) t p q = absurd p
   board_once bytes (accepted (a_rules x)) t p q = absurd p
   board_once bytes (accepted (a_script x)) t p q = absurd p
   board_once bytes (accepted (some_steps x)) t p q = absurd p
   board_once bytes (accepted (a_text x)) t p q = absurd p
-  board_once bytes (refused a) (accepted (a_board y)) p q = absurd (value_or_not (BoardSays bytes) (one_reading bytes) a_board board_reason_of board_place_of (λ e. None) y a q p)
+  board_once bytes (refused a) (accepted (a_board y)) p q = absurd (value_or_not (BoardSays bytes) (one_reading bytes) a_board board_reason y a q p)
   board_once bytes (refused a) (accepted (a_project y)) p q = absurd q
   board_once bytes (refused a) (accepted (a_rules y)) p q = absurd q
   board_once bytes (refused a) (accepted (a_script y)) p q = absurd q
   board_once bytes (refused a) (accepted (some_steps y)) p q = absurd q
   board_once bytes (refused a) (accepted (a_text y)) p q = absurd q
-  board_once bytes (refused a) (refused b) p q = why_once (BoardSays bytes) (one_reading bytes) a_board board_reason_of board_place_of (λ e. None) a b p q
+  board_once bytes (refused a) (refused b) p q = why_once (BoardSays bytes) (one_reading bytes) a_board board_reason a b p q
 
   project_once : (bytes : List ℕ) (s t : Said) → ReaderSays Project bytes s → ReaderSays Project bytes t → s ≡ t
   project_once bytes (accepted (a_board x)) t p q = absurd p
   project_once bytes (accepted (a_project x)) (accepted (a_board y)) p q = absurd q
-  project_once bytes (accepted (a_project x)) (accepted (a_project y)) p q = value_once (ProjectSays bytes) (one_project bytes) a_project project_reason_of project_place_of (λ e. None) x y p q
+  project_once bytes (accepted (a_project x)) (accepted (a_project y)) p q = value_once (ProjectSays bytes) (one_project bytes) a_project class_reason x y p q
   project_once bytes (accepted (a_project x)) (accepted (a_rules y)) p q = absurd q
   project_once bytes (accepted (a_project x)) (accepted (a_script y)) p q = absurd q
   project_once bytes (accepted (a_project x)) (accepted (some_steps y)) p q = absurd q
   project_once bytes (accepted (a_project x)) (accepted (a_text y)) p q = absurd q
-  project_once bytes (accepted (a_project x)) (refused b) p q = absurd (value_or_not (ProjectSays bytes) (one_project bytes) a_project project_reason_of project_place_of (λ e. None) x b p q)
+  project_once bytes (accepted (a_project x)) (refused b) p q = absurd (value_or_not (ProjectSays bytes) (one_project bytes) a_project class_reason x b p q)
   project_once bytes (accepted (a_rules x)) t p q = absurd p
   project_once bytes (accepted (a_script x)) t p q = absurd p
   project_once bytes (accepted (some_steps x)) t p q = absurd p
   project_once bytes (accepted (a_text x)) t p q = absurd p
   project_once bytes (refused a) (accepted (a_board y)) p q = absurd q
-  project_once bytes (refused a) (accepted (a_project y)) p q = absurd (value_or_not (ProjectSays bytes) (one_project bytes) a_project project_reason_of project_place_of (λ e. None) y a q p)
+  project_once bytes (refused a) (accepted (a_project y)) p q = absurd (value_or_not (ProjectSays bytes) (one_project bytes) a_project class_reason y a q p)
   project_once bytes (refused a) (accepted (a_rules y)) p q = absurd q
   project_once bytes (refused a) (accepted (a_script y)) p q = absurd q
   project_once bytes (refused a) (accepted (some_steps y)) p q = absurd q
   project_once bytes (refused a) (accepted (a_text y)) p q = absurd q
-  project_once bytes (refused a) (refused b) p q = why_once (ProjectSays bytes) (one_project bytes) a_project project_reason_of project_place_of (λ e. None) a b p q
+  project_once bytes (refused a) (refused b) p q = why_once (ProjectSays bytes) (one_project bytes) a_project class_reason a b p q
 
   rules_once : (bytes : List ℕ) (s t : Said) → ReaderSays Rules bytes s → ReaderSays Rules bytes t → s ≡ t
   rules_once bytes (accepted (a_board x)) t p q = absurd p
   rules_once bytes (accepted (a_project x)) t p q = absurd p
   rules_once bytes (accepted (a_rules x)) (accepted (a_board y)) p q = absurd q
   rules_once bytes (accepted (a_rules x)) (accepted (a_project y)) p q = absurd q
-  rules_once bytes (accepted (a_rules x)) (accepted (a_rules y)) p q = value_once (RulesSays bytes) (one_rules bytes) a_rules rules_reason_of rules_place_of rules_inner_place_of x y p q
+  rules_once bytes (accepted (a_rules x)) (accepted (a_rules y)) p q = value_once (RulesSays bytes) (one_rules bytes) a_rules rules_reason x y p q
   rules_once bytes (accepted (a_rules x)) (accepted (a_script y)) p q = absurd q
   rules_once bytes (accepted (a_rules x)) (accepted (some_steps y)) p q = absurd q
   rules_once bytes (accepted (a_rules x)) (accepted (a_text y)) p q = absurd q
-  rules_once bytes (accepted (a_rules x)) (refused b) p q = absurd (value_or_not (RulesSays bytes) (one_rules bytes) a_rules rules_reason_of rules_place_of rules_inner_place_of x b p q)
+  rules_once bytes (accepted (a_rules x)) (refused b) p q = absurd (value_or_not (RulesSays bytes) (one_rules bytes) a_rules rules_reason x b p q)
   rules_once bytes (accepted (a_script x)) t p q = absurd p
   rules_once bytes (accepted (some_steps x)) t p q = absurd p
   rules_once bytes (accepted (a_text x)) t p q = absurd p
   rules_once bytes (refused a) (accepted (a_board y)) p q = absurd q
   rules_once bytes (refused a) (accepted (a_project y)) p q = absurd q
-  rules_once bytes (refused a) (accepted (a_rules y)) p q = absurd (value_or_not (RulesSays bytes) (one_rules bytes) a_rules rules_reason_of rules_place_of rules_inner_place_of y a q p)
+  rules_once bytes (refused a) (accepted (a_rules y)) p q = absurd (value_or_not (RulesSays bytes) (one_rules bytes) a_rules rules_reason y a q p)
   rules_once bytes (refused a) (accepted (a_script y)) p q = absurd q
   rules_once bytes (refused a) (accepted (some_steps y)) p q = absurd q
   rules_once bytes (refused a) (accepted (a_text y)) p q = absurd q
-  rules_once bytes (refused a) (refused b) p q = why_once (RulesSays bytes) (one_rules bytes) a_rules rules_reason_of rules_place_of rules_inner_place_of a b p q
+  rules_once bytes (refused a) (refused b) p q = why_once (RulesSays bytes) (one_rules bytes) a_rules rules_reason a b p q
 
   script_once : (bytes : List ℕ) (s t : Said) → ReaderSays Script bytes s → ReaderSays Script bytes t → s ≡ t
   script_once bytes (accepted (a_board x)) t p q = absurd p
@@ -153,19 +151,19 @@ module _ (one_reading : (text : List ℕ) (a b : Result PlainBoard BoardError) �
   script_once bytes (accepted (a_script x)) (accepted (a_board y)) p q = absurd q
   script_once bytes (accepted (a_script x)) (accepted (a_project y)) p q = absurd q
   script_once bytes (accepted (a_script x)) (accepted (a_rules y)) p q = absurd q
-  script_once bytes (accepted (a_script x)) (accepted (a_script y)) p q = value_once (ScriptSays bytes) (one_script bytes) a_script script_reason_of script_place_of (λ e. None) x y p q
+  script_once bytes (accepted (a_script x)) (accepted (a_script y)) p q = value_once (ScriptSays bytes) (one_script bytes) a_script script_reason x y p q
   script_once bytes (accepted (a_script x)) (accepted (some_steps y)) p q = absurd q
   script_once bytes (accepted (a_script x)) (accepted (a_text y)) p q = absurd q
-  script_once bytes (accepted (a_script x)) (refused b) p q = absurd (value_or_not (ScriptSays bytes) (one_script bytes) a_script script_reason_of script_place_of (λ e. None) x b p q)
+  script_once bytes (accepted (a_script x)) (refused b) p q = absurd (value_or_not (ScriptSays bytes) (one_script bytes) a_script script_reason x b p q)
   script_once bytes (accepted (some_steps x)) t p q = absurd p
   script_once bytes (accepted (a_text x)) t p q = absurd p
   script_once bytes (refused a) (accepted (a_board y)) p q = absurd q
   script_once bytes (refused a) (accepted (a_project y)) p q = absurd q
   script_once bytes (refused a) (accepted (a_rules y)) p q = absurd q
-  script_once bytes (refused a) (accepted (a_script y)) p q = absurd (value_or_not (ScriptSays bytes) (one_script bytes) a_script script_reason_of script_place_of (λ e. None) y a q p)
+  script_once bytes (refused a) (accepted (a_script y)) p q = absurd (value_or_not (ScriptSays bytes) (one_script bytes) a_script script_reason y a q p)
   script_once bytes (refused a) (accepted (some_steps y)) p q = absurd q
   script_once bytes (refused a) (accepted (a_text y)) p q = absurd q
-  script_once bytes (refused a) (refused b) p q = why_once (ScriptSays bytes) (one_script bytes) a_script script_reason_of script_place_of (λ e. None) a b p q
+  script_once bytes (refused a) (refused b) p q = why_once (ScriptSays bytes) (one_script bytes) a_script script_reason a b p q
 
   steps_once : (bytes : List ℕ) (s t : Said) → ReaderSays Steps bytes s → ReaderSays Steps bytes t → s ≡ t
   steps_once bytes (accepted (a_board x)) t p q = absurd p
@@ -176,17 +174,17 @@ module _ (one_reading : (text : List ℕ) (a b : Result PlainBoard BoardError) �
   steps_once bytes (accepted (some_steps x)) (accepted (a_project y)) p q = absurd q
   steps_once bytes (accepted (some_steps x)) (accepted (a_rules y)) p q = absurd q
   steps_once bytes (accepted (some_steps x)) (accepted (a_script y)) p q = absurd q
-  steps_once bytes (accepted (some_steps x)) (accepted (some_steps y)) p q = value_once (SaysSteps bytes) (one_steps bytes) some_steps script_reason_of script_place_of (λ e. None) x y p q
+  steps_once bytes (accepted (some_steps x)) (accepted (some_steps y)) p q = value_once (SaysSteps bytes) (one_steps bytes) some_steps script_reason x y p q
   steps_once bytes (accepted (some_steps x)) (accepted (a_text y)) p q = absurd q
-  steps_once bytes (accepted (some_steps x)) (refused b) p q = absurd (value_or_not (SaysSteps bytes) (one_steps bytes) some_steps script_reason_of script_place_of (λ e. None) x b p q)
+  steps_once bytes (accepted (some_steps x)) (refused b) p q = absurd (value_or_not (SaysSteps bytes) (one_steps bytes) some_steps script_reason x b p q)
   steps_once bytes (accepted (a_text x)) t p q = absurd p
   steps_once bytes (refused a) (accepted (a_board y)) p q = absurd q
   steps_once bytes (refused a) (accepted (a_project y)) p q = absurd q
   steps_once bytes (refused a) (accepted (a_rules y)) p q = absurd q
   steps_once bytes (refused a) (accepted (a_script y)) p q = absurd q
-  steps_once bytes (refused a) (accepted (some_steps y)) p q = absurd (value_or_not (SaysSteps bytes) (one_steps bytes) some_steps script_reason_of script_place_of (λ e. None) y a q p)
+  steps_once bytes (refused a) (accepted (some_steps y)) p q = absurd (value_or_not (SaysSteps bytes) (one_steps bytes) some_steps script_reason y a q p)
   steps_once bytes (refused a) (accepted (a_text y)) p q = absurd q
-  steps_once bytes (refused a) (refused b) p q = why_once (SaysSteps bytes) (one_steps bytes) some_steps script_reason_of script_place_of (λ e. None) a b p q
+  steps_once bytes (refused a) (refused b) p q = why_once (SaysSteps bytes) (one_steps bytes) some_steps script_reason a b p q
 
   -- one script has one list of commands
   one_commands : (bytes : List ℕ) (xs ys : List PlainCommand) → ScriptSays bytes (Ok xs) → ScriptSays bytes (Ok ys) → xs ≡ ys
@@ -205,7 +203,7 @@ module _ (one_reading : (text : List ℕ) (a b : Result PlainBoard BoardError) �
       let same = one_commands bytes p.0 q.0 p.1 q.1 in
       let here : Some p.2.command ≡ Some q.2.command = sym (subst (λ (l : List PlainCommand). slice_get l most_trials ≡ Some p.2.command) same p.2.stands) ∙ q.2.stands in
       let command : p.2.command ≡ q.2.command = cc in
-      ap refused (p.2.why_is ∙ (ap (λ (c : PlainCommand). at_place (codes "TooMany (9)") (place_of c) None) command ∙ sym q.2.why_is))
+      ap refused (p.2.why_is ∙ (ap (λ (c : PlainCommand). reason_text (too_many (place_of c))) command ∙ sym q.2.why_is))
 
   -- a script that is refused has no commands
   refused_or_many : (bytes a b : List ℕ) → RefusesScript bytes a → RefusesTrials bytes b → ⊥
@@ -220,19 +218,19 @@ module _ (one_reading : (text : List ℕ) (a b : Result PlainBoard BoardError) �
   trials_once bytes (accepted (a_script x)) (accepted (a_board y)) p q = absurd q
   trials_once bytes (accepted (a_script x)) (accepted (a_project y)) p q = absurd q
   trials_once bytes (accepted (a_script x)) (accepted (a_rules y)) p q = absurd q
-  trials_once bytes (accepted (a_script x)) (accepted (a_script y)) p q = value_once (ScriptSays bytes) (one_script bytes) a_script script_reason_of script_place_of (λ e. None) x y p.0 q.0
+  trials_once bytes (accepted (a_script x)) (accepted (a_script y)) p q = value_once (ScriptSays bytes) (one_script bytes) a_script script_reason x y p.0 q.0
   trials_once bytes (accepted (a_script x)) (accepted (some_steps y)) p q = absurd q
   trials_once bytes (accepted (a_script x)) (accepted (a_text y)) p q = absurd q
-  trials_once bytes (accepted (a_script x)) (refused b) p (inl q) = absurd (value_or_not (ScriptSays bytes) (one_script bytes) a_script script_reason_of script_place_of (λ e. None) x b p.0 q)
+  trials_once bytes (accepted (a_script x)) (refused b) p (inl q) = absurd (value_or_not (ScriptSays bytes) (one_script bytes) a_script script_reason x b p.0 q)
   trials_once bytes (accepted (a_script x)) (refused b) p (inr q) = absurd (few_or_many bytes x b p.0 p.1 q)
   trials_once bytes (refused a) (accepted (a_board y)) p q = absurd q
   trials_once bytes (refused a) (accepted (a_project y)) p q = absurd q
   trials_once bytes (refused a) (accepted (a_rules y)) p q = absurd q
-  trials_once bytes (refused a) (accepted (a_script y)) (inl p) q = absurd (value_or_not (ScriptSays bytes) (one_script bytes) a_script script_reason_of script_place_of (λ e. None) y a q.0 p)
+  trials_once bytes (refused a) (accepted (a_script y)) (inl p) q = absurd (value_or_not (ScriptSays bytes) (one_script bytes) a_script script_reason y a q.0 p)
   trials_once bytes (refused a) (accepted (a_script y)) (inr p) q = absurd (few_or_many bytes y a q.0 q.1 p)
   trials_once bytes (refused a) (accepted (some_steps y)) p q = absurd q
   trials_once bytes (refused a) (accepted (a_text y)) p q = absurd q
-  trials_once bytes (refused a) (refused b) (inl p) (inl q) = why_once (ScriptSays bytes) (one_script bytes) a_script script_reason_of script_place_of (λ e. None) a b p q
+  trials_once bytes (refused a) (refused b) (inl p) (inl q) = why_once (ScriptSays bytes) (one_script bytes) a_script script_reason a b p q
   trials_once bytes (refused a) (refused b) (inl p) (inr q) = absurd (refused_or_many bytes a b p q)
   trials_once bytes (refused a) (refused b) (inr p) (inl q) = absurd (refused_or_many bytes b a q p)
   trials_once bytes (refused a) (refused b) (inr p) (inr q) = many_once bytes a b p q
@@ -250,14 +248,14 @@ module _ (one_reading : (text : List ℕ) (a b : Result PlainBoard BoardError) �
   bytes_once bytes (accepted (a_text x)) (accepted (a_script y)) p q = absurd q
   bytes_once bytes (accepted (a_text x)) (accepted (some_steps y)) p q = absurd q
   bytes_once bytes (accepted (a_text x)) (accepted (a_text y)) p q = ap (λ (text : List ℕ). accepted (a_text text)) (p.0 ∙ sym q.0)
-  bytes_once bytes (accepted (a_text x)) (refused b) p q = absurd (value_or_not (BoardSays bytes) (one_reading bytes) a_board board_reason_of board_place_of (λ e. None) p.1.0 b p.1.1 q)
+  bytes_once bytes (accepted (a_text x)) (refused b) p q = absurd (value_or_not (BoardSays bytes) (one_reading bytes) a_board board_reason p.1.0 b p.1.1 q)
   bytes_once bytes (refused a) (accepted (a_board y)) p q = absurd q
   bytes_once bytes (refused a) (accepted (a_project y)) p q = absurd q
   bytes_once bytes (refused a) (accepted (a_rules y)) p q = absurd q
   bytes_once bytes (refused a) (accepted (a_script y)) p q = absurd q
   bytes_once bytes (refused a) (accepted (some_steps y)) p q = absurd q
-  bytes_once bytes (refused a) (accepted (a_text y)) p q = absurd (value_or_not (BoardSays bytes) (one_reading bytes) a_board board_reason_of board_place_of (λ e. None) q.1.0 a q.1.1 p)
-  bytes_once bytes (refused a) (refused b) p q = why_once (BoardSays bytes) (one_reading bytes) a_board board_reason_of board_place_of (λ e. None) a b p q
+  bytes_once bytes (refused a) (accepted (a_text y)) p q = absurd (value_or_not (BoardSays bytes) (one_reading bytes) a_board board_reason q.1.0 a q.1.1 p)
+  bytes_once bytes (refused a) (refused b) p q = why_once (BoardSays bytes) (one_reading bytes) a_board board_reason a b p q
 
   reader_once : (which : Which) (bytes : List ℕ) (s t : Said) → ReaderSays which bytes s → ReaderSays which bytes t → s ≡ t
   reader_once Board bytes s t p q = board_once bytes s t p q

@@ -1,3 +1,4 @@
 pub mod Accepting
+pub mod Refusals
 pub mod FewCommands
 pub mod TooMany
