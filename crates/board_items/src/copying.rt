@@ -165,7 +165,7 @@ impl What {
 impl Item {
     /// An equal item. It is made with the allocator that the list of its copper keeps.
     #[tactic(auto, using(crate::proofs::OneMove::item_is))]
-    pub(crate) fn copy(&self) -> Result<Item, AllocError>
+    pub fn copy(&self) -> Result<Item, AllocError>
         ensures { IfOk result (λ copy. copy ≡ self.now) }
     {
         let alloc = *self.copper.list.allocator();
