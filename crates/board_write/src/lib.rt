@@ -56,7 +56,8 @@ pub fn write_board<W: Sink>(
     write_source(alloc, text, source, commands, out)
 }
 
-/// The same of a board that was read of the text before, so that the text is not read again. It is not refused.
+/// Writes the text of the board after the commands, of a board that was read of its text before: the text is not read again, and
+/// not refused.
 pub fn write_source<W: Sink>(
     alloc: Global,
     text: &[u8],

@@ -1,4 +1,5 @@
-//! What the program finds of a board beside the rows over all items and all pairs, and the lines of each net by itself.
+//! What the program finds of a board beside the rows over all items and all pairs, and the lines of each net and of the notes by
+//! themselves.
 
 ghost use Rattle.std.specs.Prelude.{◌≤◌, length};
 ghost use Rattle.pair_check.specs.Views.{IsWholeView};
@@ -10,7 +11,7 @@ use crate::nets;
 use board_items::Board;
 use case_gates::Turns;
 use drc_io::{MemShelf, MemSink, Name};
-use drc_rows::{write_line, write_rows};
+use drc_rows::{write_line, write_notes, write_rows};
 use drc_run::run;
 use item_facts::all_facts;
 use net_class::Classes;
@@ -72,8 +73,23 @@ fn plain_report(alloc: Global, board: &Board, rules: &Rules) -> Option<Vec<u8>>
     written(alloc, &view)
 }
 
-/// The rows of the board of a text under the rules of another as a report has them, and what it says of the nets.
-fn plain_report_of(alloc: Global, board: &[u8], rules: &[u8]) -> Option<(Vec<u8>, Vec<u8>)> {
+/// The lines of what is not checked of a board and of rules.
+fn plain_notes(alloc: Global, board: &Board, rules: &Rules) -> Option<Vec<u8>> {
+    let mut out = MemSink::new(alloc, usize::MAX, ROOM, Vec::new(alloc)).ok()?;
+    write_notes(board, rules, &mut out).ok()?;
+    out.bytes().to_vec(alloc).ok()
+}
+
+/// What a report has, piece by piece.
+#[derive(Drop)]
+struct Pieces {
+    rows: Vec<u8>,
+    notes: Vec<u8>,
+    nets: Vec<u8>,
+}
+
+/// The rows of the board of a text under the rules of another as a report has them, and what it says of notes and nets.
+fn plain_report_of(alloc: Global, board: &[u8], rules: &[u8]) -> Option<Pieces> {
     if board.len() > LIMIT || rules.len() > LIMIT {
         return None;
     }
@@ -83,7 +99,9 @@ fn plain_report_of(alloc: Global, board: &[u8], rules: &[u8]) -> Option<(Vec<u8>
         return None;
     }
     let nets = nets::told(alloc, &board, ROOM)?;
-    Some((plain_report(alloc, &board, &rules)?, nets))
+    let notes = plain_notes(alloc, &board, &rules)?;
+    let rows = plain_report(alloc, &board, &rules)?;
+    Some(Pieces { rows, notes, nets })
 }
 
 /// The whole report of the program.
@@ -117,18 +135,19 @@ fn contains(text: &[u8], piece: &[u8]) -> bool {
     false
 }
 
-/// How many rows the board has, where the program's report begins with those over all pairs and says the same of the nets.
+/// How many rows the board has, where the program's report begins with those over all pairs and says the same of notes and nets.
 fn rows_alike<R: Threads + Sync + AllocGlobal>(
     rt: &R,
     texts: Texts<'_>,
     gate: &Turns,
 ) -> Option<u64> {
-    let (rows, nets) = plain_report_of(rt.alloc(), texts.board, texts.other)?;
+    let pieces = plain_report_of(rt.alloc(), texts.board, texts.other)?;
     let board = texts.board.to_vec(rt.alloc()).ok()?;
     let rules = texts.other.to_vec(rt.alloc()).ok()?;
     let whole = report_of(rt, board, rules, gate)?;
-    if whole.as_slice().starts_with(&rows) && contains(&whole, &nets) {
-        let lines = rows.iter().filter(|byte| **byte == b'\n').count();
+    let begins = whole.as_slice().starts_with(&pieces.rows);
+    if begins && contains(&whole, &pieces.notes) && contains(&whole, &pieces.nets) {
+        let lines = pieces.rows.iter().filter(|byte| **byte == b'\n').count();
         Some((lines as u64).saturating_sub(2))
     } else {
         None

@@ -42,64 +42,35 @@ fn reach_and_index(
     Ok((reach, index))
 }
 
-/// The reach and the index, and beside them the nets.
-fn index_beside_nets(
+/// The facts of all items, and beside them the reach and the index.
+fn facts_beside_index(
     rt: &(impl Threads + Sync),
     alloc: Global,
     workers: u32,
     board: &Board,
     classes: &Classes,
     rules: &[Rule],
-) -> Result<((Nm, TileIndex), Vec<NetPart>), AllocError>
-    ensures reached { IfOk result (λ r.
-        IsReached board.now classes.now (map plain_rule rules.now) r.0.0 r.0.1) }
-    ensures nets { IfOk result (λ r. AreParts board.now r.1.items) }
-{
-    let (found, nets) = join(
-        rt,
-        || -> Result<(Nm, TileIndex), AllocError>
-            ensures { IfOk result (λ r.
-                IsReached board.entry.now classes.entry.now
-                (map plain_rule rules.entry.now) r.0 r.1) }
-        { reach_and_index(alloc, board, classes, rules) },
-        || -> Result<Vec<NetPart>, AllocError>
-            ensures { IfOk result (λ nets. AreParts board.entry.now nets.items) }
-        { all_parts(rt, alloc, workers, board) },
-    );
-    Ok((found?, nets?))
-}
-
-/// The facts of all items, and beside them the reach and the index, and the nets.
-fn find_beside(
-    rt: &(impl Threads + Sync),
-    alloc: Global,
-    workers: u32,
-    board: &Board,
-    classes: &Classes,
-    rules: &[Rule],
-) -> Result<(FactsById, (Nm, TileIndex), Vec<NetPart>), AllocError>
+) -> Result<(FactsById, (Nm, TileIndex)), AllocError>
     ensures facts { IfOk result (λ r. HasFacts board.now classes.now r.0) }
-    ensures reached { IfOk result (λ r.
-        IsReached board.now classes.now (map plain_rule rules.now) r.1.0 r.1.1) }
-    ensures nets { IfOk result (λ r. AreParts board.now r.2.items) }
+    ensures reached { IfOk result (λ r. IsReached board.now classes.now
+        (map plain_rule rules.now) r.1.0 r.1.1) }
 {
-    let (facts, rest) = join(
+    let (facts, found) = join(
         rt,
         || -> Result<FactsById, AllocError>
             ensures { IfOk result (HasFacts board.entry.now classes.entry.now) }
         { all_facts_by(rt, alloc, workers, board, classes) },
-        || -> Result<((Nm, TileIndex), Vec<NetPart>), AllocError>
-            ensures { IfOk result (λ r.
-                IsReached board.entry.now classes.entry.now
-                (map plain_rule rules.entry.now) r.0.0 r.0.1 × AreParts board.entry.now r.1.items) }
-        { index_beside_nets(rt, alloc, workers, board, classes, rules) },
+        || -> Result<(Nm, TileIndex), AllocError>
+            ensures { IfOk result (λ r. IsReached board.entry.now classes.entry.now
+                (map plain_rule rules.entry.now) r.0 r.1) }
+        { reach_and_index(alloc, board, classes, rules) },
     );
-    let (found, nets) = rest?;
-    Ok((facts?, found, nets))
+    Ok((facts?, found?))
 }
 
 /// The facts of all items, the reach and the index, and the nets. By one worker the nets come first, since all of it stays: a large
-/// net takes room for a while, more than its facts take. By several workers the three are found beside each other.
+/// net takes room for a while, more than its facts take. By several the facts and the index are found beside each other, and the nets
+/// behind both, by all workers.
 fn find(
     rt: &(impl Threads + Sync),
     alloc: Global,
@@ -109,8 +80,8 @@ fn find(
     rules: &[Rule],
 ) -> Result<(FactsById, (Nm, TileIndex), Vec<NetPart>), AllocError>
     ensures facts { IfOk result (λ r. HasFacts board.now classes.now r.0) }
-    ensures reached { IfOk result (λ r.
-        IsReached board.now classes.now (map plain_rule rules.now) r.1.0 r.1.1) }
+    ensures reached { IfOk result (λ r. IsReached board.now classes.now
+        (map plain_rule rules.now) r.1.0 r.1.1) }
     ensures nets { IfOk result (λ r. AreParts board.now r.2.items) }
 {
     if workers == 1 {
@@ -119,7 +90,9 @@ fn find(
         let facts = all_facts_by(rt, alloc, workers, board, classes)?;
         return Ok((facts, found, nets));
     }
-    find_beside(rt, alloc, workers, board, classes, rules)
+    let (facts, found) = facts_beside_index(rt, alloc, workers, board, classes, rules)?;
+    let nets = all_parts(rt, alloc, workers, board)?;
+    Ok((facts, found, nets))
 }
 
 /// All that is found of the board.

@@ -15,8 +15,9 @@ ghost use Rattle.roundtrip_boards.specs.Written.{Draft, FatesAre};
 
 /// What commands do to a board changes its text so, one after another.
 pub fn changes()
-    ensures { (commands : List PlainCommand) (answers : List (Result PlainDeed Refusal)) (changes : List Change) (board last : PlainBoard)
-        → DoAll board commands answers last → AreChanges commands answers changes → ChangeAll board changes last }
+    ensures { (commands : List PlainCommand) (answers : List (Result PlainDeed Refusal))
+        (changes : List Change) (board last : PlainBoard) → DoAll board commands answers last
+        → AreChanges commands answers changes → ChangeAll board changes last }
 {}
 
 /// The fates of a board's lists fit them, and the version, which stands first, stays.

@@ -30,35 +30,45 @@ pub fn parts()
         → sort_of (branch r j) ≡ sort_of (branch s i) }
     ensures kept { (a next : Reading) (t : Tree) → with_other a t ≡ Ok next
         → (next.board.items ≡ a.board.items) × (next.board.next_unit ≡ a.board.next_unit) }
-    ensures others { (t u : Tree) (a b next : Reading) → AlikeTrees None t u → SameGround a.board b.board → b.layered ≡ a.layered → with_other a t ≡ Ok next
-        → (new : Reading) × (with_other b u ≡ Ok new) × SameGround next.board new.board × (new.layered ≡ next.layered) × SameItems b.board new.board }
+    ensures others { (t u : Tree) (a b next : Reading) → AlikeTrees None t u
+        → SameGround a.board b.board → b.layered ≡ a.layered → with_other a t ≡ Ok next
+        → (new : Reading) × (with_other b u ≡ Ok new) × SameGround next.board new.board
+        × (new.layered ≡ next.layered) × SameItems b.board new.board }
 {}
 
 /// A root with the same head, of which the first list has the same contents, has an accepted header too.
 pub fn header()
-    ensures { (s p h t r : Span) (q : Bool) (c : List ℕ) (f kept forest i : Forest) (others : List Forest) (u : Unit {0}) → header_in (branch s (atom t q c f)) ≡ Ok u → find is_list (trees f) ≡ Some (branch r i)
-        → SameTrees (atom h q c kept) forest → insides kept ≡ i ∷ others → header_in (branch p forest) ≡ Ok tt }
+    ensures { (s p h t r : Span) (q : Bool) (c : List ℕ) (f kept forest i : Forest)
+        (others : List Forest) (u : Unit {0}) → header_in (branch s (atom t q c f)) ≡ Ok u
+        → find is_list (trees f) ≡ Some (branch r i) → SameTrees (atom h q c kept) forest
+        → insides kept ≡ i ∷ others → header_in (branch p forest) ≡ Ok tt }
 {}
 
 /// The list of a unit, written anew, carries the items that the unit has become, and gives them where the board has room, whatever it
 /// is but a footprint. A unit takes one number.
 pub fn lists()
-    ensures carries { (sort : Sort) (s r : Span) (i j : Forest) (o : Option Shift) (e : Entry) → sort_of (branch s i) ≡ Some sort → SameTrees (moved_if o i) j → AreNow (shift_of o) e
+    ensures carries { (sort : Sort) (s r : Span) (i j : Forest) (o : Option Shift) (e : Entry)
+        → sort_of (branch s i) ≡ Some sort → SameTrees (moved_if o i) j → AreNow (shift_of o) e
         → Carries sort (branch s i) (branch r j) e.read (map (λ (x : ℕ × Item). x.1) e.now) }
     ensures without { (sort : Sort) (s r : Span) (i j : Forest) → sort_of (branch s i) ≡ Some sort
         → Alike None i j → Carries sort (branch s i) (branch r j) [] [] }
     ensures long { (sort : Sort) (t u : Tree) (items now : List Item) → Carries sort t u items now
         → length now ≡ length items }
-    ensures carried { (sort : Sort) (board other : PlainBoard) (unit own : ℕ) (t u : Tree) (items now : List Item) → is_footprint sort ≡ false → SameGround board other → SaysItems board unit t sort (Ok items) → Carries sort t u items now
+    ensures carried { (sort : Sort) (board other : PlainBoard) (unit own : ℕ) (t u : Tree)
+        (items now : List Item) → is_footprint sort ≡ false → SameGround board other
+        → SaysItems board unit t sort (Ok items) → Carries sort t u items now
         → has_room other own now ≡ true → SaysItems other own u sort (Ok (of_unit own now)) }
     ensures grows { (a next : Reading) (t : Tree) (i : Item) (items : List Item)
         → IsUnit a next t (i ∷ items) → ItemsOf a.board.next_unit (i ∷ items)
         → next.board.next_unit ≡ suc a.board.next_unit }
 {}
 
-/// The same of a footprint.
+/// The list of a footprint, written anew, carries the items that the unit has become, and gives them where the board has room. A unit
+/// takes one number.
 pub fn footprints()
-    ensures carried { (board other : PlainBoard) (unit own : ℕ) (t u : Tree) (items now : List Item) → SameGround board other → SaysItems board unit t Footprint (Ok items) → Carries Footprint t u items now → has_room other own now ≡ true
+    ensures carried { (board other : PlainBoard) (unit own : ℕ) (t u : Tree) (items now : List Item)
+        → SameGround board other → SaysItems board unit t Footprint (Ok items)
+        → Carries Footprint t u items now → has_room other own now ≡ true
         → SaysItems other own u Footprint (Ok (of_unit own now)) }
     ensures stand { (board : PlainBoard) (unit : ℕ) (t : Tree) (items : List Item)
         → SaysItems board unit t Footprint (Ok items) → ItemsOf unit items }

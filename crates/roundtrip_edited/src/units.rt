@@ -20,29 +20,38 @@ ghost use Rattle.roundtrip_edited.specs.Given.{GivesCarried, GivesInRoom};
 
 /// A track's or a via's list that is alike gives the track or the via, carried.
 pub fn tracks()
-    ensures tracks { (d : Option Shift) (board other : PlainBoard) → SameLayersAndNames board other → (unit own : ℕ) (i j : Forest) (s r : Span) → Alike d i j
-        → Leads (ReadsCarried (shift_of d) own) (track_of board unit (branch s i)) (track_of other own (branch r j)) }
-    ensures vias { (d : Option Shift) (board other : PlainBoard) → SameLayersAndNames board other → (unit own : ℕ) (i j : Forest) (s r : Span) → Alike d i j
-        → Leads (ReadsCarried (shift_of d) own) (via_of board unit (branch s i)) (via_of other own (branch r j)) }
+    ensures tracks { (d : Option Shift) (board other : PlainBoard) → SameLayersAndNames board other
+        → (unit own : ℕ) (i j : Forest) (s r : Span) → Alike d i j
+        → Leads (ReadsCarried (shift_of d) own) (track_of board unit (branch s i))
+        (track_of other own (branch r j)) }
+    ensures vias { (d : Option Shift) (board other : PlainBoard) → SameLayersAndNames board other
+        → (unit own : ℕ) (i j : Forest) (s r : Span) → Alike d i j
+        → Leads (ReadsCarried (shift_of d) own) (via_of board unit (branch s i))
+        (via_of other own (branch r j)) }
 {}
 
-/// So does the list of a graphic, a curve or a text, on a board with the same layers and nets and room for the items.
+/// The list of a graphic, a curve or a text that is alike gives the same items, carried, on a board with the same layers and nets and
+/// room for the items.
 pub fn graphics()
-    ensures graphics { (o : Option Shift) (board other : PlainBoard) (unit own : ℕ) (i j : Forest) (s r : Span) → SameGround board other → Alike o i j
-        → (kind : GraphicKind) → GivesInRoom (shift_of o) (Graphic kind) board other unit own (branch s i) (branch r j) }
-    ensures curves { (o : Option Shift) (board other : PlainBoard) (unit own : ℕ) (i j : Forest) (s r : Span) → SameGround board other → Alike o i j
+    ensures graphics { (o : Option Shift) (board other : PlainBoard) (unit own : ℕ) (i j : Forest)
+        (s r : Span) → SameGround board other → Alike o i j → (kind : GraphicKind)
+        → GivesInRoom (shift_of o) (Graphic kind) board other unit own (branch s i) (branch r j) }
+    ensures curves { (o : Option Shift) (board other : PlainBoard) (unit own : ℕ) (i j : Forest)
+        (s r : Span) → SameGround board other → Alike o i j
         → GivesCarried (shift_of o) Curve board other unit own (branch s i) (branch r j) }
-    ensures texts { (o : Option Shift) (board other : PlainBoard) (unit own : ℕ) (i j : Forest) (s r : Span) → SameGround board other → Alike o i j
-        → (about : About) → GivesInRoom (shift_of o) (Text about) board other unit own (branch s i) (branch r j) }
+    ensures texts { (o : Option Shift) (board other : PlainBoard) (unit own : ℕ) (i j : Forest)
+        (s r : Span) → SameGround board other → Alike o i j → (about : About)
+        → GivesInRoom (shift_of o) (Text about) board other unit own (branch s i) (branch r j) }
 {}
 
-/// And so does the list of a zone.
+/// The list of a zone that is alike gives the same items, carried, where there is room.
 pub fn zones()
-    ensures { (o : Option Shift) (board other : PlainBoard) (unit own : ℕ) (i j : Forest) (s r : Span) → SameLayersAndNames board other → Alike o i j
+    ensures { (o : Option Shift) (board other : PlainBoard) (unit own : ℕ) (i j : Forest)
+        (s r : Span) → SameLayersAndNames board other → Alike o i j
         → GivesInRoom (shift_of o) Zone board other unit own (branch s i) (branch r j) }
 {}
 
-/// What such a list gives is of the unit asked for, and lies on a board.
+/// What the list of a unit other than a footprint gives is of the unit asked for, and lies on a board.
 pub fn places()
     ensures { (board : PlainBoard) (unit : ℕ) (tree : Tree) (sort : Sort) (items : List Item)
         → is_footprint sort ≡ false → SaysItems board unit tree sort (Ok items)

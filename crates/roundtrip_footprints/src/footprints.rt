@@ -18,7 +18,8 @@ ghost use Rattle.roundtrip_footprints.specs.Places.{IsPlaceAgain, AtMoved};
 /// The list of a footprint, of which the first place may be moved, gives its items, carried, where the board has room: its body with
 /// its courtyards, its pads, graphics and notes. They are of the unit asked for, and lie on a board.
 pub fn footprints()
-    ensures carried { (d : Shift) (board other : PlainBoard) → SameLayersAndNames board other → (unit own : ℕ) (i j : Forest) (s r : Span) → AtMoved d i j
+    ensures carried { (d : Shift) (board other : PlainBoard) → SameLayersAndNames board other
+        → (unit own : ℕ) (i j : Forest) (s r : Span) → AtMoved d i j
         → FootprintCarried d board other unit own (branch s i) (branch r j) }
     ensures stand { (board : PlainBoard) (unit : ℕ) (tree : Tree) (items : List Item)
         → FootprintSays board unit tree (Ok items) → ItemsOf unit items }

@@ -14,8 +14,10 @@ ghost use Rattle.roundtrip_footprints.specs.Heads.{moved_head};
 
 /// The list of a pad gives the pad, carried, in a footprint that is moved. A pad is of the unit asked for, and lies on a board.
 pub fn pads()
-    ensures carried { (d : Shift) (board other : PlainBoard) → SameLayersAndNames board other → (unit own : ℕ) (head : Head) (i j : Forest) (s r : Span) → Alike None i j
-        → Leads (ReadsCarried d own) (pad_of board unit head (branch s i)) (pad_of other own (moved_head d head) (branch r j)) }
+    ensures carried { (d : Shift) (board other : PlainBoard) → SameLayersAndNames board other
+        → (unit own : ℕ) (head : Head) (i j : Forest) (s r : Span) → Alike None i j
+        → Leads (ReadsCarried d own) (pad_of board unit head (branch s i))
+        (pad_of other own (moved_head d head) (branch r j)) }
     ensures stand { (board : PlainBoard) (unit : ℕ) (head : Head) (tree : Tree) (item : Item)
         → pad_of board unit head tree ≡ Ok item → ItemsOf unit (item ∷ []) }
 {}

@@ -11,7 +11,8 @@ ghost use Rattle.roundtrip_lists.specs.Moves.{AreShiftedSegs, HasCorner};
 
 /// The outlines of lines that are moved are theirs, moved; and each end of a line that has a length is a corner of one.
 pub fn chains()
-    ensures moved { (dx dy : ℤ) (lines others : List Seg) (polys moved : List (List Point)) → AreShiftedSegs dx dy lines others → AreChained lines polys
+    ensures moved { (dx dy : ℤ) (lines others : List Seg) (polys moved : List (List Point))
+        → AreShiftedSegs dx dy lines others → AreChained lines polys
         → AllZip (AllZip (IsShiftedPoint dx dy)) polys moved → AreChained others moved }
     ensures corners { (lines : List Seg) (polys : List (List Point)) → AreChained lines polys
         → (i : ℕ) (l : Seg) → slice_get lines i ≡ Some l → is_short l ≡ false → (far : Bool)

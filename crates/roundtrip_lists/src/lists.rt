@@ -66,8 +66,10 @@ pub fn numbers()
 
 /// The moved parts of cores with a radius around them are the parts of moved cores; and what is carried and then moved is carried by both.
 pub fn carrying()
-    ensures parts { (dx dy : ℤ) (layers : LayerSet) (r : Radius) (cores : List Core) (parts : List Part) → AreShifted dx dy (parts_around layers r cores) parts
-        → (others : List Core) × AllZip (IsShiftedCore dx dy) cores others × (parts ≡ parts_around layers r others) }
+    ensures parts { (dx dy : ℤ) (layers : LayerSet) (r : Radius) (cores : List Core)
+        (parts : List Part) → AreShifted dx dy (parts_around layers r cores) parts
+        → (others : List Core) × AllZip (IsShiftedCore dx dy) cores others
+        × (parts ≡ parts_around layers r others) }
     ensures both { (d e : Shift) (a b c : Item) → IsCarried d a b → IsShiftedItem e.dx e.dy b c
         → IsCarried (record { dx = d.dx +ℤ e.dx; dy = d.dy +ℤ e.dy }) a c }
     ensures ends { (center end : Spot) (most : ℕ) → root (square_between center end) ≤ most

@@ -16,8 +16,8 @@ pub fn pieces()
     ensures cut { (text : List ℕ) (from to : ℕ) (f : Forest) → SpellsPart text from to f
         → Writes (slice_range text from to) f }
     ensures set { (front bytes behind : List ℕ) (f : Forest) → IsApart behind → Writes bytes f
-        → let text : List ℕ = front ++ (bytes ++ behind) in
-        (g : Forest) × SameTrees f g × SpellsForest (sign_of text) text (length front) (length front + length bytes) g }
+        → let text : List ℕ = front ++ (bytes ++ behind) in (g : Forest) × SameTrees f g
+        × SpellsForest (sign_of text) text (length front) (length front + length bytes) g }
 {}
 
 /// What is written anew spells the trees that it is written from.
@@ -29,8 +29,11 @@ pub fn writing()
 
 /// A text of which lists are left out or written anew spells the others, in order; its head stays, where what follows it does.
 pub fn editing()
-    ensures { (text : List ℕ) (fates : List Fate) (s : Span) (q : Bool) (content : List ℕ) (others : Forest) (from to : ℕ) → SpellsPart text from to (atom s q content others) → FitBehindHead fates others
-        → WritesEdited (edited text from to fates (atom s q content others)) s q content (insides_after fates others) }
+    ensures { (text : List ℕ) (fates : List Fate) (s : Span) (q : Bool) (content : List ℕ)
+        (others : Forest) (from to : ℕ) → SpellsPart text from to (atom s q content others)
+        → FitBehindHead fates others
+        → WritesEdited (edited text from to fates (atom s q content others)) s q content
+        (insides_after fates others) }
 {}
 
 /// What is UTF-8 spells atoms of UTF-8, and is spelled by them.
@@ -48,8 +51,11 @@ pub fn forms()
 /// The text of one list of at most 64 levels, of which parts have their fates and trees are added last, is the text of one list of at
 /// most 64 levels: with its head, the lists that are left, as they have become, and the trees that were added, but for spans.
 pub fn whole()
-    ensures { (text : List ℕ) (root : Root text) (fates : List Fate) (added : Forest) → FitInRoot fates root.others → MayBeAdded added
-        → SpellsEdited (edited_whole text root.span fates (inside_root root) added) root.quoted root.head (insides_after fates root.others ++ insides added) }
+    ensures { (text : List ℕ) (root : Root text) (fates : List Fate) (added : Forest)
+        → FitInRoot fates root.others → MayBeAdded added
+        → SpellsEdited (edited_whole text root.span fates
+        (inside_root root) added) root.quoted root.head
+        (insides_after fates root.others ++ insides added) }
 {}
 
 /// A text of which all lists stay, and to which nothing is added, is as it was; so is each part of it.

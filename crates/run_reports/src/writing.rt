@@ -203,7 +203,7 @@ pub fn write_rows_alone<W: Sink>(
 
 /// Writes the whole report of this number: the board's rows, its notes, its open nets, and how many tiles were gone
 /// through. `Failed` comes only where the sink's count of faults rose, and then a front part of the report was
-/// written. It takes no memory, and makes one write for each 8,192 bytes.
+/// written. It takes no memory. What was put together goes out when the next piece has no room in 8,192 bytes, and at the end.
 pub fn write_whole<W: Sink>(
     number: u64,
     view: &CheckView<'_>,
@@ -253,7 +253,7 @@ fn push_counts<W: Sink>(
 
 /// Writes the short report of this number: how many rows, notes and open nets there are, and how many tiles were gone
 /// through. `Failed` comes only where the sink's count of faults rose, and then a front part of the report was
-/// written. It takes no memory, and makes one write.
+/// written. It takes no memory, and makes one write where the sink takes it whole.
 pub fn write_short<W: Sink>(
     number: u64,
     board: &Board,
