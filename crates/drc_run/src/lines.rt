@@ -142,12 +142,7 @@ fn write_reason<W: Sink>(
     ensures { Wrote W.written W.faults out.old out.new
         (reason_line front.now middle.now behind.now (reason_told told)) result }
 {
-    let Causes {
-        first,
-        second,
-        third,
-        fourth,
-    } = told.causes;
+    let causes = told.causes;
     let inner = inner_behind(told.place, told.inner);
     let mut digits = Buffer::new();
     let mut second_digits = Buffer::new();
@@ -160,21 +155,21 @@ fn write_reason<W: Sink>(
             front,
             middle,
             behind,
-            first.name.as_bytes(),
-            point(second),
-            name(second),
-            point(third),
-            name(third),
-            point(fourth),
-            name(fourth),
+            causes.first.name.as_bytes(),
+            point(causes.second),
+            name(causes.second),
+            point(causes.third),
+            name(causes.third),
+            point(causes.fourth),
+            name(causes.fourth),
             b" (",
-            digits.format(first.number).as_bytes(),
-            point(second),
-            number_digits(second, &mut second_digits),
-            point(third),
-            number_digits(third, &mut third_digits),
-            point(fourth),
-            number_digits(fourth, &mut fourth_digits),
+            digits.format(causes.first.number).as_bytes(),
+            point(causes.second),
+            number_digits(causes.second, &mut second_digits),
+            point(causes.third),
+            number_digits(causes.third, &mut third_digits),
+            point(causes.fourth),
+            number_digits(causes.fourth, &mut fourth_digits),
             b")",
             at(told.place),
             place_digits(told.place, &mut digits_of_place),

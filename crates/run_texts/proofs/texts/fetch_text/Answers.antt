@@ -1,8 +1,8 @@
-use Rattle.std.proofs.Common.{refl, ap, sym, subst, Err}
-use Rattle.run_texts.specs.declared.texts.Stop.{Stop}
-use Rattle.run_texts.specs.Texts.{named}
-use Rattle.run_texts.specs.Refusing.{StopsText}
+use Rattle.std.proofs.Common.{ap, subst, Err}
+use Rattle.plain_types.specs.Reasons.{PlainReason}
+use Rattle.run_texts.specs.Refusing.{IsStopOf}
 use Rattle.run_texts.proofs.Accepting.{longer_says}
+use Rattle.run_texts.proofs.Refusals.{long_stops}
 use Rattle.run_texts.proofs.texts.fetch_text.Goals as goal
 
 pub returns-in-Err-TooLong-clause-stop : goal.returns-in-Err-TooLong-clause-stop
@@ -11,4 +11,5 @@ returns-in-Err-TooLong-clause-stop g c =
     let before = g.F.Shelf.faults c.args.shelf.now in
     let now = g.F.Shelf.faults c.fetch.new.shelf in
     let longer = longer_says told c.args.which c.args.name.now (c.in-Err-TooLong.ensures.too_long (ap Err c.in-Err-TooLong.field-0-is)) in
-    subst (λ (s : Stop). StopsText told before now (named c.args.which c.args.name.now) s) (sym c.refused.ensures) (refl, longer)
+    let is = subst (λ (why : PlainReason). IsStopOf c.args.which why c.refused_for.result) c.new.ensures c.refused_for.ensures in
+    long_stops told before now c.args.which c.args.name.now c.refused_for.result is longer
