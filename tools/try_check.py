@@ -234,7 +234,9 @@ def watched(tries, folder):
     """a board that is saved is checked again, what went is said, and the page of this machine alone is a new one"""
     folder.put('seen', folder.report, 1)
     env = {**os.environ, 'DRC': folder.program, 'GITHUB_ACTIONS': '', 'NO_COLOR': '1'}
-    process = subprocess.Popen([sys.executable, '-B', CHECK, 'seen.kicad_pcb', '--serve', '--html', 'seen.html'], cwd=folder.path, env=env, stdout=subprocess.PIPE, stderr=subprocess.STDOUT, text=True)
+    process = subprocess.Popen([sys.executable, '-B', CHECK, 'seen.kicad_pcb', '--serve', '--html', 'seen.html'], cwd=folder.path, env=env, stdout=subprocess.PIPE, stderr=subprocess.STDOUT, text=True,
+                               # What runs in the background of a shell does not hear this signal.
+                               preexec_fn=lambda: signal.signal(signal.SIGINT, signal.SIG_DFL))
     try:
         address = line_of(process, 'the page: ').strip().replace('the page: ', '')
         tries.true('an address', address.startswith('http://127.0.0.1:'))
