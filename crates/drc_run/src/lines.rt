@@ -1,6 +1,6 @@
 //! Lines that stand in the place of reports.
 
-ghost use Rattle.std.specs.Prelude.{◌≡◌};
+ghost use Rattle.std.specs.Prelude.{◌≡◌, ◌++◌};
 ghost use Rattle.drc_io.specs.Sinks.{Wrote};
 ghost use Rattle.drc_state.specs.Reasons.{edit_reason};
 ghost use Rattle.run_texts.specs.Texts.{reason_text};
@@ -110,6 +110,16 @@ fn place_digits(place: Option<u32>, digits: &mut Buffer) -> &[u8]
     }
 }
 
+/// The digits of a number.
+fn digits_of(number: Option<u64>, digits: &mut Buffer) -> &[u8]
+    ensures { result.now ≡ digits_text number }
+{
+    match number {
+        Some(number) => digits.format(number).as_bytes(),
+        None => b"",
+    }
+}
+
 /// What stands before a place.
 fn at(place: Option<u32>) -> &'static [u8]
     ensures { result.now ≡ at_text place }
@@ -130,20 +140,22 @@ fn inner_behind(place: Option<u32>, inner: Option<u32>) -> Option<u32>
     }
 }
 
-/// Writes a line of three texts and of why something is refused, as `NAME (NUMBER)`, behind that ` at PLACE` where there is
+/// Writes a line: a text, a word, a number where there is one, a text, and why something is refused, as `NAME (NUMBER)`, behind that ` at PLACE` where there is
 /// a place, and for a condition ` + PLACE`. The names have points between them, and so have the numbers.
 fn write_reason<W: Sink>(
-    front: &[u8],
-    middle: &[u8],
-    behind: &[u8],
+    front: &'static [u8],
+    word: &'static [u8],
+    number: Option<u64>,
+    behind: &'static [u8],
     told: Told,
     out: &mut W,
 ) -> Result<(), Failed>
     ensures { Wrote W.written W.faults out.old out.new
-        (reason_line front.now middle.now behind.now (reason_told told)) result }
+        (reason_line front.now (word.now ++ digits_text number) behind.now (reason_told told)) result }
 {
     let causes = told.causes;
     let inner = inner_behind(told.place, told.inner);
+    let mut digits_of_number = Buffer::new();
     let mut digits = Buffer::new();
     let mut second_digits = Buffer::new();
     let mut third_digits = Buffer::new();
@@ -153,7 +165,8 @@ fn write_reason<W: Sink>(
     write_pieces(
         &[
             front,
-            middle,
+            word,
+            digits_of(number, &mut digits_of_number),
             behind,
             causes.first.name.as_bytes(),
             point(causes.second),
@@ -186,7 +199,14 @@ pub(crate) fn write_refusal<W: Sink>(why: Refusal, out: &mut W) -> Result<(), Fa
     ensures { Wrote W.written W.faults out.old out.new
         (refusal why.which (why_of why)).text result }
 {
-    write_reason(b"refused ", why.which.word(), b": ", told_in(why), out)
+    write_reason(
+        b"refused ",
+        why.which.word(),
+        None,
+        b": ",
+        told_in(why),
+        out,
+    )
 }
 
 /// Writes `cannot read WHICH`.
@@ -206,14 +226,7 @@ fn write_refused_behind<W: Sink>(
     ensures { Wrote W.written W.faults out.old out.new
         (refused_behind before.now number (reason_text (reason_told told))) result }
 {
-    let mut digits = Buffer::new();
-    write_reason(
-        before,
-        digits.format(number).as_bytes(),
-        b" refused: ",
-        told,
-        out,
-    )
+    write_reason(before, b"", Some(number), b" refused: ", told, out)
 }
 
 /// Writes the line of the command of this number, which is refused: `command NUMBER refused: `, and why.
