@@ -2,7 +2,6 @@
 
 ghost use Rattle.std.specs.Prelude.{◌≡◌, ◌++◌};
 ghost use Rattle.drc_io.specs.Sinks.{Wrote};
-ghost use Rattle.drc_state.specs.Reasons.{edit_reason};
 ghost use Rattle.run_texts.specs.Texts.{reason_text};
 ghost use Rattle.run_texts.specs.Refusing.{plus_text, digits_text, reason_in, why_of};
 ghost use Rattle.drc_run.specs.Output.{refusal, cannot_read};
@@ -27,7 +26,7 @@ struct Told {
     inner: Option<u32>,
 }
 
-/// Why it is refused, of an error.
+/// Why something is refused, as its error has it.
 fn told_of<E: HasReason>(error: &E) -> Told
     ensures { reason_told result ≡ E.reason_of error.now }
 {
@@ -194,7 +193,7 @@ fn write_reason<W: Sink>(
     )
 }
 
-/// Writes `refused WHICH: `, and why it is refused.
+/// Writes the line of a text that is refused: `refused WHICH: `, and why.
 pub(crate) fn write_refusal<W: Sink>(why: Refusal, out: &mut W) -> Result<(), Failed>
     ensures { Wrote W.written W.faults out.old out.new
         (refusal why.which (why_of why)).text result }
@@ -216,7 +215,7 @@ pub(crate) fn write_unread<W: Sink>(which: Which, out: &mut W) -> Result<(), Fai
     write_pieces(&[b"cannot read ", which.word(), b"\n"], out)
 }
 
-/// Writes, behind a text, `NUMBER refused: `, and why it is refused.
+/// Writes a line of a text, of `NUMBER refused: `, and of why something is refused.
 fn write_refused_behind<W: Sink>(
     before: &'static [u8],
     number: u64,

@@ -1,12 +1,12 @@
 -- From the reason of a refusal to the stop of a run.
-use Rattle.std.proofs.Common.{◌≡◌, ◌∙◌, ◌⊎◌, inl, inr, refl, sym, ap, subst, ℕ, List, codes, Option, Some, None, Result, Err}
+use Rattle.std.proofs.Common.{◌≡◌, ◌∙◌, ◌⊎◌, inl, inr, sym, ap, subst, ℕ, List, codes, Option, Some, None, Result, Err}
 use Rattle.plain_types.specs.Limits.{most_text}
 use Rattle.plain_types.specs.Reasons.{PlainReason, refused_at}
 use Rattle.run_texts.specs.declared.texts.Which.{Which}
 use Rattle.run_texts.specs.declared.texts.Refusal.{Refusal}
 use Rattle.run_texts.specs.declared.texts.Stop.{Stop}
 use Rattle.run_texts.specs.declared.texts.Stop.TheVariants.{Refused, Unread, OutOfMemory}
-use Rattle.run_texts.specs.Texts.{Said, named, refused, reason_text, IsRefusalText, ReaderSays, SourceSays, too_long}
+use Rattle.run_texts.specs.Texts.{named, refused, reason_text, IsRefusalText, ReaderSays, SourceSays, too_long}
 use Rattle.run_texts.specs.Refusing.{reason_in, why_of, IsStopOf, StopsReading, StopsText}
 
 -- a reader that refuses the bytes refuses them for the reason of its error. Want of memory has no place
