@@ -102,51 +102,51 @@ followed first p second q third r fourth more = first ++ (p ++ (second ++ (q ++ 
 apart : (first p second q third r fourth more : List ℕ) → followed first p second q third r fourth more ≡ in_a_row first p second q third r fourth ++ more
 apart first p second q third r fourth more = simp append_assoc
 
-all_in_a_row : (a b c names opens numbers closes at digits plus inner end : List ℕ)
-    → a ++ (b ++ (c ++ (names ++ (opens ++ (numbers ++ (closes ++ (at ++ (digits ++ (plus ++ (inner ++ end)))))))))) ≡ a ++ b ++ c ++ ((names ++ opens ++ numbers ++ closes) ++ (at ++ (digits ++ (plus ++ inner)))) ++ end
-all_in_a_row a b c names opens numbers closes at digits plus inner end = simp append_assoc
+all_in_a_row : (a b n c names opens numbers closes at digits plus inner end : List ℕ)
+    → a ++ (b ++ (n ++ (c ++ (names ++ (opens ++ (numbers ++ (closes ++ (at ++ (digits ++ (plus ++ (inner ++ end))))))))))) ≡ a ++ (b ++ n) ++ c ++ ((names ++ opens ++ numbers ++ closes) ++ (at ++ (digits ++ (plus ++ inner)))) ++ end
+all_in_a_row a b n c names opens numbers closes at digits plus inner end = simp append_assoc
 
 -- the pieces of the line
-abbrev pub row : (front middle behind name a second_name b third_name c fourth_name number d second e third f fourth at place plus inner : List ℕ) → List ℕ
-row front middle behind name a second_name b third_name c fourth_name number d second e third f fourth at place plus inner =
-    front ++ (middle ++ (behind ++ followed name a second_name b third_name c fourth_name
-    (codes " (" ++ followed number d second e third f fourth (codes ")" ++ (at ++ (place ++ (plus ++ (inner ++ codes "\n"))))))))
+abbrev pub row : (front word digits behind name a second_name b third_name c fourth_name number d second e third f fourth at place plus inner : List ℕ) → List ℕ
+row front word digits behind name a second_name b third_name c fourth_name number d second e third f fourth at place plus inner =
+    front ++ (word ++ (digits ++ (behind ++ followed name a second_name b third_name c fourth_name
+    (codes " (" ++ followed number d second e third f fourth (codes ")" ++ (at ++ (place ++ (plus ++ (inner ++ codes "\n")))))))))
 
-abbrev pub row_of : (front middle behind : List ℕ) → Told → List ℕ
-row_of front middle behind told =
+abbrev pub row_of : (front word digits behind : List ℕ) → Told → List ℕ
+row_of front word digits behind told =
     let c = told.causes in
     let both = inner_behind told.place told.inner in
-    row front middle behind c.first.name.now (point_text c.second) (name_text c.second) (point_text c.third) (name_text c.third) (point_text c.fourth) (name_text c.fourth)
+    row front word digits behind c.first.name.now (point_text c.second) (name_text c.second) (point_text c.third) (name_text c.third) (point_text c.fourth) (name_text c.fourth)
     (decimal c.first.number) (point_text c.second) (number_text c.second) (point_text c.third) (number_text c.third) (point_text c.fourth) (number_text c.fourth)
     (at_text told.place) (digits_text told.place) (plus_text both) (digits_text both)
 
-pub line_of : (front middle behind : List ℕ) (told : Told) → row_of front middle behind told ≡ reason_line front middle behind (reason_told told)
+pub line_of : (front word digits behind : List ℕ) (told : Told) → row_of front word digits behind told ≡ reason_line front (word ++ digits) behind (reason_told told)
 unfolding reason_line
-line_of front middle behind told =
+line_of front word digits behind told =
     let c = told.causes in
     let both = inner_behind told.place told.inner in
     let places : List ℕ = codes ")" ++ (at_text told.place ++ (digits_text told.place ++ (plus_text both ++ (digits_text both ++ codes "\n")))) in
     let numbers : List ℕ = followed (decimal c.first.number) (point_text c.second) (number_text c.second) (point_text c.third) (number_text c.third) (point_text c.fourth) (number_text c.fourth) places in
-    ap (λ (l : List ℕ). front ++ (middle ++ (behind ++ l)))
+    ap (λ (l : List ℕ). front ++ (word ++ (digits ++ (behind ++ l))))
     (apart c.first.name.now (point_text c.second) (name_text c.second) (point_text c.third) (name_text c.third) (point_text c.fourth) (name_text c.fourth) (codes " (" ++ numbers)
     ∙ (ap (λ (l : List ℕ). l ++ (codes " (" ++ numbers)) (names_row c)
     ∙ ap (λ (l : List ℕ). names_of (listed_causes c) ++ (codes " (" ++ l))
     (apart (decimal c.first.number) (point_text c.second) (number_text c.second) (point_text c.third) (number_text c.third) (point_text c.fourth) (number_text c.fourth) places
     ∙ ap (λ (l : List ℕ). l ++ places) (numbers_row c))))
-    ∙ (all_in_a_row front middle behind (names_of (listed_causes c)) (codes " (") (numbers_of (listed_causes c)) (codes ")") (at_text told.place) (digits_text told.place) (plus_text both) (digits_text both) (codes "\n")
-    ∙ ap (λ (l : List ℕ). front ++ middle ++ behind ++ l ++ codes "\n") (behind_reason (written (reason_told told)) told.place told.inner))
+    ∙ (all_in_a_row front word digits behind (names_of (listed_causes c)) (codes " (") (numbers_of (listed_causes c)) (codes ")") (at_text told.place) (digits_text told.place) (plus_text both) (digits_text both) (codes "\n")
+    ∙ ap (λ (l : List ℕ). front ++ (word ++ digits) ++ behind ++ l ++ codes "\n") (behind_reason (written (reason_told told)) told.place told.inner))
 
 -- the line of a text that is refused
-pub refusal_line : (which : Which) (word : List ℕ) (told why : PlainReason) → word ≡ word_of which → told ≡ why → reason_line (codes "refused ") word (codes ": ") told ≡ (refusal which (reason_text why)).text
+pub refusal_line : (which : Which) (word : List ℕ) (told why : PlainReason) → word ≡ word_of which → told ≡ why → reason_line (codes "refused ") (word ++ []) (codes ": ") told ≡ (refusal which (reason_text why)).text
 unfolding reason_line
 refusal_line which word told why w s =
-    ap (λ (l : List ℕ). codes "refused " ++ l ++ codes ": " ++ reason_text told ++ codes "\n") w
+    ap (λ (l : List ℕ). codes "refused " ++ l ++ codes ": " ++ reason_text told ++ codes "\n") (append-nil word ∙ w)
     ∙ ap (λ (x : PlainReason). codes "refused " ++ word_of which ++ codes ": " ++ reason_text x ++ codes "\n") s
 
 -- the line of what has a number
-pub numbered_line : (before digits : List ℕ) (number : ℕ) (why : PlainReason) → digits ≡ decimal number → reason_line before digits (codes " refused: ") why ≡ refused_behind before number (reason_text why)
+pub numbered_line : (before : List ℕ) (number : ℕ) (why : PlainReason) → reason_line before (decimal number) (codes " refused: ") why ≡ refused_behind before number (reason_text why)
 unfolding reason_line refused_behind
-numbered_line before digits number why d = ap (λ (l : List ℕ). before ++ l ++ codes " refused: " ++ reason_text why ++ codes "\n") d
+numbered_line before number why = refl
 
 -- a step that is no refused command is told by its own reason
 pub by_itself : (why : HistoryError) → ((e : EditError) → why ≡ Edit e → ⊥) → step_reason why ≡ step_told why

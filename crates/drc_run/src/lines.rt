@@ -1,8 +1,7 @@
 //! Lines that stand in the place of reports.
 
-ghost use Rattle.std.specs.Prelude.{◌≡◌};
+ghost use Rattle.std.specs.Prelude.{◌≡◌, ◌++◌};
 ghost use Rattle.drc_io.specs.Sinks.{Wrote};
-ghost use Rattle.drc_state.specs.Reasons.{edit_reason};
 ghost use Rattle.run_texts.specs.Texts.{reason_text};
 ghost use Rattle.run_texts.specs.Refusing.{plus_text, digits_text, reason_in, why_of};
 ghost use Rattle.drc_run.specs.Output.{refusal, cannot_read};
@@ -27,7 +26,7 @@ struct Told {
     inner: Option<u32>,
 }
 
-/// Why it is refused, of an error.
+/// Why something is refused, as its error has it.
 fn told_of<E: HasReason>(error: &E) -> Told
     ensures { reason_told result ≡ E.reason_of error.now }
 {
@@ -110,6 +109,16 @@ fn place_digits(place: Option<u32>, digits: &mut Buffer) -> &[u8]
     }
 }
 
+/// The digits of a number.
+fn digits_of(number: Option<u64>, digits: &mut Buffer) -> &[u8]
+    ensures { result.now ≡ digits_text number }
+{
+    match number {
+        Some(number) => digits.format(number).as_bytes(),
+        None => b"",
+    }
+}
+
 /// What stands before a place.
 fn at(place: Option<u32>) -> &'static [u8]
     ensures { result.now ≡ at_text place }
@@ -130,20 +139,22 @@ fn inner_behind(place: Option<u32>, inner: Option<u32>) -> Option<u32>
     }
 }
 
-/// Writes a line of three texts and of why something is refused, as `NAME (NUMBER)`, behind that ` at PLACE` where there is
+/// Writes a line: a text, a word, a number where there is one, a text, and why something is refused, as `NAME (NUMBER)`, behind that ` at PLACE` where there is
 /// a place, and for a condition ` + PLACE`. The names have points between them, and so have the numbers.
 fn write_reason<W: Sink>(
-    front: &[u8],
-    middle: &[u8],
-    behind: &[u8],
+    front: &'static [u8],
+    word: &'static [u8],
+    number: Option<u64>,
+    behind: &'static [u8],
     told: Told,
     out: &mut W,
 ) -> Result<(), Failed>
     ensures { Wrote W.written W.faults out.old out.new
-        (reason_line front.now middle.now behind.now (reason_told told)) result }
+        (reason_line front.now (word.now ++ digits_text number) behind.now (reason_told told)) result }
 {
     let causes = told.causes;
     let inner = inner_behind(told.place, told.inner);
+    let mut digits_of_number = Buffer::new();
     let mut digits = Buffer::new();
     let mut second_digits = Buffer::new();
     let mut third_digits = Buffer::new();
@@ -153,7 +164,8 @@ fn write_reason<W: Sink>(
     write_pieces(
         &[
             front,
-            middle,
+            word,
+            digits_of(number, &mut digits_of_number),
             behind,
             causes.first.name.as_bytes(),
             point(causes.second),
@@ -181,12 +193,19 @@ fn write_reason<W: Sink>(
     )
 }
 
-/// Writes `refused WHICH: `, and why it is refused.
+/// Writes the line of a text that is refused: `refused WHICH: `, and why.
 pub(crate) fn write_refusal<W: Sink>(why: Refusal, out: &mut W) -> Result<(), Failed>
     ensures { Wrote W.written W.faults out.old out.new
         (refusal why.which (why_of why)).text result }
 {
-    write_reason(b"refused ", why.which.word(), b": ", told_in(why), out)
+    write_reason(
+        b"refused ",
+        why.which.word(),
+        None,
+        b": ",
+        told_in(why),
+        out,
+    )
 }
 
 /// Writes `cannot read WHICH`.
@@ -196,7 +215,7 @@ pub(crate) fn write_unread<W: Sink>(which: Which, out: &mut W) -> Result<(), Fai
     write_pieces(&[b"cannot read ", which.word(), b"\n"], out)
 }
 
-/// Writes, behind a text, `NUMBER refused: `, and why it is refused.
+/// Writes a line of a text, of `NUMBER refused: `, and of why something is refused.
 fn write_refused_behind<W: Sink>(
     before: &'static [u8],
     number: u64,
@@ -206,14 +225,7 @@ fn write_refused_behind<W: Sink>(
     ensures { Wrote W.written W.faults out.old out.new
         (refused_behind before.now number (reason_text (reason_told told))) result }
 {
-    let mut digits = Buffer::new();
-    write_reason(
-        before,
-        digits.format(number).as_bytes(),
-        b" refused: ",
-        told,
-        out,
-    )
+    write_reason(before, b"", Some(number), b" refused: ", told, out)
 }
 
 /// Writes the line of the command of this number, which is refused: `command NUMBER refused: `, and why.

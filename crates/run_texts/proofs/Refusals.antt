@@ -1,19 +1,13 @@
 -- From the reason of a refusal to the stop of a run.
-use Rattle.std.proofs.Common.{◌≡◌, ◌∙◌, ◌⊎◌, inl, inr, refl, sym, ap, subst, ℕ, List, codes, Option, Some, None, Result, Err}
+use Rattle.std.proofs.Common.{◌≡◌, ◌∙◌, ◌⊎◌, inl, inr, sym, ap, subst, ℕ, List, codes, Option, Some, None, Result, Err}
 use Rattle.plain_types.specs.Limits.{most_text}
-use Rattle.plain_types.specs.Reasons.{PlainCause, PlainReason, refused_at}
+use Rattle.plain_types.specs.Reasons.{PlainReason, refused_at}
 use Rattle.run_texts.specs.declared.texts.Which.{Which}
 use Rattle.run_texts.specs.declared.texts.Refusal.{Refusal}
 use Rattle.run_texts.specs.declared.texts.Stop.{Stop}
 use Rattle.run_texts.specs.declared.texts.Stop.TheVariants.{Refused, Unread, OutOfMemory}
-use Rattle.run_texts.specs.Texts.{Said, named, refused, reason_text, IsRefusalText, ReaderSays, SourceSays, too_long}
+use Rattle.run_texts.specs.Texts.{named, refused, reason_text, IsRefusalText, ReaderSays, SourceSays, too_long}
 use Rattle.run_texts.specs.Refusing.{reason_in, why_of, IsStopOf, StopsReading, StopsText}
-
-pub same_reason : (why : PlainReason) (causes : List PlainCause) (place inner : Option ℕ) → causes ≡ why.causes → place ≡ why.place → inner ≡ why.inner_place → record { causes = causes; place = place; inner_place = inner } ≡ why
-same_reason why causes place inner c p i =
-    ap (λ (x : List PlainCause). record { causes = x; place = place; inner_place = inner }) c
-    ∙ (ap (λ (x : Option ℕ). record { causes = why.causes; place = x; inner_place = inner }) p
-    ∙ ap (λ (x : Option ℕ). record { causes = why.causes; place = why.place; inner_place = x }) i)
 
 -- a reader that refuses the bytes refuses them for the reason of its error. Want of memory has no place
 module _ {A E : Type 0} (reason : E → PlainReason) (none : E) (nowhere : (reason none).place ≡ None) (Says : Result A E → Type 0) where
