@@ -58,7 +58,7 @@ alone_if true x y h k = h
 alone_if false x y h k = k
 
 alone_short : (ts : List Tree) → AllShort ts → NearShort (alone ts)
-alone_short [] h = tt
+alone_short [] h = omega arith
 alone_short (t ∷ []) h = alone_if (is_list t) _ _ h.0 (near_place t h.0)
 alone_short (t ∷ u ∷ us) h = alone_if (is_list t) _ _ (near_place u h.1.0) (near_place t h.0)
 
