@@ -1,5 +1,5 @@
 -- How far an item is moved from one place on the board to another.
-use Rattle.std.proofs.Common.{◌≡◌, ℤ, Bool, true, false, ◌&&◌, pos, ◌+ℤ◌, neg_ℤ, unsigned_abs, ◌≤◌, arith}
+use Rattle.std.proofs.Common.{◌≡◌, refl, ℤ, Bool, true, false, ◌&&◌, pos, ◌+ℤ◌, neg_ℤ, unsigned_abs, ◌≤◌, arith}
 use Rattle.std.specs.Int.Signed.{le_z}
 use Rattle.std.proofs.lemmas.Bool.{and_parts}
 use Rattle.std.proofs.lemmas.Int.{ints}

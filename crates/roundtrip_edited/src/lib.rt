@@ -3,4 +3,4 @@
 #![tactic(auto)]
 
 pub mod laws;
-pub mod units;
+pub mod unit_laws;

@@ -2,5 +2,5 @@
 //! the readers' definitions alone: no function here does anything.
 #![tactic(auto)]
 
-pub mod footprints;
-pub mod pads;
+pub mod footprint_laws;
+pub mod pad_laws;

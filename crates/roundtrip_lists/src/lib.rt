@@ -3,6 +3,6 @@
 //! definitions alone: no function here does anything.
 #![tactic(auto)]
 
-pub mod courts;
-pub mod drawings;
-pub mod lists;
+pub mod court_laws;
+pub mod drawing_laws;
+pub mod list_laws;

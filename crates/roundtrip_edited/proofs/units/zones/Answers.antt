@@ -1,7 +1,0 @@
-use Rattle.std.proofs.Common.{sym}
-use Rattle.roundtrip_edited.proofs.Zones.{zone_carried}
-use Rattle.roundtrip_edited.proofs.units.zones.Goals as goal
-
-pub returns : goal.returns
-returns c o board other unit own i j s r ground alike items now become says room =
-    sym (zone_carried o board other unit own i j s r items now (sym ground.copper) ground.names alike become room (sym says))

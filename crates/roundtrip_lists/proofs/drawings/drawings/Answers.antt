@@ -1,5 +1,0 @@
-use Rattle.roundtrip_lists.proofs.Drawings.{drawing_alike}
-use Rattle.roundtrip_lists.proofs.drawings.drawings.Goals as goal
-
-pub returns : goal.returns
-returns c = drawing_alike

@@ -1,5 +1,0 @@
-use Rattle.roundtrip_lists.proofs.Placed.{graphic_of, text_of_unit}
-use Rattle.roundtrip_lists.proofs.drawings.places.Goals as goal
-
-pub returns : goal.returns
-returns c = record { graphics = graphic_of; notes = text_of_unit }

@@ -1,5 +1,0 @@
-use Rattle.roundtrip_lists.proofs.Elements.{heads_alike, element_alike}
-use Rattle.roundtrip_lists.proofs.lists.elements.Goals as goal
-
-pub returns : goal.returns
-returns c = record { heads = heads_alike; found = element_alike }
