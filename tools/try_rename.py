@@ -10,7 +10,7 @@ FILES = {
     'crates/low/src/lib.rt': '//! `told` tells, and was told so.\nmod told;\npub fn told(n: u32) -> u32 { told::said(n, \'a\', "told // told") } // told or `told`\nfn told_apart<\'told>() {} // "told"\n',
     'crates/low/src/told.rt': 'pub(crate) fn said(n: u32) -> u32 { n }\n',
     'crates/low/specs/Lib.antt': "-- what `IsTold` says: told\nabbrev pub IsTold : ℕ → Type 0\nIsTold n = n ≡ is-told ∙ in_ok-told.ensures ∙ told' ∙ sold -- IsTold\n",
-    'crates/low/proofs/root/told/Answers.antt': 'use Rattle.low.proofs.root.told.Goals as goal\npub told-requires : goal.told-requires\n',
+    'crates/low/proofs/front/told/Answers.antt': 'use Rattle.low.proofs.front.told.Goals as goal\npub told-requires : goal.told-requires\n',
     'crates/low/must-fail/told.edit': '# told and `told`\nfile: src/told.rt\nold: told::said(n)\nnew: told::said(n + 1)\n',
     'crates/high/src/lib.rt': 'use low::told;\nghost use Rattle.low.specs.Lib.{IsTold};\n',
     'crates/other/src/lib.rt': 'fn told() {}\nfn sold() {}\n',
@@ -23,14 +23,14 @@ WANTED = {
     'crates/low/src/lib.rt': '//! `number_of` tells, and was told so.\nmod number_of;\npub fn number_of(n: u32) -> u32 { number_of::said(n, \'a\', "told // told") } // told or `number_of`\nfn told_apart<\'told>() {} // "told"\n',
     'crates/low/src/number_of.rt': FILES['crates/low/src/told.rt'],
     'crates/low/specs/Lib.antt': "-- what `IsNumber` says: told\nabbrev pub IsNumber : ℕ → Type 0\nIsNumber n = n ≡ is-number_of ∙ in_ok-number_of.ensures ∙ told' ∙ sold -- IsTold\n",
-    'crates/low/proofs/root/number_of/Answers.antt': 'use Rattle.low.proofs.root.number_of.Goals as goal\npub number_of-requires : goal.number_of-requires\n',
+    'crates/low/proofs/front/number_of/Answers.antt': 'use Rattle.low.proofs.front.number_of.Goals as goal\npub number_of-requires : goal.number_of-requires\n',
     'crates/low/must-fail/told.edit': '# told and `number_of`\nfile: src/number_of.rt\nold: number_of::said(n)\nnew: number_of::said(n + 1)\n',
     'crates/high/src/lib.rt': 'use low::number_of;\nghost use Rattle.low.specs.Lib.{IsNumber};\n',
     'bench/plants/high/one.edit': '# told\n# refused: number_of\nfile: src/lib.rt\nold: low::number_of\nnew: low::told2\n',
     'docs/PAGE.md': 'What was told by `number_of`:\n\n```\nnumber_of\n```\n',
     'tools/notions.txt': '# told\nlow/IsNumber: number_of\n', 'tools/style.txt': '# told\nhidden low/src/number_of.rt said\n',
 }
-for gone in ('crates/low/src/told.rt', 'crates/low/proofs/root/told/Answers.antt'):
+for gone in ('crates/low/src/told.rt', 'crates/low/proofs/front/told/Answers.antt'):
     del WANTED[gone]
 
 
@@ -75,7 +75,7 @@ def all_of(tries):
             tries.same('a table that is refused: ' + table, copy.rename(table), (1, wanted))
         tries.same('nothing written', copy.texts(), FILES)
         table = '# the word and the claim\ntold number_of low\nIsTold IsNumber\n'
-        moves = 'crates/low/proofs/root/told/Answers.antt -> crates/low/proofs/root/number_of/Answers.antt\ncrates/low/src/told.rt -> crates/low/src/number_of.rt\n'
+        moves = 'crates/low/proofs/front/told/Answers.antt -> crates/low/proofs/front/number_of/Answers.antt\ncrates/low/src/told.rt -> crates/low/src/number_of.rt\n'
         last = '26 words in 9 files, 2 files with other names'
         tries.same('a table that is tried', copy.rename(table, '--try'), (0, moves + last + ': not written\n'))
         tries.same('nothing written for it', copy.texts(), FILES)
@@ -83,7 +83,7 @@ def all_of(tries):
         found = copy.texts()
         for name in sorted(found.keys() | WANTED.keys()):
             tries.same('renamed: ' + name, found.get(name), WANTED.get(name))
-        tries.true('no folder without a file', not os.path.exists(os.path.join(path, 'crates/low/proofs/root/told')))
+        tries.true('no folder without a file', not os.path.exists(os.path.join(path, 'crates/low/proofs/front/told')))
         # Back again, and names that change places.
         tries.same('back', copy.rename('number_of told low\nIsNumber IsTold\n')[0], 0)
         tries.same('as it was', copy.texts(), FILES)
