@@ -160,8 +160,10 @@ def table(log):
     chain, names = longest_chain(seconds)
     on = run['machine']
     text = [
-        'Measured with `%s` on %d processors (%s) with %d GB, in %d minutes by the clock%s.' % (
-            on['kit'], on['processors'], on['model'], on['memory'], run['wall'] / 60, '; its last line was `%s`' % run['last'] if run['last'] else ''),
+        'Measured with `%s` on %d processors (%s) with %d GB%s%s.' % (
+            on['kit'], on['processors'], on['model'], on['memory'],
+            ', in %d minutes by the clock' % (run['wall'] / 60) if run['wall'] else '',
+            '; its last line was `%s`' % run['last'] if run['last'] else ''),
         '',
         *rows,
         '',
