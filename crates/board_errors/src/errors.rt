@@ -22,7 +22,7 @@ pub enum ItemError {
 }
 
 impl HasReason for ItemError {
-    ghost use Rattle.board_errors.specs.Reasons.{item_reason};
+    ghost use Rattle.board_errors.specs.BoardReasons.{item_reason};
 
     ghost reason_of = { item_reason };
 
@@ -44,7 +44,7 @@ impl HasReason for ItemError {
 impl fmt::Display for ItemError {
     ghost use Rattle.std.specs.Prelude.{Some};
     ghost use Rattle.plain_types.specs.Reasons.{written};
-    ghost use Rattle.board_errors.specs.Reasons.{item_reason};
+    ghost use Rattle.board_errors.specs.BoardReasons.{item_reason};
 
     ghost output = { λ e. Some (written (item_reason e)) };
 
@@ -114,7 +114,7 @@ pub enum BoardError {
 }
 
 impl HasReason for BoardError {
-    ghost use Rattle.board_errors.specs.Reasons.{board_reason};
+    ghost use Rattle.board_errors.specs.BoardReasons.{board_reason};
 
     ghost reason_of = { board_reason };
 
@@ -146,7 +146,7 @@ impl HasReason for BoardError {
 impl fmt::Display for BoardError {
     ghost use Rattle.std.specs.Prelude.{Some};
     ghost use Rattle.plain_types.specs.Reasons.{written};
-    ghost use Rattle.board_errors.specs.Reasons.{board_reason};
+    ghost use Rattle.board_errors.specs.BoardReasons.{board_reason};
 
     ghost output = { λ e. Some (written (board_reason e)) };
 

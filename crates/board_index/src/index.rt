@@ -2,7 +2,7 @@
 
 ghost use Rattle.std.specs.Prelude.{◌≡◌, ◌≤ℤ◌, pos, IfOk};
 ghost use Rattle.plain_types.specs.Lengths.{greatest};
-ghost use Rattle.board_index.specs.Holding.{IsIndexOfItems};
+ghost use Rattle.board_index.specs.IndexedItems.{IsIndexOfItems};
 
 use board_items::{Board, Nm};
 use box_index::TileIndex;

@@ -4,7 +4,7 @@ ghost use Rattle.std.specs.Prelude.{◌≡◌, ℕ, ℤ, List, true};
 ghost use Rattle.geo_seg.specs.declared.boxes.Bounds.{Bounds};
 ghost use Rattle.board_items.specs.Boards.{PlainBoard};
 ghost use Rattle.box_index.specs.Tiles.{PlainIndex, held_of, dirty_of};
-ghost use Rattle.board_index.specs.Holding.{IsIndexOfItems};
+ghost use Rattle.board_index.specs.IndexedItems.{IsIndexOfItems};
 ghost use Rattle.board_index.specs.TilesHeld.{AreTilesHeld};
 
 /// The tiles that an index of a board's items holds, and all its dirty tiles, are those that hold an item of the board.

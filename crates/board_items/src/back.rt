@@ -3,7 +3,7 @@
 ghost use Rattle.std.specs.Prelude.{◌≡◌, true, set, if◌then◌else◌, ◌<◌, ◌≤◌, ◌+◌, ◌++◌, ◌&&◌, [], Some, map, filter, not, nat_eq, length, vec_len, vec_capacity, IfOk, OnOk, IfErr, OnErr};
 ghost use Rattle.board_items.specs.Boards.{IsSound, item_at};
 ghost use Rattle.std.specs.List.{insert};
-ghost use Rattle.board_items.specs.Slots.{UnitsRise};
+ghost use Rattle.board_items.specs.ItemSlots.{UnitsRise};
 ghost use Rattle.board_items.specs.Units.{without_unit};
 ghost use Rattle.board_items.specs.Back.{kept_entry, entries_of, own_at, id_placed, placed, FitsOne, FitsBack, IsPutBack};
 ghost use Rattle.board_items.specs.declared.item.Item.{Item};
@@ -72,7 +72,7 @@ impl Board {
     /// Takes the item with this id out if it is of the unit, and appends it.
     fn take_own(&mut self, id: u32, unit: u32, items: &mut Vec<Kept>)
         requires id { id < self.old.next_id }
-        requires room { vec_len items.old + length (own_at id unit self.old.items) ≤ vec_capacity items.old }
+        requires spare_capacity { vec_len items.old + length (own_at id unit self.old.items) ≤ vec_capacity items.old }
         ensures taken { self.new ≡ record self.old {
           items = filter
               (λ entry. not (nat_eq entry.0 id && nat_eq entry.1.unit unit)) self.old.items;
@@ -128,7 +128,7 @@ fn put_if(ids: &mut Vec<u32>, id: u32, listed: bool)
 }
 
 /// Makes room for one more in each list.
-pub(crate) fn make_room(
+pub(crate) fn reserve_one(
     marks: &mut Vec<u32>,
     notes: &mut Vec<u32>,
     ids: &mut Vec<u32>,
@@ -197,7 +197,7 @@ impl Board {
             return Err(kept);
         };
         let ids = &mut self.of_nets[place];
-        if make_room(&mut self.marks, &mut self.notes, ids).is_err() {
+        if reserve_one(&mut self.marks, &mut self.notes, ids).is_err() {
             return Err(kept);
         }
         let id = kept.id;

@@ -2,7 +2,7 @@
 
 ghost use Rattle.std.specs.Prelude.{◌≡◌, IfOk, map, Vec, ℕ};
 ghost use Rattle.std.specs.declared.alloc.Global.{Global};
-ghost use Rattle.board_items.specs.Walks.{nets_left};
+ghost use Rattle.board_items.specs.BoardIterators.{nets_left};
 ghost use Rattle.board_items.specs.Boards.{AreDistinct};
 
 use crate::board::Board;

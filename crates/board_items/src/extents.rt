@@ -5,7 +5,7 @@ ghost use Rattle.geo_seg.specs.declared.boxes.Bounds.{Bounds};
 ghost use Rattle.geo_seg.specs.Boxes.{FitsShape};
 ghost use Rattle.board_items.specs.declared.parts.Part.{Part};
 ghost use Rattle.board_items.specs.Extents.{AreBoundsOf};
-ghost use Rattle.board_items.specs.Parts.{parts_of, hole_parts, kind_parts};
+ghost use Rattle.board_items.specs.ItemParts.{parts_of, hole_parts, kind_parts};
 
 use crate::item::{Hole, Item, What};
 use crate::parts::Part;

@@ -4,9 +4,9 @@ ghost use Rattle.std.specs.Prelude.{◌≡◌, ◌≤◌, ◌+ℤ◌, ◌*ℤ◌
 ghost use Rattle.std.specs.List.{AllZip, list_all};
 ghost use Rattle.geo_seg.specs.Shifts.{core_stays};
 ghost use Rattle.board_items.specs.Boards.{is_near, is_on_board};
-ghost use Rattle.board_items.specs.Parts.{parts_of, hole_parts, kind_parts, HasPoints, FirstHasPoints};
-ghost use Rattle.board_items.specs.Moves.{is_note, moves, item_stays, IsShiftedItem, IsShiftedPart, AreShifted, HoleIsShifted, KindIsShifted};
-ghost use Rattle.board_items.specs.Slots.{IsUnitIn, AreUnitsIn, ArePlacesOf, is_slot_on_board, slot_stays, IsMovedItem, IsMovedSlot};
+ghost use Rattle.board_items.specs.ItemParts.{parts_of, hole_parts, kind_parts, HasPoints, FirstHasPoints};
+ghost use Rattle.board_items.specs.ItemMoves.{is_note, moves, item_stays, IsShiftedItem, IsShiftedPart, AreShifted, HoleIsShifted, KindIsShifted};
+ghost use Rattle.board_items.specs.ItemSlots.{IsUnitIn, AreUnitsIn, ArePlacesOf, is_slot_on_board, slot_stays, IsMovedItem, IsMovedSlot};
 
 use crate::board::is_near;
 use crate::item::{Hole, Item, Nm, What};

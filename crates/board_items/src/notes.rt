@@ -2,8 +2,8 @@
 
 ghost use Rattle.std.specs.Prelude.{◌≡◌, ◌<◌, ◌++◌, ◌∷◌, [], true, length, get_or};
 ghost use Rattle.std.specs.Option.{option_copied};
-ghost use Rattle.board_items.specs.Slots.{present, IsUnitIn, AreUnitsIn, UnitsRise};
-ghost use Rattle.board_items.specs.Notes.{is_body_of, body_before, only_body};
+ghost use Rattle.board_items.specs.ItemSlots.{present, IsUnitIn, AreUnitsIn, UnitsRise};
+ghost use Rattle.board_items.specs.ItemNotes.{is_body_of, body_before, only_body};
 
 use crate::item::Item;
 

@@ -19,7 +19,7 @@ pub enum WriteError {
 }
 
 impl HasReason for WriteError {
-    ghost use Rattle.board_write.specs.Reasons.{write_reason};
+    ghost use Rattle.board_write.specs.WriteReasons.{write_reason};
 
     ghost reason_of = { write_reason };
 
@@ -38,7 +38,7 @@ impl HasReason for WriteError {
 
 impl From<BoardError> for WriteError {
     ghost use Rattle.std.specs.Prelude.{◌≡◌};
-    ghost use Rattle.board_write.specs.Causes.{write_error};
+    ghost use Rattle.board_write.specs.WriteErrors.{write_error};
 
     ghost from_gives = { λ why e. e ≡ write_error why };
 
@@ -75,7 +75,7 @@ impl From<Failed> for WriteError {
 impl fmt::Display for WriteError {
     ghost use Rattle.std.specs.Prelude.{Some};
     ghost use Rattle.plain_types.specs.Reasons.{written};
-    ghost use Rattle.board_write.specs.Reasons.{write_reason};
+    ghost use Rattle.board_write.specs.WriteReasons.{write_reason};
 
     ghost output = { λ e. Some (written (write_reason e)) };
 

@@ -2,9 +2,9 @@
 
 ghost use Rattle.std.specs.Prelude.{◌≡◌, ℕ, List};
 ghost use Rattle.edit_script.specs.Commands.{PlainCommand};
-ghost use Rattle.board_write.specs.Answers.{Outcome};
+ghost use Rattle.board_write.specs.WriteResults.{Outcome};
 
-use board_edits::laws::{one_board, one_deed};
+use board_edits::laws::{one_board, one_operation};
 use pcb_read::laws::one_reading;
 use sexpr_read::laws::one_tree;
 
@@ -14,6 +14,6 @@ pub fn one_outcome()
 {
     one_tree();
     one_reading();
-    one_deed();
+    one_operation();
     one_board();
 }

@@ -2,11 +2,11 @@
 
 ghost use Rattle.std.specs.Prelude.{◌≡◌, ◌≤◌, unsigned_abs, IfSome, option_map, Some};
 ghost use Rattle.sexpr_read.specs.Tree.{value};
-ghost use Rattle.sexpr_read.specs.Views.{tree_of};
-ghost use Rattle.roundtrip_lists.specs.Alike.{is_place_head, place_moved, both};
+ghost use Rattle.sexpr_read.specs.TreeViews.{tree_of};
+ghost use Rattle.roundtrip_lists.specs.Translated.{is_place_head, place_moved, both};
 ghost use Rattle.board_write.specs.Marks.{plain_shift};
 ghost use Rattle.board_write.specs.Settings.{inside};
-ghost use Rattle.board_write.specs.Places.{atom_moved, numbers_of, StandsIn};
+ghost use Rattle.board_write.specs.MovedPlaces.{atom_moved, list_numbers, StandsIn};
 
 use crate::distance::Distance;
 use exact_dec::{Nm, mm_cut};
@@ -74,7 +74,7 @@ fn both<'d, 't>(
     y: Option<Number<'d, 't>>,
     rest: Children<'d, 't>,
 ) -> Option<Place<'d, 't>>
-    ensures numbers { option_map numbers_of result ≡ both (option_map (λ number. number.nm) x.entry) (option_map (λ number. number.nm) y.entry) }
+    ensures numbers { option_map list_numbers result ≡ both (option_map (λ number. number.nm) x.entry) (option_map (λ number. number.nm) y.entry) }
     ensures place { IfSome result (λ place. (x.entry ≡ Some place.x) × (y.entry ≡ Some place.y) × (place.head ≡ head.entry) × (place.rest ≡ rest.entry)) }
 {
     match x {
@@ -88,7 +88,7 @@ fn both<'d, 't>(
 
 /// The place of a list, moved, if it has one of which both numbers can be.
 fn place_of<'d, 't>(list: Node<'d, 't>, by: Distance) -> Option<Place<'d, 't>>
-    ensures numbers { option_map numbers_of result ≡ place_moved (plain_shift by) (inside (tree_of list.entry)) }
+    ensures numbers { option_map list_numbers result ≡ place_moved (plain_shift by) (inside (tree_of list.entry)) }
     ensures stands { IfSome result (StandsIn (inside (tree_of list.entry))) }
 {
     let mut rest = list.children();
@@ -103,9 +103,9 @@ fn place_of<'d, 't>(list: Node<'d, 't>, by: Distance) -> Option<Place<'d, 't>>
 
 impl Moving {
     ghost use Rattle.std.specs.Prelude.{◌≡◌, IfSome, option_map};
-    ghost use Rattle.sexpr_read.specs.Views.{tree_of};
+    ghost use Rattle.sexpr_read.specs.TreeViews.{tree_of};
     ghost use Rattle.board_write.specs.Settings.{inside, own_place, within, behind, unit_moving};
-    ghost use Rattle.board_write.specs.Places.{numbers_of, StandsIn};
+    ghost use Rattle.board_write.specs.MovedPlaces.{list_numbers, StandsIn};
 
     /// What is moved in the list of a unit: in a footprint its own place, in another all of them.
     pub fn of_unit(list: Node<'_, '_>, by: Distance) -> Moving
@@ -120,7 +120,7 @@ impl Moving {
 
     /// The place of a list itself, if it is moved.
     pub fn own_place<'d, 't>(self, list: Node<'d, 't>) -> Option<Place<'d, 't>>
-        ensures numbers { option_map numbers_of result ≡ own_place self (inside (tree_of list.entry)) }
+        ensures numbers { option_map list_numbers result ≡ own_place self (inside (tree_of list.entry)) }
         ensures stands { IfSome result (StandsIn (inside (tree_of list.entry))) }
     {
         match self {

@@ -3,7 +3,7 @@
 ghost use Rattle.std.specs.Prelude.{◌≡◌, ◌≤◌, ◌⊎◌, length, IfOk, IfErr, Ok, Err};
 ghost use Rattle.board_errors.specs.declared.errors.BoardError.{BoardError};
 ghost use Rattle.pcb_read.specs.BoardText.{BoardSays};
-ghost use Rattle.board_write.specs.Answers.{IsCauseBefore};
+ghost use Rattle.board_write.specs.WriteResults.{IsCauseBefore};
 ghost use Rattle.board_write.specs.Sources.{IsSource};
 ghost use Rattle.board_write.specs.declared.error.WriteError.{WriteError};
 

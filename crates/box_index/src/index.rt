@@ -4,7 +4,7 @@ ghost use Rattle.std.specs.Prelude.{◌≡◌, ◌<◌, ◌≤ℤ◌, pos, ◌&&
 ghost use Rattle.geo_seg.specs.Boxes.{widened, FitsIndex};
 ghost use Rattle.box_index.specs.declared.entry.Entry.{Entry};
 ghost use Rattle.box_index.specs.Areas.{has_tile};
-ghost use Rattle.box_index.specs.Spans.{HasAll};
+ghost use Rattle.box_index.specs.TileRanges.{HasAll};
 ghost use Rattle.box_index.specs.Tiles.{PlainIndex, IsSoundIndex, IsComplete, AnswersForNone, IsAbsent, OwnsBoth, meets_tile, near_of, owner_of, margin, placed, without, held_of, is_held, dirty_of, numbers_below, tile_count};
 
 use crate::area::Area;
@@ -40,7 +40,7 @@ pub struct TileIndex {
 impl Model for TileIndex {
     ghost use Rattle.std.specs.Prelude.{◌≡◌, length};
     ghost use Rattle.box_index.specs.Tiles.{PlainIndex, IsSoundIndex, near_of, held_of};
-    ghost use Rattle.box_index.specs.Shares.{AreShared, IsEvenAt};
+    ghost use Rattle.box_index.specs.SharedLists.{AreShared, IsEvenAt};
 
     ghost Value = { PlainIndex };
 
@@ -95,7 +95,7 @@ impl TileIndex {
     {
         let entry = Entry { id, bounds };
         let area = Area::around(2 * self.reach, bounds);
-        self.grid.make_room(area)?;
+        self.grid.reserve_one(area)?;
         self.boxes.put(entry)?;
         self.held += self.grid.vacant(area);
         self.grid.put(area, entry);

@@ -19,7 +19,7 @@ fn push_tile(
 ) -> Result<(), AllocError>
     ensures reached { OnOk result (HasReached bounds
         (near_of index.now tile) ids.old.items ids.new.items) }
-    ensures front { BeginsWith ids.old.items ids.new.items }
+    ensures prefix { BeginsWith ids.old.items ids.new.items }
 {
     for entry in index.near(tile) {
         if do_boxes_meet(bounds, entry.bounds) {
@@ -39,7 +39,7 @@ pub fn push_ids_near(
 ) -> Result<(), AllocError>
     requires { FitsIndex bounds }
     ensures reached { OnOk result (HasReached bounds index.now.entries ids.old.items ids.new.items) }
-    ensures front { BeginsWith ids.old.items ids.new.items }
+    ensures prefix { BeginsWith ids.old.items ids.new.items }
 {
     let area = index.area(bounds);
     let end = area.end();

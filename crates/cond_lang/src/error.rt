@@ -21,7 +21,7 @@ pub enum CondError {
 }
 
 impl HasReason for CondError {
-    ghost use Rattle.cond_lang.specs.Reasons.{cond_reason};
+    ghost use Rattle.cond_lang.specs.ConditionReasons.{cond_reason};
 
     ghost reason_of = { cond_reason };
 
@@ -65,7 +65,7 @@ impl<T: Drop> From<AllocFailed<T>> for CondError {
 impl fmt::Display for CondError {
     ghost use Rattle.std.specs.Prelude.{Some};
     ghost use Rattle.plain_types.specs.Reasons.{written};
-    ghost use Rattle.cond_lang.specs.Reasons.{cond_reason};
+    ghost use Rattle.cond_lang.specs.ConditionReasons.{cond_reason};
 
     ghost output = { λ e. Some (written (cond_reason e)) };
 

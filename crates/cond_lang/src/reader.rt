@@ -4,7 +4,7 @@ ghost use Rattle.std.specs.Prelude.{◌≡◌, ◌≤◌, ◌⊎◌, ◌*◌, �
 ghost use Rattle.plain_types.specs.Limits.{IsInText, IsReadable};
 ghost use Rattle.cond_lang.specs.Found.{read, fault};
 ghost use Rattle.cond_lang.specs.Trees.{CondTree, any, all, negated as negated_tree, cond_tree_of, trees_of};
-ghost use Rattle.cond_lang.specs.Grammar.{Spells};
+ghost use Rattle.cond_lang.specs.ConditionGrammar.{Spells};
 ghost use Rattle.cond_lang.specs.Conditions.{begins_with as begins_with_byte, shallow_at, chain, alternatives, negation as negation_of, disjunction, reading, twice};
 
 use crate::cond::{Cond, Conds};

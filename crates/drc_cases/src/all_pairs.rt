@@ -3,7 +3,7 @@
 ghost use Rattle.std.specs.Prelude.{◌≡◌, ◌<◌, IsTrue, All, OnOk, IfOk, map};
 ghost use Rattle.cond_lang.specs.Rules.{plain_rule};
 ghost use Rattle.pair_check.specs.Rows.{HasItems, HasSource};
-ghost use Rattle.pair_check.specs.Views.{IsWholeView};
+ghost use Rattle.pair_check.specs.CheckViews.{IsWholeView};
 
 use board_items::Board;
 use row_check::{CheckView, Row, Steps, test_item, test_pair};

@@ -7,7 +7,7 @@
 
 ghost use Rattle.std.specs.Prelude.{◌≡◌, ◌<◌, ◌≤◌, ◌^◌, ◌⊎◌, ℕ, List, Option, length, vec_len, IfOk, IfErr, IfSome, OnErr};
 ghost use Rattle.std.specs.Io.KnownBytes.{WriteAppends};
-ghost use Rattle.drc_io.specs.Causes.{HasCause, Rose};
+ghost use Rattle.drc_io.specs.FaultCounts.{HasCause, Rose};
 ghost use Rattle.drc_io.specs.Fetching.{Decides};
 ghost use Rattle.drc_io.specs.Files.{ReadsFrom, ReadsBehind, IsWholeFile, IsLonger, file_of};
 ghost use Rattle.drc_io.specs.Sinks.{Wrote};
@@ -93,7 +93,7 @@ pub enum FetchError {
 
 impl fmt::Display for FetchError {
     ghost use Rattle.std.specs.Prelude.{Some};
-    ghost use Rattle.drc_io.specs.Message.{message_of};
+    ghost use Rattle.drc_io.specs.FaultMessage.{message_of};
 
     ghost output = { λ error. Some (message_of error) };
 

@@ -1,5 +1,5 @@
 ghost use Rattle.std.specs.Prelude.{◌≡◌, ◌≤◌, ◌↔◌, ◌++◌, ℕ, List, Some, None, min, take, drop, length, IfOk, OnErr, IsErr, MatchOption, MatchResult, is_err};
-ghost use Rattle.drc_io.specs.Causes.{Rose};
+ghost use Rattle.drc_io.specs.FaultCounts.{Rose};
 ghost use Rattle.drc_io.specs.Files.{ReadsFrom, file_of};
 ghost use Rattle.drc_io.specs.Memory.{ShelfState, Misses, shown, after_read, bytes_from};
 

@@ -4,7 +4,7 @@ ghost use Rattle.std.specs.Prelude.{◌≡◌, false};
 ghost use Rattle.board_items.specs.Boards.{IsSound};
 ghost use Rattle.drc_state.specs.States.{checked_in};
 ghost use Rattle.drc_state.specs.Recheck.{IsHeldCount};
-ghost use Rattle.drc_run.specs.Running.{IsReported};
+ghost use Rattle.drc_run.specs.RunResults.{IsReported};
 
 use board_items::Board;
 use drc_io::{Failed, Sink};

@@ -1,12 +1,12 @@
 //! How a run ends: its status, and the last line of one that has no report.
 
 ghost use Rattle.std.specs.Prelude.{◌≡◌, ℕ, List, false, Option, MatchResult};
-ghost use Rattle.drc_io.specs.Causes.{Rose};
+ghost use Rattle.drc_io.specs.FaultCounts.{Rose};
 ghost use Rattle.run_words.specs.Calls.{nothing};
 ghost use Rattle.drc_run.specs.declared.status.Status.{Status};
 ghost use Rattle.drc_run.specs.Output.{IsStatusOf};
-ghost use Rattle.drc_run.specs.Refusing.{IsLineOf};
-ghost use Rattle.drc_run.specs.Endings.{Ends, EndsFor, IsTextOfOne, number_of};
+ghost use Rattle.drc_run.specs.RefusalLines.{IsLineOf};
+ghost use Rattle.drc_run.specs.RunEndings.{Ends, EndsFor, IsTextOfOne, number_of};
 
 use crate::lines::{write_refusal, write_unread};
 use drc_io::{Failed, Sink, put_all};

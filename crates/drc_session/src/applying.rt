@@ -4,11 +4,11 @@ ghost use Rattle.std.specs.Prelude.{◌≡◌, ◌<◌, true, false, OnOk, IfOk,
 ghost use Rattle.plain_types.specs.Limits.{IsWorkerCount};
 ghost use Rattle.edit_script.specs.Commands.{plain_command};
 ghost use Rattle.edit_script.specs.Fits.{Fits};
-ghost use Rattle.drc_state.specs.Steps.{is_rules};
-ghost use Rattle.board_edits.specs.Deeds.{GivesNoItem};
-ghost use Rattle.drc_state.specs.Changes.{plain_change, plain_edit, is_replace, no_change, ChangesNothing, Makes, ChangeFits, LeadsBack};
+ghost use Rattle.drc_state.specs.CommandSteps.{is_rules};
+ghost use Rattle.board_edits.specs.Operations.{GivesNoItem};
+ghost use Rattle.drc_state.specs.StateChanges.{plain_change, plain_edit, is_replace, no_change, ChangesNothing, Makes, ChangeFits, IsInverseChange};
 ghost use Rattle.drc_session.specs.Sessions.{IsApplied, IsDealt, IsCarriedOut, IsTurned, IsRefusedBy};
-ghost use Rattle.drc_session.specs.Holding.{state_of, IsKept};
+ghost use Rattle.drc_session.specs.SessionContents.{state_of, IsKept};
 
 use crate::applied::Applied;
 use crate::editing::edit_board;
@@ -40,14 +40,14 @@ fn carry_out<R: Threads + Sync, G: Gate>(
         IsApplied (state_of parts.old) (state_of parts.new) (is_replace (plain_edit edit)) r.0
         × IsDealt workers r.0) }
     ensures back { IfOk result (λ r.
-        LeadsBack (plain_change r.1) (state_of parts.new) (state_of parts.old)) }
+        IsInverseChange (plain_change r.1) (state_of parts.new) (state_of parts.old)) }
     ensures kind { IfOk result (λ r. is_replace (plain_change r.1) ≡ is_replace (plain_edit edit)) }
     ensures none { IfOk result (λ r. ChangesNothing (plain_edit edit)
         → plain_change r.1 ≡ no_change) }
 {
     match edit {
-        Edit::Board(deed) => {
-            let (applied, back) = edit_board(rt, alloc, workers, parts, deed, gate)?;
+        Edit::Board(operation) => {
+            let (applied, back) = edit_board(rt, alloc, workers, parts, operation, gate)?;
             Ok((applied, change_of(back)))
         }
         Edit::Rules(rules) => {
@@ -72,7 +72,7 @@ impl Session {
         ensures made { IfOk result (λ r. IsTurned self.old self.new (plain_edit edit) r.0
             × IsDealt workers r.0) }
         ensures back { IfOk result (λ r.
-            LeadsBack (plain_change r.1) self.new.state self.old.state) }
+            IsInverseChange (plain_change r.1) self.new.state self.old.state) }
         ensures kind { IfOk result (λ r. is_replace (plain_change r.1)
             ≡ is_replace (plain_edit edit)) }
         ensures none { IfOk result (λ r. ChangesNothing (plain_edit edit)
@@ -119,7 +119,7 @@ impl Session {
         ensures carried { IfOk result (λ r.
             IsCarriedOut self.old self.new (plain_command command.now) r.0 × IsDealt workers r.0) }
         ensures back { IfOk result (λ r.
-            LeadsBack (plain_change r.1) self.new.state self.old.state) }
+            IsInverseChange (plain_change r.1) self.new.state self.old.state) }
         ensures kind { IfOk result (λ r. is_replace (plain_change r.1)
             ≡ is_rules (plain_command command.now)) }
         ensures none { IfOk result (λ r.
@@ -158,7 +158,7 @@ impl Session {
         ensures made { IfOk result (λ r. IsTurned self.old self.new (plain_change change) r.0
             × IsDealt workers r.0) }
         ensures back { IfOk result (λ r.
-            LeadsBack (plain_change r.1) self.new.state self.old.state) }
+            IsInverseChange (plain_change r.1) self.new.state self.old.state) }
         ensures kind { IfOk result (λ r. is_replace (plain_change r.1)
             ≡ is_replace (plain_change change)) }
         ensures stopped { OnErr result (self.new.stopped ≡ true) }

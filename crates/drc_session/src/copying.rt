@@ -1,7 +1,7 @@
 //! Copies of sessions.
 
 ghost use Rattle.std.specs.Prelude.{◌≡◌, false, IfOk};
-ghost use Rattle.drc_session.specs.Holding.{state_of, IsKept};
+ghost use Rattle.drc_session.specs.SessionContents.{state_of, IsKept};
 
 use crate::parts::Parts;
 use crate::session::Session;

@@ -5,9 +5,9 @@ ghost use Rattle.plain_types.specs.Limits.{AreCounted, IsWorkerCount};
 ghost use Rattle.cond_lang.specs.Rules.{plain_rule};
 ghost use Rattle.rule_pick.specs.AllFacts.{HasFacts};
 ghost use Rattle.net_groups.specs.NetParts.{AreParts};
-ghost use Rattle.rule_text.specs.Views.{plain_rules};
+ghost use Rattle.rule_text.specs.RuleValues.{plain_rules};
 ghost use Rattle.drc_session.specs.Sessions.{IsOpened, IsDealt};
-ghost use Rattle.drc_session.specs.Holding.{state_of, IsReached, IsKept};
+ghost use Rattle.drc_session.specs.SessionContents.{state_of, IsReached, IsKept};
 
 use crate::applied::Applied;
 use crate::checking::check_all;

@@ -1,8 +1,8 @@
 //! The session.
 
 ghost use Rattle.std.specs.Prelude.{◌≡◌, false};
-ghost use Rattle.rule_text.specs.Views.{plain_rules};
-ghost use Rattle.pair_check.specs.Views.{checked_by, IsWholeView};
+ghost use Rattle.rule_text.specs.RuleValues.{plain_rules};
+ghost use Rattle.pair_check.specs.CheckViews.{checked_by, IsWholeView};
 ghost use Rattle.pair_check.specs.Rows.{AreRows};
 ghost use Rattle.net_groups.specs.NetParts.{AreParts};
 ghost use Rattle.drc_state.specs.States.{checked_in};
@@ -28,7 +28,7 @@ impl Model for Session {
     ghost use Rattle.std.specs.Coded.{codes};
     ghost use Rattle.cond_lang.specs.TreeCode.{coded_tree};
     ghost use Rattle.drc_session.specs.Sessions.{PlainSession};
-    ghost use Rattle.drc_session.specs.Holding.{state_of, IsKept};
+    ghost use Rattle.drc_session.specs.SessionContents.{state_of, IsKept};
 
     ghost Value = { PlainSession };
 

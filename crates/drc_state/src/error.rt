@@ -29,7 +29,7 @@ pub enum EditError {
 }
 
 impl HasReason for EditError {
-    ghost use Rattle.drc_state.specs.Reasons.{edit_reason};
+    ghost use Rattle.drc_state.specs.CommandReasons.{edit_reason};
 
     ghost reason_of = { edit_reason };
 
@@ -52,7 +52,7 @@ impl HasReason for EditError {
 
 impl From<Refusal> for EditError {
     ghost use Rattle.std.specs.Prelude.{◌≡◌};
-    ghost use Rattle.drc_state.specs.Steps.{edit_error};
+    ghost use Rattle.drc_state.specs.CommandSteps.{edit_error};
 
     ghost from_gives = { λ why e. e ≡ edit_error why };
 
@@ -81,7 +81,7 @@ impl From<AllocError> for EditError {
 impl fmt::Display for EditError {
     ghost use Rattle.std.specs.Prelude.{Some};
     ghost use Rattle.plain_types.specs.Reasons.{written};
-    ghost use Rattle.drc_state.specs.Reasons.{edit_reason};
+    ghost use Rattle.drc_state.specs.CommandReasons.{edit_reason};
 
     ghost output = { λ e. Some (written (edit_reason e)) };
 

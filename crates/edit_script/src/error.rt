@@ -19,7 +19,7 @@ pub enum ScriptError {
 }
 
 impl HasReason for ScriptError {
-    ghost use Rattle.edit_script.specs.Reasons.{script_reason};
+    ghost use Rattle.edit_script.specs.ScriptReasons.{script_reason};
 
     ghost reason_of = { script_reason };
 
@@ -61,7 +61,7 @@ impl<T: Drop> From<AllocFailed<T>> for ScriptError {
 impl fmt::Display for ScriptError {
     ghost use Rattle.std.specs.Prelude.{Some};
     ghost use Rattle.plain_types.specs.Reasons.{written};
-    ghost use Rattle.edit_script.specs.Reasons.{script_reason};
+    ghost use Rattle.edit_script.specs.ScriptReasons.{script_reason};
 
     ghost output = { λ e. Some (written (script_reason e)) };
 

@@ -7,7 +7,7 @@ use Rattle.std.proofs.lemmas.Bool.{and_parts, eqb-true}
 use Rattle.std.proofs.lemmas.Bool.Decides.{Decides-int_eq}
 use Rattle.geo_seg.specs.declared.points.Point.{Point}
 use Rattle.geo_seg.specs.declared.points.Seg.{Seg}
-use Rattle.part_read.specs.declared.numbers.Spot.{Spot}
+use Rattle.part_read.specs.declared.numbers.RawPoint.{RawPoint}
 use Rattle.part_read.specs.There.{both}
 use Rattle.part_read.proofs.There.{both_some}
 use Rattle.part_read.specs.OnBoard.{tested, fits_board, point_at}
@@ -42,7 +42,7 @@ same_double p q = rw (number_double p.0 q.0, number_double p.1 q.1) refl
 
 -- ---- a line as one of points
 
-tested_point : (s : Spot) (p : Point) → tested (fits_board s) (point_at s) ≡ Some p → place p ≡ double (at s)
+tested_point : (s : RawPoint) (p : Point) → tested (fits_board s) (point_at s) ≡ Some p → place p ≡ double (at s)
 tested_point s p h = by (fits_board s) (point_at s) (λ k. refl) p h
   where
     by : (t : Bool) (make : t ≡ true → Point) → ((k : t ≡ true) → place (make k) ≡ double (at s)) → (p : Point) → tested t make ≡ Some p → place p ≡ double (at s)

@@ -3,10 +3,10 @@
 ghost use Rattle.std.specs.Prelude.{◌≡◌, [], filter, IfOk, OnOk, IfSome};
 ghost use Rattle.geo_seg.specs.Boxes.{FitsIndex};
 ghost use Rattle.board_items.specs.Boards.{IsSound, is_mark, marks_of};
-ghost use Rattle.board_items.specs.Parts.{parts_of};
+ghost use Rattle.board_items.specs.ItemParts.{parts_of};
 ghost use Rattle.board_items.specs.Extents.{AreBoundsOf};
 ghost use Rattle.box_index.specs.Tiles.{IsAbsent};
-ghost use Rattle.item_facts.specs.Near.{is_mark_of, HoldsMarks, IsMarked, AreEnough};
+ghost use Rattle.item_facts.specs.NearItems.{is_mark_of, HoldsMarks, IsMarked, AreEnough};
 
 use board_items::{Board, Item, What};
 use box_index::{LANES, TileIndex, push_ids_near, put_in_order};

@@ -3,12 +3,12 @@
 ghost use Rattle.std.specs.Prelude.{◌≡◌, ◌<◌, true, ℕ, length, Some, IsSome, IfOk, IfSome};
 ghost use Rattle.board_items.specs.declared.item.Item.{Item as PlainItem};
 ghost use Rattle.board_items.specs.Boards.{item_at};
-ghost use Rattle.net_class.specs.Views.{plain_class};
+ghost use Rattle.net_class.specs.ClassValues.{plain_class};
 ghost use Rattle.rule_pick.specs.AllFacts.{HasFacts};
 ghost use Rattle.rule_pick.specs.ById.{facts_at};
 ghost use Rattle.rule_pick.specs.FactsOf.{AreFactsOf, AreFacts, class_of_net};
 ghost use Rattle.item_facts.specs.Known.{AreKnown};
-ghost use Rattle.item_facts.specs.Slots.{AreReady, AreEmpty, AreFilled};
+ghost use Rattle.item_facts.specs.FactSlots.{AreReady, AreEmpty, AreFilled};
 
 use crate::all::{all_facts, facts_among, known_class};
 use crate::classes::class_of_net;

@@ -5,7 +5,7 @@ use Rattle.std.proofs.lemmas.List.{take-append-drop}
 use Rattle.std.specs.Prelude.{slice_range}
 use Rattle.json_exact.specs.Json.{Json}
 use Rattle.json_exact.specs.JsonText.{SpelledWithin}
-use Rattle.json_exact.specs.Refusals.{depth_limit, CanGoOn, Stops, IsAlone, EndsDigits, CountsAt, IsBad, IsTooDeep, IsRefused}
+use Rattle.json_exact.specs.JsonRefusals.{depth_limit, CanGoOn, Stops, IsAlone, EndsDigits, CountsAt, IsBad, IsTooDeep, IsRefused}
 use Rattle.json_exact.specs.declared.error.JsonError.{JsonError}
 use Rattle.json_exact.specs.declared.error.JsonError.TheVariants.{Bad, TooDeep, OutOfMemory}
 use Rattle.json_exact.proofs.Ranges.{up_to_with}

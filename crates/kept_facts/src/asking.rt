@@ -5,11 +5,11 @@ ghost use Rattle.std.specs.Option.{option_copied};
 ghost use Rattle.geo_seg.specs.Boxes.{FitsWithin};
 ghost use Rattle.board_items.specs.declared.item.Item.{Item};
 ghost use Rattle.board_items.specs.Boards.{item_at};
-ghost use Rattle.board_items.specs.Parts.{parts_of};
+ghost use Rattle.board_items.specs.ItemParts.{parts_of};
 ghost use Rattle.board_items.specs.Extents.{AreBoundsOf};
-ghost use Rattle.board_index.specs.Holding.{HoldsItems};
-ghost use Rattle.kept_facts.specs.Kept.{GiveSame};
-ghost use Rattle.kept_facts.specs.Walks.{HasNear, HasOthers, HasConcerned, AreAsked};
+ghost use Rattle.board_index.specs.IndexedItems.{HoldsItems};
+ghost use Rattle.kept_facts.specs.FactUpdates.{GiveSame};
+ghost use Rattle.kept_facts.specs.ConcernedItems.{HasNear, HasOthers, HasConcerned, AreAsked};
 
 use crate::marks::{give_same, mark_at, mark_of};
 use board_items::{Board, Item};

@@ -4,8 +4,8 @@ ghost use Rattle.std.specs.Prelude.{◌≡◌, map, IsTrue, ◌↔◌, IfOk};
 ghost use Rattle.std.specs.Option.{option_copied};
 ghost use Rattle.board_items.specs.Boards.{is_mark};
 ghost use Rattle.rule_pick.specs.FactsOf.{MeetsArea, MeetsCourtyard};
-ghost use Rattle.kept_facts.specs.Kept.{mark_at, mark_of, GivesIf, GiveSame, AreMarksBefore};
-ghost use Rattle.kept_facts.specs.Walks.{IsNameIf};
+ghost use Rattle.kept_facts.specs.FactUpdates.{mark_at, mark_of, GivesIf, GiveSame, AreMarksBefore};
+ghost use Rattle.kept_facts.specs.ConcernedItems.{IsNameIf};
 
 use board_items::{Board, Item, What};
 use drc_io::Name;
@@ -65,7 +65,7 @@ fn marks_of(alloc: Global, board: &Board, ids: &[u32]) -> Result<Vec<Option<Item
     Ok(marks)
 }
 
-/// Equal areas and bodies that stand under these ids, in their order, and None for each other id: what `renew_facts` asks for,
+/// Equal areas and bodies that stand under these ids, in their order, and None for each other id: what `update_facts` asks for,
 /// taken before the edit. Only want of memory refuses it.
 pub fn marks_before(
     alloc: Global,

@@ -21,7 +21,7 @@ pub enum ProjectError {
 }
 
 impl HasReason for ProjectError {
-    ghost use Rattle.net_class.specs.Reasons.{class_reason};
+    ghost use Rattle.net_class.specs.ProjectReasons.{class_reason};
 
     ghost reason_of = { class_reason };
 
@@ -64,7 +64,7 @@ impl<T: Drop> From<AllocFailed<T>> for ProjectError {
 impl fmt::Display for ProjectError {
     ghost use Rattle.std.specs.Prelude.{Some};
     ghost use Rattle.plain_types.specs.Reasons.{written};
-    ghost use Rattle.net_class.specs.Reasons.{class_reason};
+    ghost use Rattle.net_class.specs.ProjectReasons.{class_reason};
 
     ghost output = { λ e. Some (written (class_reason e)) };
 

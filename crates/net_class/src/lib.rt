@@ -7,7 +7,7 @@
 ghost use Rattle.std.specs.Prelude.{◌≡◌, ◌⊎◌, MatchResult, Result, Ok, Err};
 ghost use Rattle.plain_types.specs.Limits.{IsReadable};
 ghost use Rattle.net_class.specs.declared.error.ProjectError.{ProjectError};
-ghost use Rattle.net_class.specs.Classes.{PlainClasses};
+ghost use Rattle.net_class.specs.NetClasses.{PlainClasses};
 ghost use Rattle.net_class.specs.ProjectText.{ProjectSays, refusal_of};
 
 mod classes;

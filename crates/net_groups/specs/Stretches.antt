@@ -9,9 +9,9 @@ abbrev pub stretched_line : ℤ → ℤ → ℤ → ℤ
 stretched_line from times z = int_max (int_min (times *ℤ (z -ℤ from)) (pos 1500000000)) (neg_ℤ (pos 1500000000))
 
 abbrev pub stretched : Stretch → Bounds → Bounds
-stretched s room = record {
-  left = stretched_line s.x s.times room.left;
-  top = stretched_line s.y s.times room.top;
-  right = stretched_line s.x s.times room.right;
-  bottom = stretched_line s.y s.times room.bottom;
+stretched s item_box = record {
+  left = stretched_line s.x s.times item_box.left;
+  top = stretched_line s.y s.times item_box.top;
+  right = stretched_line s.x s.times item_box.right;
+  bottom = stretched_line s.y s.times item_box.bottom;
 }

@@ -3,12 +3,12 @@
 
 ghost use Rattle.std.specs.Prelude.{◌≡◌, ◌<◌, ◌++◌, [], map, true, false, is_some, IfOk, IfSome, OnOk};
 ghost use Rattle.sexpr_read.specs.Tree.{parts};
-ghost use Rattle.sexpr_read.specs.Views.{tree_of, trees_left};
+ghost use Rattle.sexpr_read.specs.TreeViews.{tree_of, trees_left};
 ghost use Rattle.board_items.specs.Boards.{name_of};
-ghost use Rattle.pcb_read.specs.Answers.{LeavesSome};
+ghost use Rattle.pcb_read.specs.RelatedResults.{LeavesSome};
 ghost use Rattle.pcb_read.specs.BoardOf.{SaysPart, SaysParts};
 ghost use Rattle.pcb_read.specs.Drafts.{IsDraft};
-ghost use Rattle.pcb_read.specs.Slots.{tree_in, AreSame, IsNext, reading_of};
+ghost use Rattle.pcb_read.specs.PartSlots.{tree_in, AreSame, IsNext, reading_of};
 
 use crate::adding::add_one;
 use crate::drafts::{Draft, item_of};

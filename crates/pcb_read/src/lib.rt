@@ -9,9 +9,9 @@ ghost use Rattle.plain_types.specs.Limits.{IsReadable};
 ghost use Rattle.board_errors.specs.declared.errors.BoardError.{BoardError};
 ghost use Rattle.board_items.specs.Boards.{PlainBoard};
 ghost use Rattle.pcb_read.specs.BoardText.{BoardSays};
-ghost use Rattle.sexpr_read.specs.Views.{root_of};
+ghost use Rattle.sexpr_read.specs.TreeViews.{root_of};
 ghost use Rattle.pcb_read.specs.BoardOf.{SaysBoard};
-ghost use Rattle.pcb_read.specs.Spans.{HasSpans, AreSpans, GivesBoardWith};
+ghost use Rattle.pcb_read.specs.UnitSpans.{HasSpans, AreSpans, GivesBoardWith};
 
 mod added;
 mod adding;

@@ -4,12 +4,12 @@ ghost use Rattle.std.specs.Prelude.{◌≡◌, ◌≤◌, ◌++◌, ◌∷◌, �
 ghost use Rattle.board_errors.specs.declared.errors.BoardError.{BoardError};
 ghost use Rattle.board_items.specs.Boards.{empty_board};
 ghost use Rattle.sexpr_read.specs.Tree.{parts, is_list};
-ghost use Rattle.sexpr_read.specs.Views.{tree_of};
-ghost use Rattle.part_read.specs.Nodes.{Leaves};
+ghost use Rattle.sexpr_read.specs.TreeViews.{tree_of};
+ghost use Rattle.part_read.specs.NodeResults.{Leaves};
 ghost use Rattle.sexpr_read.specs.declared.place.Span.{Span};
-ghost use Rattle.pcb_read.specs.Answers.{LeavesSome};
+ghost use Rattle.pcb_read.specs.RelatedResults.{LeavesSome};
 ghost use Rattle.pcb_read.specs.BoardOf.{with_layers, with_other, SaysWith, SaysPart, SaysParts, version_in, header_in, SaysBoard};
-ghost use Rattle.pcb_read.specs.Spans.{with_span, SaysSpans, AreSpans, GivesBoardWith};
+ghost use Rattle.pcb_read.specs.UnitSpans.{with_span, SaysSpans, AreSpans, GivesBoardWith};
 
 use crate::adding::{add_items, add_one};
 use crate::aside::read_parts_by;
@@ -248,8 +248,8 @@ fn new_board(alloc: Global, root: Node<'_, '_>) -> Result<Board, BoardError>
     check_header(root)?;
     let mut board = Board::new(alloc, LayerSet { bits: 0 })?;
     // Most parts are items: room for about all of them is made once.
-    let room = about_parts(root).min(board.left() as usize);
-    board.reserve(room)?;
+    let capacity = about_parts(root).min(board.left() as usize);
+    board.reserve(capacity)?;
     Ok(board)
 }
 

@@ -6,7 +6,7 @@ ghost use Rattle.ratsnest.specs.declared.link.Link.{Link};
 ghost use Rattle.ratsnest.specs.NestOf.{AnchorsRise, IsNest, IsLink, group_at, group_count, square_between};
 ghost use Rattle.ratsnest.specs.Grow.{rank, link_at, AreAllLinks, AreOwnLabels};
 ghost use Rattle.ratsnest.specs.Mem.{Mem, Climbs};
-ghost use Rattle.ratsnest.specs.Reach.{IsInReach};
+ghost use Rattle.ratsnest.specs.CoordinateRange.{IsInReach};
 
 use crate::anchor::Anchor;
 use crate::link::Link;

@@ -70,9 +70,9 @@ pub(crate) fn boxes_of(
     let mut boxes = Vec::new(alloc);
     let mut left = entries;
     'walk: while size <= left.len() {
-        let (front, block) = left.split_at(left.len() - size);
+        let (prefix, block) = left.split_at(left.len() - size);
         boxes.push(box_of(block))?;
-        left = front;
+        left = prefix;
     }
     Ok(boxes)
 }

@@ -5,7 +5,7 @@ ghost use Rattle.std.specs.List.Sorted.{IsStrictlyIncreasing, IsPermutation};
 ghost use Rattle.box_index.specs.Tiles.{PlainIndex, IsSoundIndex};
 ghost use Rattle.pair_check.specs.PlainRow.{PlainRow};
 ghost use Rattle.pair_check.specs.Rows.{Checked, IsRow, IsRowOfTwo, AreRows, HasItems, HasSource};
-ghost use Rattle.row_check.specs.Tiles.{IsIndexOf, AreBatches, end_to_end};
+ghost use Rattle.row_check.specs.RowsOfTile.{IsIndexOf, AreBatches, end_to_end};
 ghost use Rattle.row_check.specs.Whole.{AreOnceWhere, AreInOrder, AreEnough, IsAskedInOne, IsOfTiles};
 
 /// A board has one list of rows under the classes of a project and rules.

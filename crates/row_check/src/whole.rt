@@ -6,9 +6,9 @@ ghost use Rattle.box_index.specs.Tiles.{IsSoundIndex};
 ghost use Rattle.pair_check.specs.Alone.{AreEnoughAlone, BreaksNothing};
 ghost use Rattle.pair_check.specs.Pairs.{Deciders};
 ghost use Rattle.pair_check.specs.Rows.{AreRows, AreRowsOfItem, AreRowsWhere};
-ghost use Rattle.pair_check.specs.Views.{checked_by, deciders_of, IsWholeView};
-ghost use Rattle.row_check.specs.Tiles.{IsIndexOf, AreRowsOfTile};
-ghost use Rattle.row_check.specs.Walks.{HasMore};
+ghost use Rattle.pair_check.specs.CheckViews.{checked_by, deciders_of, IsWholeView};
+ghost use Rattle.row_check.specs.RowsOfTile.{IsIndexOf, AreRowsOfTile};
+ghost use Rattle.row_check.specs.EntryWalks.{HasAddedRows};
 ghost use Rattle.row_check.specs.Whole.{AreOnceWhere, AreSingles, IsOfTiles, IsOfChanged, ids_of};
 
 use crate::order::put_in_order;
@@ -45,7 +45,7 @@ fn push_tile<L: Ledger>(
     requires view { IsWholeView view.now }
     requires index { IsIndexOf (checked_by view.now) index.now }
     requires changed { IsStrictlyIncreasing changed.now }
-    ensures { OnOk result (HasMore (AreRowsOfTile (checked_by view.now) index.now tile changed.now) rows.old.items rows.new.items) }
+    ensures { OnOk result (HasAddedRows (AreRowsOfTile (checked_by view.now) index.now tile changed.now) rows.old.items rows.new.items) }
 {
     let found = test_tile(alloc, view, index, tile, changed, steps)?;
     rows.extend_from_slice(&found)?;
@@ -95,7 +95,7 @@ fn push_single(
 ) -> Result<(), AllocError>
     requires view { IsWholeView view.now }
     requires enough { IfSome enough (AreEnoughAlone (deciders_of view.now)) }
-    ensures rows { OnOk result (HasMore (AreRowsOfItem (checked_by view.now) id) rows.old.items rows.new.items) }
+    ensures rows { OnOk result (HasAddedRows (AreRowsOfItem (checked_by view.now) id) rows.old.items rows.new.items) }
     ensures same { OnErr result (rows.new.items ≡ rows.old.items) }
 {
     match view.board.get(id) {
@@ -121,8 +121,8 @@ pub fn push_singles(
 ) -> Result<(), AllocError>
     requires view { IsWholeView view.now }
     requires rise { IsStrictlyIncreasing ids.now }
-    ensures rows { OnOk result (HasMore (AreSingles (checked_by view.now) ids.now) rows.old.items rows.new.items) }
-    ensures first { OnErr result ((count : ℕ) × HasMore (AreSingles (checked_by view.now) (take count ids.now)) rows.old.items rows.new.items) }
+    ensures rows { OnOk result (HasAddedRows (AreSingles (checked_by view.now) ids.now) rows.old.items rows.new.items) }
+    ensures first { OnErr result ((count : ℕ) × HasAddedRows (AreSingles (checked_by view.now) (take count ids.now)) rows.old.items rows.new.items) }
 {
     let enough = enough_alone(view);
     for id in ids {

@@ -93,7 +93,7 @@ impl FactsById {
     }
 
     /// No facts, with room for those of all ids below this number.
-    pub fn with_room(alloc: Global, ids: usize) -> Result<FactsById, AllocError>
+    pub fn with_reserved(alloc: Global, ids: usize) -> Result<FactsById, AllocError>
         ensures { IfOk result (λ facts. (id : ℕ) → facts_at facts id ≡ None) }
     {
         Ok(FactsById {

@@ -26,7 +26,7 @@ pub enum RuleError {
 }
 
 impl HasReason for RuleError {
-    ghost use Rattle.rule_text.specs.Reasons.{rules_reason};
+    ghost use Rattle.rule_text.specs.RuleReasons.{rules_reason};
 
     ghost reason_of = { rules_reason };
 
@@ -71,7 +71,7 @@ impl<T: Drop> From<AllocFailed<T>> for RuleError {
 impl fmt::Display for RuleError {
     ghost use Rattle.std.specs.Prelude.{Some};
     ghost use Rattle.plain_types.specs.Reasons.{written};
-    ghost use Rattle.rule_text.specs.Reasons.{rules_reason};
+    ghost use Rattle.rule_text.specs.RuleReasons.{rules_reason};
 
     ghost output = { λ e. Some (written (rules_reason e)) };
 

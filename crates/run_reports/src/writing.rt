@@ -4,7 +4,7 @@ ghost use Rattle.std.specs.Prelude.{◌≡◌, ◌++◌, [], All, map, length, f
 ghost use Rattle.std.specs.List.{flat_map};
 ghost use Rattle.drc_io.specs.Sinks.{Wrote};
 ghost use Rattle.cond_lang.specs.Rules.{plain_rule};
-ghost use Rattle.rule_text.specs.Views.{plain_rules};
+ghost use Rattle.rule_text.specs.RuleValues.{plain_rules};
 ghost use Rattle.pair_check.specs.Rows.{HasItems, HasSource};
 ghost use Rattle.net_groups.specs.NetParts.{is_open, IsWritable};
 ghost use Rattle.drc_rows.specs.Buffer.{Buffered};

@@ -4,7 +4,7 @@ ghost use Rattle.std.specs.Prelude.{◌≡◌, ◌≤◌, [], ◌∷◌, IfOk, I
 ghost use Rattle.plain_types.specs.Limits.{most_workers};
 ghost use Rattle.run_words.specs.Calls.{check_call, names_file, two_files, undo_if, try_if, try_call};
 ghost use Rattle.run_words.specs.Calls.{call_of, words_of, file_and_number, steal_if, write_if};
-ghost use Rattle.run_words.specs.Views.{files_in, call_in, CallFits, numbered_in};
+ghost use Rattle.run_words.specs.CallValues.{files_in, call_in, CallFits, numbered_in};
 
 use crate::words::{MOST_WORKERS, Request, number_in, request_of};
 use std::alloc::{AllocError, Global};

@@ -33,7 +33,7 @@ pub enum TextError {
 }
 
 impl HasReason for TextError {
-    ghost use Rattle.sexpr_read.specs.Reasons.{text_reason};
+    ghost use Rattle.sexpr_read.specs.TreeReasons.{text_reason};
 
     ghost reason_of = { text_reason };
 
@@ -57,7 +57,7 @@ impl HasReason for TextError {
 impl fmt::Display for TextError {
     ghost use Rattle.std.specs.Prelude.{Some};
     ghost use Rattle.plain_types.specs.Reasons.{written};
-    ghost use Rattle.sexpr_read.specs.Reasons.{text_reason};
+    ghost use Rattle.sexpr_read.specs.TreeReasons.{text_reason};
 
     ghost output = { λ e. Some (written (text_reason e)) };
 

@@ -3,9 +3,9 @@
 ghost use Rattle.std.specs.Prelude.{◌≡◌, ℕ, ◌+◌, ◌-◌, ◌<◌, ◌≤◌, false, length, map, sum_by, All, IfOk};
 ghost use Rattle.std.specs.Vec.{vec_len};
 ghost use Rattle.claim_board.specs.DealMachine.{sum_below, times, once_below};
-ghost use Rattle.tile_pool.specs.Answers.{AreAnswers, AreBatches, AreFull};
+ghost use Rattle.tile_pool.specs.NumberedValues.{AreAnswers, AreBatches, AreFull};
 ghost use Rattle.steal_pool.specs.Seats.{AreOwners, AreUnused, AreGiven, pushed_by, taken_by};
-ghost use Rattle.steal_pool.specs.Views.{stolen_tiles, stolen_hands};
+ghost use Rattle.steal_pool.specs.StolenViews.{stolen_tiles, stolen_hands};
 
 use crate::crew::run_crew;
 use crate::deal::{Dealing, deal_out};

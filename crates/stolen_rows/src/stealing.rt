@@ -3,9 +3,9 @@
 ghost use Rattle.std.specs.Prelude.{◌≡◌, ◌+◌, ◌<◌, ◌≤◌, length, IfOk};
 ghost use Rattle.std.specs.List.{AllZip};
 ghost use Rattle.std.specs.List.Sorted.{IsStrictlyIncreasing};
-ghost use Rattle.pair_check.specs.Views.{checked_by, IsWholeView};
-ghost use Rattle.row_check.specs.Tiles.{IsIndexOf, AreRowsOfTile};
-ghost use Rattle.steal_pool.specs.Views.{stolen_tiles, stolen_hands};
+ghost use Rattle.pair_check.specs.CheckViews.{checked_by, IsWholeView};
+ghost use Rattle.row_check.specs.RowsOfTile.{IsIndexOf, AreRowsOfTile};
+ghost use Rattle.steal_pool.specs.StolenViews.{stolen_tiles, stolen_hands};
 
 use kept_rows::TileRows;
 use std::alloc::{AllocError, Global};

@@ -2,8 +2,8 @@
 
 ghost use Rattle.std.specs.Prelude.{◌≡◌, ◌<◌, ◌≤◌, [], ◌∷◌, ◌++◌, true, false, length, map, All, IfOk, replicate, None};
 ghost use Rattle.std.specs.Vec.{vec_len, vec_capacity};
-ghost use Rattle.claim_board.specs.Views.{IsSeatOf, AreSeatsOf, deal_tiles, deal_seats, seat_number, seat_hand, seat_done, dealt_tiles, dealt_seats};
-ghost use Rattle.tile_pool.specs.Answers.{AreAnswers, AreValues, AreBatches};
+ghost use Rattle.claim_board.specs.DealViews.{IsSeatOf, AreSeatsOf, deal_tiles, deal_seats, seat_number, seat_hand, seat_done, dealt_tiles, dealt_seats};
+ghost use Rattle.tile_pool.specs.NumberedValues.{AreAnswers, AreValues, AreBatches};
 ghost use Rattle.tile_pool.specs.Crews.{IsFresh, IsDone, HasRun};
 
 use crate::gate::Gate;

@@ -2,7 +2,7 @@
 
 ghost use Rattle.std.specs.Prelude.{◌≡◌, ℕ, List};
 ghost use Rattle.pair_check.specs.PlainRow.{PlainRow};
-ghost use Rattle.tile_pool.specs.Answers.{AreAnswers};
+ghost use Rattle.tile_pool.specs.NumberedValues.{AreAnswers};
 ghost use Rattle.tile_rows.specs.Work.{AreRowsAt};
 
 use crate::work::Tiles;

@@ -3,9 +3,9 @@
 ghost use Rattle.std.specs.Prelude.{◌≡◌, ◌<◌, ◌≤◌, length, IfOk};
 ghost use Rattle.std.specs.List.{AllZip};
 ghost use Rattle.std.specs.List.Sorted.{IsStrictlyIncreasing};
-ghost use Rattle.claim_board.specs.Views.{dealt_tiles, dealt_seats};
-ghost use Rattle.pair_check.specs.Views.{checked_by, IsWholeView};
-ghost use Rattle.row_check.specs.Tiles.{IsIndexOf, AreRowsOfTile};
+ghost use Rattle.claim_board.specs.DealViews.{dealt_tiles, dealt_seats};
+ghost use Rattle.pair_check.specs.CheckViews.{checked_by, IsWholeView};
+ghost use Rattle.row_check.specs.RowsOfTile.{IsIndexOf, AreRowsOfTile};
 
 use crate::work::Tiles;
 use claim_board::Dealt;

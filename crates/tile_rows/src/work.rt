@@ -2,8 +2,8 @@
 
 ghost use Rattle.std.specs.Prelude.{◌≡◌, ◌<◌, IfOk};
 ghost use Rattle.std.specs.List.Sorted.{IsStrictlyIncreasing};
-ghost use Rattle.pair_check.specs.Views.{checked_by, IsWholeView};
-ghost use Rattle.row_check.specs.Tiles.{IsIndexOf, AreRowsOfTile};
+ghost use Rattle.pair_check.specs.CheckViews.{checked_by, IsWholeView};
+ghost use Rattle.row_check.specs.RowsOfTile.{IsIndexOf, AreRowsOfTile};
 
 use box_index::TileIndex;
 use kept_rows::TileRows;
@@ -67,8 +67,8 @@ impl<'a> TileWork for Tiles<'a> {
 
     ghost use Rattle.std.specs.Prelude.{length};
     ghost use Rattle.std.specs.List.Sorted.{IsStrictlyIncreasing};
-    ghost use Rattle.pair_check.specs.Views.{checked_by, IsWholeView};
-    ghost use Rattle.row_check.specs.Tiles.{IsIndexOf};
+    ghost use Rattle.pair_check.specs.CheckViews.{checked_by, IsWholeView};
+    ghost use Rattle.row_check.specs.RowsOfTile.{IsIndexOf};
     ghost use Rattle.tile_rows.specs.Work.{AreRowsAt};
 
     ghost ready = { λ work. IsWholeView work.view × IsIndexOf (checked_by work.view) work.index.now × IsStrictlyIncreasing work.changed.now };

@@ -2,8 +2,8 @@
 use Rattle.std.specs.Prelude.{◌≡◌, true, false, List, [], ◌∷◌}
 use Rattle.edit_script.specs.Commands.{PlainCommand}
 use Rattle.drc_state.specs.States.{State}
-use Rattle.drc_state.specs.Steps.{is_rules}
-use Rattle.drc_state.specs.Changes.{PlainChange, is_replace}
+use Rattle.drc_state.specs.CommandSteps.{is_rules}
+use Rattle.drc_state.specs.StateChanges.{PlainChange, is_replace}
 use Rattle.drc_session.specs.declared.applied.Applied.{Applied}
 use Rattle.drc_session.specs.Sessions.{PlainSession, IsTurned}
 use Rattle.undo_log.specs.Past.{is_again}

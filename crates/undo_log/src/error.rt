@@ -23,7 +23,7 @@ pub enum HistoryError {
 }
 
 impl HasReason for HistoryError {
-    ghost use Rattle.undo_log.specs.Reasons.{step_reason};
+    ghost use Rattle.undo_log.specs.HistoryReasons.{step_reason};
 
     ghost reason_of = { step_reason };
 
@@ -56,7 +56,7 @@ impl From<AllocError> for HistoryError {
 impl fmt::Display for HistoryError {
     ghost use Rattle.std.specs.Prelude.{Some};
     ghost use Rattle.plain_types.specs.Reasons.{written};
-    ghost use Rattle.undo_log.specs.Reasons.{step_reason};
+    ghost use Rattle.undo_log.specs.HistoryReasons.{step_reason};
 
     ghost output = { λ e. Some (written (step_reason e)) };
 

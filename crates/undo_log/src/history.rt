@@ -24,7 +24,7 @@ impl Model for History {
     ghost use Rattle.std.specs.Coded.{codes};
     ghost use Rattle.cond_lang.specs.TreeCode.{coded_tree};
     ghost use Rattle.undo_log.specs.Ways.{PlainHistory, nearest_first};
-    ghost use Rattle.undo_log.specs.Holding.{IsRunning};
+    ghost use Rattle.undo_log.specs.HistoryContents.{IsRunning};
 
     ghost Value = { PlainHistory };
 

@@ -5,12 +5,12 @@ ghost use Rattle.plain_types.specs.Limits.{IsWorkerCount};
 ghost use Rattle.edit_script.specs.Commands.{plain_command};
 ghost use Rattle.edit_script.specs.Fits.{Fits};
 ghost use Rattle.drc_state.specs.declared.error.EditError.{EditError};
-ghost use Rattle.drc_state.specs.Steps.{Answers};
-ghost use Rattle.drc_state.specs.Changes.{PlainChange, ChangeFits};
+ghost use Rattle.drc_state.specs.CommandSteps.{Answers};
+ghost use Rattle.drc_state.specs.StateChanges.{PlainChange, ChangeFits};
 ghost use Rattle.drc_session.specs.Sessions.{IsDealt, IsCarriedOut};
 ghost use Rattle.undo_log.specs.Past.{is_again};
 ghost use Rattle.undo_log.specs.Ways.{nearest_first};
-ghost use Rattle.undo_log.specs.Taking.{IsStoppedOrSame};
+ghost use Rattle.undo_log.specs.HistoryCalls.{IsStoppedOrSame};
 ghost use Rattle.undo_log.specs.Keeping.{IsNoted, IsSwitched};
 
 use drc_session::{Applied, Session};

@@ -6,7 +6,7 @@ ghost use Rattle.edit_script.specs.Commands.{plain_command, edit, undo, redo};
 ghost use Rattle.edit_script.specs.Fits.{Fits};
 ghost use Rattle.drc_session.specs.Sessions.{IsDealt};
 ghost use Rattle.undo_log.specs.declared.error.HistoryError.TheVariants.{NothingToUndo, NothingToRedo};
-ghost use Rattle.undo_log.specs.Taking.{IsTaken, IsRefused};
+ghost use Rattle.undo_log.specs.HistoryCalls.{IsHistoryStepTaken, IsStepRefused};
 
 use crate::error::HistoryError;
 use crate::history::History;
@@ -33,10 +33,10 @@ impl History {
         requires workers { IsWorkerCount workers }
         requires fits { Fits (plain_command command.now) }
         ensures taken { IfOk result (λ applied.
-            IsTaken self.old self.new (edit (plain_command command.now)) applied
+            IsHistoryStepTaken self.old self.new (edit (plain_command command.now)) applied
             × IsDealt workers applied) }
         ensures refused { IfErr result
-            (IsRefused self.old self.new (edit (plain_command command.now))) }
+            (IsStepRefused self.old self.new (edit (plain_command command.now))) }
     {
         if self.stopped {
             return Err(HistoryError::Stopped);
@@ -69,9 +69,9 @@ impl History {
     ) -> Result<Applied, HistoryError>
         requires workers { IsWorkerCount workers }
         ensures taken { (at : ℕ)
-            → IfOk result (λ applied. IsTaken self.old self.new (undo at) applied
+            → IfOk result (λ applied. IsHistoryStepTaken self.old self.new (undo at) applied
             × IsDealt workers applied) }
-        ensures refused { (at : ℕ) → IfErr result (IsRefused self.old self.new (undo at)) }
+        ensures refused { (at : ℕ) → IfErr result (IsStepRefused self.old self.new (undo at)) }
         ensures none { (result ≡ Err NothingToUndo) ↔
             ((self.old.stopped ≡ false) × (self.old.back ≡ [])) }
     {
@@ -105,9 +105,9 @@ impl History {
     ) -> Result<Applied, HistoryError>
         requires workers { IsWorkerCount workers }
         ensures taken { (at : ℕ)
-            → IfOk result (λ applied. IsTaken self.old self.new (redo at) applied
+            → IfOk result (λ applied. IsHistoryStepTaken self.old self.new (redo at) applied
             × IsDealt workers applied) }
-        ensures refused { (at : ℕ) → IfErr result (IsRefused self.old self.new (redo at)) }
+        ensures refused { (at : ℕ) → IfErr result (IsStepRefused self.old self.new (redo at)) }
         ensures none { (result ≡ Err NothingToRedo) ↔
             ((self.old.stopped ≡ false) × (self.old.on ≡ [])) }
     {

@@ -3,8 +3,8 @@ use Rattle.std.specs.Prelude.{◌≡◌, ◌≢◌, ◌⊎◌, ℕ, true, false,
 use Rattle.edit_script.specs.Commands.{PlainCommand}
 use Rattle.drc_state.specs.declared.error.EditError.TheVariants.{Stopped, OutOfMemory as NoMemory}
 use Rattle.drc_state.specs.States.{State}
-use Rattle.drc_state.specs.Steps.{Answers}
-use Rattle.drc_state.specs.Changes.{plain_change, LeadsBack}
+use Rattle.drc_state.specs.CommandSteps.{Answers}
+use Rattle.drc_state.specs.StateChanges.{plain_change, IsInverseChange}
 use Rattle.drc_session.specs.Sessions.{PlainSession, IsChecked}
 use Rattle.what_if.specs.declared.error.TrialError.{TrialError}
 use Rattle.what_if.specs.declared.error.TrialError.TheVariants.{Refused, OutOfMemory}
@@ -36,7 +36,7 @@ IsRefusedAt s command place OutOfMemory = Unit {0}
 pub record IsTaken (before : State) (command : PlainCommand) (after : State) (taken : Taken) : Type 0 where
   pub answer : Answers before command (Ok after)
   pub differ : IsDifference before after taken.come.items taken.gone.items
-  pub back : LeadsBack (plain_change taken.back) after before
+  pub back : IsInverseChange (plain_change taken.back) after before
 
 -- it did not: the command is refused, by the rules of what is edited, and all is as it was, or memory ran out
 abbrev pub IsRefusedHere : PlainSession → PlainSession → PlainCommand → TrialError → Type 0

@@ -16,7 +16,7 @@ pub enum TrialError {
 }
 
 impl HasReason for TrialError {
-    ghost use Rattle.what_if.specs.Reasons.{trial_reason};
+    ghost use Rattle.what_if.specs.TrialReasons.{trial_reason};
 
     ghost reason_of = { trial_reason };
 
@@ -46,7 +46,7 @@ impl From<AllocError> for TrialError {
 impl fmt::Display for TrialError {
     ghost use Rattle.std.specs.Prelude.{Some};
     ghost use Rattle.plain_types.specs.Reasons.{written};
-    ghost use Rattle.what_if.specs.Reasons.{trial_reason};
+    ghost use Rattle.what_if.specs.TrialReasons.{trial_reason};
 
     ghost output = { λ e. Some (written (trial_reason e)) };
 
