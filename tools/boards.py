@@ -369,7 +369,7 @@ class Board:
 
 
 def turn_of(node):
-    """the degrees of the posture of a footprint or a pad"""
+    """the degrees of the placement of a footprint or a pad"""
     found = node.first('at')
     angle = (found.atoms() + ['0', '0', '0'])[2] if found else '0'
     return (nanometres(angle) or 0) / 1e6

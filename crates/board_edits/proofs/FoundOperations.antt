@@ -1,4 +1,4 @@
--- What a command does is one thing, and so is what a deed makes.
+-- What a command does is one thing, and so is what an operation makes.
 use Rattle.std.proofs.Common.{◌≡◌, ◌⊎◌, inl, inr, ◌∙◌, ap, sym, subst, refl, ℕ, ℤ, List, Result, Ok, Err, MatchResult}
 use Rattle.board_errors.specs.declared.errors.BoardError.{BoardError}
 use Rattle.board_errors.specs.declared.errors.BoardError.TheVariants.{OutOfMemory as NoMemory}

@@ -1,4 +1,4 @@
--- Which deeds a board takes, and which lead back.
+-- Which operations a board takes, and which are inverse.
 use Rattle.std.specs.Prelude.{◌≡◌, true, [], ◌∷◌, map, ⊤}
 use Rattle.board_items.specs.Back.{kept_entry, FitsBack}
 use Rattle.board_items.specs.Boards.{PlainBoard}

@@ -1,4 +1,4 @@
--- What is known of a deed while it is done.
+-- What is known of an operation while it is done.
 use Rattle.std.specs.Prelude.{◌≡◌, ℕ, ℤ, neg_ℤ, List, [], ◌∷◌, map}
 use Rattle.board_items.specs.declared.item.Item.{Item}
 use Rattle.board_items.specs.Boards.{PlainBoard}
@@ -26,7 +26,7 @@ abbrev pub shifted_back : ℕ → ℤ → ℤ → List ℕ → PlainOperation
 shifted_back unit dx dy [] = nothing
 shifted_back unit dx dy (id ∷ ids) = shift unit (neg_ℤ dx) (neg_ℤ dy)
 
--- what is known of a deed that was done
+-- what is known of an operation that was done
 pub record IsMade (operation : PlainOperation) (old new : PlainBoard) (made : Made) : Type 0 where
   pub after : After old operation new
   pub leads : IsInverseOperation (plain_operation made.back) new old

@@ -24,7 +24,7 @@ pub data PlainOperation : Type 0 where
   take_out : ℕ → PlainOperation
   shift : ℕ → ℤ → ℤ → PlainOperation
 
--- the deed makes the one board the other. Of a unit that is moved, notes stay, and places are kept
+-- the operation makes the one board the other. Of a unit that is moved, notes stay, and places are kept
 abbrev pub After : PlainBoard → PlainOperation → PlainBoard → Type 0
 After old nothing new = new ≡ old
 After old (append items) new = new ≡ with_items old items

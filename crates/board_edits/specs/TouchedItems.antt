@@ -1,4 +1,4 @@
--- Which items a deed touches.
+-- Which items an operation touches.
 use Rattle.std.specs.Prelude.{◌≡◌, ◌≢◌, ◌&&◌, ℕ, pos, List, [], map, filter, All, Contains, None, Some, if◌then◌else◌}
 use Rattle.std.specs.Ordering.{int_eq}
 use Rattle.std.specs.List.Sorted.{IsStrictlyIncreasing}

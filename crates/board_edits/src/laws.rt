@@ -1,4 +1,4 @@
-//! Laws of deeds. The functions do nothing: each clause holds for all boards.
+//! Laws of operations. The functions do nothing: each clause holds for all boards.
 
 ghost use Rattle.std.specs.Prelude.{◌≡◌, Result};
 ghost use Rattle.board_items.specs.Boards.{PlainBoard};
@@ -17,7 +17,7 @@ pub fn one_operation()
     one_list();
 }
 
-/// A deed makes one board of another.
+/// An operation makes one board of another.
 pub fn one_board()
     ensures { (old : PlainBoard) (operation : PlainOperation) (a b : PlainBoard) → After old operation a →
         After old operation b → a ≡ b }

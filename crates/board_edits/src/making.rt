@@ -1,4 +1,4 @@
-//! Deeds that are done.
+//! Operations that are done.
 
 ghost use Rattle.std.specs.Prelude.{◌≡◌, ◌≢◌, ◌≤◌, true, [], map, IfOk, OnOk, unsigned_abs};
 ghost use Rattle.board_items.specs.Back.{kept_entry, FitsBack};
@@ -18,7 +18,7 @@ use board_laws::laws;
 use pcb_read::add_items;
 use std::alloc::{AllocError, Global};
 
-/// What was done: the ids of the items that were added, put back, taken out or moved, rising, and the deed that leads back.
+/// What was done: the ids of the items that were added, put back, taken out or moved, rising, and the inverse operation.
 #[derive(Drop)]
 pub struct Made {
     pub ids: Vec<u32>,
@@ -27,7 +27,7 @@ pub struct Made {
 
 // ---- items that are added
 
-/// The deed that takes out what is added in this unit.
+/// The operation that takes out what is added in this unit.
 fn without_added(unit: u32, items: &[Item]) -> Operation
     ensures { plain_operation result ≡ without_added unit items.now }
 {
@@ -68,7 +68,7 @@ fn ids_kept(alloc: Global, items: &[Kept]) -> Result<Vec<u32>, AllocError>
     Ok(ids)
 }
 
-/// The deed that takes them out again. They are of one unit.
+/// The operation that takes them out again. They are of one unit.
 fn without_put(items: &[Kept]) -> Operation
     ensures { plain_operation result ≡ without_put (map kept_entry items.now) }
 {
@@ -114,7 +114,7 @@ fn take_out(board: &mut Board, unit: u32, ids: Vec<u32>) -> Result<Made, AllocEr
 
 // ---- units that are moved
 
-/// The deed that moves the unit back. `ids` are those of its items that were moved, each from one place on the board to another; where
+/// The operation that moves the unit back. `ids` are those of its items that were moved, each from one place on the board to another; where
 /// there are none, nothing is moved back.
 fn shifted_back(unit: u32, dx: Nm, dy: Nm, ids: &[u32]) -> Operation
     requires { ids.now ≢ [] → (unsigned_abs dx ≤ 1000000000) × (unsigned_abs dy ≤ 1000000000) }
@@ -147,9 +147,9 @@ fn shift(board: &mut Board, unit: u32, dx: Nm, dy: Nm, ids: Vec<u32>) -> Made
     Made { ids, back }
 }
 
-// ---- all deeds
+// ---- all operations
 
-/// Does the deed, with all that is said of it.
+/// Does the operation, with all that is said of it.
 fn done(
     alloc: Global,
     board: &mut Board,
@@ -175,8 +175,9 @@ fn done(
     }
 }
 
-/// Does the deed to a board that takes it. `touched` are the ids that [`ids_touched`](crate::ids_touched) gives of it. Only want of
-/// memory fails it, and the board may then hold a part of what was to be added. A deed that gives nothing leads back by nothing.
+/// Does the operation to a board that takes it. `touched` are the ids that [`ids_touched`](crate::ids_touched) gives of it. Only running
+/// out of memory fails it, and the board may then hold a part of what was to be added. An operation that gives nothing has nothing as its
+/// inverse.
 pub fn make(
     alloc: Global,
     board: &mut Board,

@@ -52,7 +52,7 @@ fn unit_in(found: Found) -> Result<u32, Refusal>
     }
 }
 
-/// The deed that takes the unit out, or why there is none.
+/// The operation that takes the unit out, or why there is none.
 fn taken_out(found: Found) -> Result<Operation, Refusal>
     ensures answer { plain_answer result ≡ to_unit found (λ unit. Ok (take_out unit)) }
 {
@@ -60,7 +60,7 @@ fn taken_out(found: Found) -> Result<Operation, Refusal>
     Ok(Operation::TakeOut { unit })
 }
 
-/// The deed that moves the unit, where all of it stays on the board, or why there is none. `at` is the place of the command.
+/// The operation that moves the unit, where all of it stays on the board, or why there is none. `at` is the place of the command.
 fn shifted(board: &Board, found: Found, dx: Nm, dy: Nm, at: u32) -> Result<Operation, Refusal>
     ensures answer { plain_answer result ≡ to_unit found (shifted board.now dx dy at) }
     ensures fits { IfOk result (λ operation. OperationFits board.now (plain_operation operation)) }
@@ -74,7 +74,7 @@ fn shifted(board: &Board, found: Found, dx: Nm, dy: Nm, at: u32) -> Result<Opera
 }
 
 /// What the command does to the board, or why it is refused. The board stays as it is. The refusals are those of [`Refusal`], exactly
-/// where `specs/Operations` has them; want of memory alone is free.
+/// where `specs/Operations` has them; running out of memory alone is free.
 pub fn operation_of(
     alloc: Global,
     board: &Board,

@@ -1,4 +1,4 @@
-//! The items that a deed touches.
+//! The items that an operation touches.
 
 ghost use Rattle.std.specs.Prelude.{◌≡◌, not, filter, IfOk};
 ghost use Rattle.board_items.specs.Back.{entries_of};
@@ -76,8 +76,8 @@ fn shifted_ids(
     moving_of_unit(alloc, board, unit)
 }
 
-/// The ids of the items of the board that the deed takes out or moves, rising. A move by nothing moves none. Only want of memory
-/// refuses it.
+/// The ids of the items of the board that the operation takes out or moves, rising. A move by nothing moves none. Only running out of
+/// memory refuses it.
 pub fn ids_touched(
     alloc: Global,
     board: &Board,

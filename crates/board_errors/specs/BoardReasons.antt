@@ -8,7 +8,7 @@ use Rattle.board_errors.specs.declared.errors.ItemError.TheVariants.{OutOfBoard 
 use Rattle.board_errors.specs.declared.errors.BoardError.{BoardError}
 use Rattle.board_errors.specs.declared.errors.BoardError.TheVariants.{Text, NotABoard, Version, Missing, BadNumber, OutOfBoard, Arc, Turned, PadShape, Ring, UnknownNet, UnknownLayer, ThickFill, TooMany, OutOfMemory}
 
--- an item that is not taken stands in no text; want of memory has no number, which is written 0
+-- an item that is not taken stands in no text; running out of memory has no number, which is written 0
 abbrev pub item_reason : ItemError → PlainReason
 item_reason ItemOutOfBoard = refused_nowhere (codes "OutOfBoard") 1
 item_reason ItemUnknownNet = refused_nowhere (codes "UnknownNet") 2
@@ -16,7 +16,7 @@ item_reason ItemUnknownLayer = refused_nowhere (codes "UnknownLayer") 3
 item_reason ItemTooMany = refused_nowhere (codes "TooMany") 4
 item_reason ItemOutOfMemory = refused_nowhere (codes "OutOfMemory") 0
 
--- want of memory has no number, which is written 0, and no place
+-- running out of memory has no number, which is written 0, and no place
 abbrev pub board_reason : BoardError → PlainReason
 board_reason (Text e) = carried (codes "Text") 1 (text_reason e)
 board_reason (NotABoard at) = refused_at (codes "NotABoard") 2 at

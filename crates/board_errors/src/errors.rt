@@ -28,7 +28,7 @@ impl HasReason for ItemError {
 
     ghost depth = { 1 };
 
-    /// What it is called and its number. It has no place: an item that is not taken stands in no text. Want of memory has
+    /// What it is called and its number. It has no place: an item that is not taken stands in no text. Running out of memory has
     /// no number, which is written 0.
     fn reason(&self) -> Reason {
         match self {
@@ -120,7 +120,7 @@ impl HasReason for BoardError {
 
     ghost depth = { 2 };
 
-    /// What it is called, its number and its byte of the text. Want of memory has no number, which is written 0, and no
+    /// What it is called, its number and its byte of the text. Running out of memory has no number, which is written 0, and no
     /// place.
     fn reason(&self) -> Reason {
         match self {

@@ -9,7 +9,7 @@ use box_index::TileIndex;
 use std::alloc::{AllocError, Global};
 
 /// The items of the board that have bounds, under their bounds. The reach, from 0 to 500,000,000 nanometres, is by how much
-/// each side of a box is moved out before it is asked which tiles it meets. Only want of memory refuses it.
+/// each side of a box is moved out before it is asked which tiles it meets. Only running out of memory refuses it.
 pub fn index_of(alloc: Global, board: &Board, reach: Nm) -> Result<TileIndex, AllocError>
     requires from { pos 0 ≤ℤ reach }
     requires to { reach ≤ℤ greatest }

@@ -1,4 +1,4 @@
--- What a board keeps beside its plain lists: the ids of marks, of notes and of each net, so that none is sought anew, how
+-- What a board keeps beside its plain lists: the ids of marks, of notes and of each net, so that none is sought again, how
 -- many items there are, and the unit and the tag of each slot.
 use Rattle.std.specs.Prelude.{◌≡◌, ℕ, zero, suc, Bool, true, List, [], ◌∷◌, length, Option, Vec}
 use Rattle.std.specs.declared.alloc.Global.{Global}

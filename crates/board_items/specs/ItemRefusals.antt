@@ -19,7 +19,7 @@ refusal_of board item =
     else if nat_le (capacity_of board) 0 then Some TooMany
     else None
 
--- the reason that an answer gives; want of memory is none
+-- the reason that an answer gives; running out of memory is none
 abbrev pub reason_in : {T : Type 0} → Result T ItemError → Option ItemError
 reason_in (Ok x) = None
 reason_in (Err OutOfMemory) = None

@@ -23,7 +23,7 @@ pub struct Kept {
 // ---- taken out
 
 impl Board {
-    /// Takes every item of the unit out, as `remove` does, and gives them by rising id. After want of memory the board is
+    /// Takes every item of the unit out, as `remove` does, and gives them by rising id. After running out of memory the board is
     /// as it was.
     pub fn taken(&mut self, unit: u32) -> Result<Vec<Kept>, AllocError>
         ensures taken { OnOk result (self.new ≡ without_unit self.old unit) }
@@ -159,7 +159,7 @@ fn put_unit(in_order: bool, units: &mut Vec<u32>, id: u32, unit: u32) -> bool
 
 impl Board {
     /// Puts items back under the ids at which they stood, and leaves the list empty. It takes no memory but for the lists of
-    /// ids. After want of memory the board and the list are as they were.
+    /// ids. After running out of memory the board and the list are as they were.
     ///
     /// Their ids rise, were given before and are not in the board; they are of one unit, which was given before and is not
     /// in the board; each of them may stand there, and the board holds at most 200,000 items with them.

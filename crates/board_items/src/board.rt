@@ -193,7 +193,7 @@ impl Board {
     /// Appends an item that the board takes, and gives its id, one above the greatest that was ever given, or 0.
     ///
     /// That the board takes it was tested before: its position lies there, its net is declared, the board has all its layers,
-    /// and there is room for it. Only want of memory refuses it, and the board is then as it was.
+    /// and there is room for it. Only running out of memory refuses it, and the board is then as it was.
     #[inline(always)]
     pub fn push_admitted(&mut self, item: Item) -> Result<u32, AllocError>
         requires unit { item.unit < 4294967295 }

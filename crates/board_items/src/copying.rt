@@ -18,7 +18,7 @@ use std::alloc::{AllocError, Global};
 
 // ---- parts
 
-/// An equal polygon. One of many corners gets the boxes of its runs anew.
+/// An equal polygon. One of many corners gets the boxes of its runs again.
 fn copy_poly(alloc: Global, poly: &Poly) -> Result<Poly, AllocError>
     ensures { IfOk result (λ copy. copy ≡ poly.now) }
 {

@@ -20,7 +20,7 @@ use Rattle.board_write.specs.WriteResults.{Outcome, refused_in}
 same_ok : {A B : Type 0} {x y : A} → (let p : Result A B = Ok x in p) ≡ Ok y → x ≡ y
 same_ok h = cc
 
--- the fates of lists are one
+-- the dispositions of lists are one
 one_dispositions : (draft : Draft) (ts : List Tree) (reading : Reading) (f g : List Disposition) → DispositionsAre draft reading ts f → DispositionsAre draft reading ts g → f ≡ g
 one_dispositions draft [] reading f g h k = h ∙ sym k
 one_dispositions draft (t ∷ ts) reading f g h k =

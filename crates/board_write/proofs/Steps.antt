@@ -108,7 +108,7 @@ none_back board (move name dx dy at) items e = no_shifted_back board dx dy at (f
 none_back board (rules text at) items e = cc
 none_back board (again at) items e = cc
 
--- ---- the units of a deed
+-- ---- the units of an operation
 
 pub can_take : (board new : PlainBoard) (command : PlainCommand) (u : ℕ) → IsSound board → Does board command (Ok (take_out u)) → u < board.next_unit
 can_take board new command u sound does = unit_below board u sound (one_change board command (Ok (take_out u)) (takes_out u) _ does refl refl).0
@@ -161,7 +161,7 @@ can_note edit_state command (shift u dx dy) on sound does =
     longer n gone few h = tt
     longer n (moves by) few h = let a = h.0 in let b = h.1 in (omega (arith, a, few), omega (arith, b, few))
 
--- ---- the draft after a deed
+-- ---- the draft after an operation
 
 units_ready : (board : PlainBoard) (unit : ℕ) (items : List Item) → All (IsReady board unit) items → UnitsOf unit items
 units_ready board unit [] h = tt

@@ -167,7 +167,7 @@ one_on [] zero = refl
 one_on [] (suc u) = refl
 one_on (m ∷ marks) u = refl
 
--- ---- the fates of lists
+-- ---- the dispositions of lists
 
 atom_same : (a next : Reading) (s : Span) (q : Bool) (c : List ℕ) → SaysPart a (leaf s q c) (Ok next) → next ≡ a
 atom_same a next s q c says =

@@ -34,8 +34,8 @@ spans_behind spans s = if is_first spans s then drop 1 spans else spans
 abbrev pub marks_behind : List Mark → List Span → Span → List Mark
 marks_behind marks spans s = if is_first spans s then drop 1 marks else marks
 
--- the fates of lists, by the marks and the spans of the units that are still to come: a list at the first of these spans is that unit's,
--- and any other stays
+-- the dispositions of lists, by the marks and the spans of the units that are still to come: a list at the first of these spans is that
+-- unit's, and any other stays
 abbrev pub dispositions_by : List Mark → List Span → List Tree → List Disposition
 dispositions_by marks spans [] = []
 dispositions_by marks spans (leaf s q content ∷ others) = dispositions_by marks spans others

@@ -43,7 +43,7 @@ IsAppendNoted (move name dx dy at) is_empty old new = ⊤
 IsAppendNoted (rules text at) is_empty old new = ⊤
 IsAppendNoted (again at) is_empty old new = ⊤
 
--- what the deed of a command changes is noted
+-- what the operation of a command changes is noted
 abbrev pub IsNoted : PlainCommand → PlainOperation → EditState → EditState → Type 0
 IsNoted command nothing old new = SameNotes old new
 IsNoted command (append items) old new = IsAppendNoted command (is_nil items) old new
@@ -51,7 +51,7 @@ IsNoted command (put_back items) old new = SameNotes old new
 IsNoted command (take_out unit) old new = (new.marks.items ≡ slice_set old.marks.items unit Gone) × (new.added.items ≡ old.added.items)
 IsNoted command (shift unit dx dy) old new = IsMarkedOn dx dy unit old.marks.items new.marks.items × (new.added.items ≡ old.added.items) × IsHeld dx × IsHeld dy
 
--- the unit of a deed has a mark, and can be moved once more
+-- the unit of an operation has a mark, and can be moved once more
 abbrev pub CanNote : PlainOperation → EditState → Type 0
 CanNote nothing edit_state = ⊤
 CanNote (append items) edit_state = ⊤

@@ -85,7 +85,7 @@ list_down setting s f = 40 ∷ (set_down setting (s.at + 1) (s.end - 1) true f +
 abbrev pub unit_moving : Distance → Forest → Moving
 unit_moving by f = if first_is (trees f) (codes "footprint") then First by else All by
 
--- a unit's list by what became of it: an added list, with its fate
+-- a unit's list by what became of it: an added list, with its disposition
 abbrev pub moving_by : Mark → Forest → Moving
 moving_by Stays f = Nothing
 moving_by Gone f = Nothing

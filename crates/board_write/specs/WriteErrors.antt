@@ -4,7 +4,7 @@ use Rattle.board_errors.specs.declared.errors.BoardError.TheVariants.{OutOfMemor
 use Rattle.board_write.specs.declared.error.WriteError.{WriteError}
 use Rattle.board_write.specs.declared.error.WriteError.TheVariants.{Board, OutOfMemory}
 
--- want of memory is one, wherever it was met
+-- running out of memory is one, wherever it was met
 abbrev pub write_error : BoardError → WriteError
 write_error NoMemory = OutOfMemory
 write_error why = Board why

@@ -32,7 +32,7 @@ pub record Outcome (text : List ℕ) (commands : List PlainCommand) (refused : �
 abbrev pub WroteWhole : List ℕ → List PlainCommand → Option (List ℕ) → Option (List ℕ) → ℕ → Type 0
 WroteWhole text commands old new refused = (outcome : Outcome text commands refused) × Appends old new outcome.out
 
--- a front part of such a text was written
+-- a prefix of such a text was written
 abbrev pub WrotePrefix : List ℕ → List PlainCommand → Option (List ℕ) → Option (List ℕ) → Type 0
 WrotePrefix text commands old new = (refused : ℕ) × (outcome : Outcome text commands refused) × AppendsPrefix old new outcome.out
 

@@ -52,7 +52,7 @@ fn note_added<'t>(
     ensures board { OnOk result (edit_state.new.board ≡ edit_state.old.board) }
     ensures refused { OnOk result (edit_state.new.refused ≡ edit_state.old.refused) }
 {
-    // The text was read before: only want of memory can refuse it.
+    // The text was read before: only running out of memory can refuse it.
     let Ok(doc) = parse_all(alloc, text) else {
         return Err(AllocError);
     };
@@ -66,7 +66,7 @@ fn note_added<'t>(
     Ok(())
 }
 
-/// Notes what a deed changes in the text of the board.
+/// Notes what an operation changes in the text of the board.
 fn note<'t>(
     alloc: Global,
     edit_state: &mut EditState<'t>,

@@ -12,7 +12,7 @@ use std::fmt;
 pub enum WriteError {
     /// The text is none of a board. Nothing was written.
     Board(BoardError),
-    /// The sink failed, and a front part of the text was written.
+    /// The sink failed, and a prefix of the text was written.
     Failed,
     /// Memory ran out, before anything was written.
     OutOfMemory,
@@ -25,7 +25,7 @@ impl HasReason for WriteError {
 
     ghost depth = { 3 };
 
-    /// What it is called, its number and the byte of the text at which a board is refused. Want of memory has no number,
+    /// What it is called, its number and the byte of the text at which a board is refused. Running out of memory has no number,
     /// which is written 0.
     fn reason(&self) -> Reason {
         match self {

@@ -1,6 +1,6 @@
 //! The text of a board after commands: byte for byte what it was, but for the lists of units that were taken out, moved or added.
 //!
-//! The list of a unit that was taken out is left out. In that of one that was moved, places are written anew, in millimetres with
+//! The list of a unit that was taken out is left out. In that of one that was moved, places are rewritten, in millimetres with
 //! six digits: of a footprint its own, of another unit those of all lists at any depth. Lists that were added stand last in the list of
 //! the board, each behind one space, with one space between its parts. What the text is, is defined in `roundtrip_boards`'s `IsWritten`.
 #![tactic(auto)]

@@ -31,7 +31,7 @@ pub(crate) struct Grid {
 }
 
 impl Grid {
-    /// Tiles without entries. Only want of memory refuses it.
+    /// Tiles without entries. Only running out of memory refuses it.
     pub(crate) fn new(alloc: Global) -> Result<Grid, AllocError>
         ensures shared { IfOk result (λ grid. AreShared (λ tile.
             []) grid.tiles.items grid.lists.items) }
@@ -46,7 +46,7 @@ impl Grid {
         })
     }
 
-    /// Equal lists of all tiles. Only want of memory refuses it.
+    /// Equal lists of all tiles. Only running out of memory refuses it.
     pub(crate) fn copy(&self) -> Result<Grid, AllocError>
         ensures shared { IfOk result (λ copy. (near : ℕ → List Entry)
             → AreShared near self.now.tiles.items self.now.lists.items
@@ -143,7 +143,7 @@ impl Grid {
     }
 
     /// Sees to it that the lists of an area's tiles are theirs alone, and that each has room for one more entry. What each tile has
-    /// stays. Only want of memory refuses it.
+    /// stays. Only running out of memory refuses it.
     pub(crate) fn reserve_one(&mut self, area: Area) -> Result<(), AllocError>
         requires homed { AreHomed self.old.tiles.items self.old.lists.items }
         requires even { IsEvenAt self.old.even self.old.tiles.items }

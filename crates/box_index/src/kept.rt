@@ -266,7 +266,7 @@ impl KeptBoxes {
         }
     }
 
-    /// Equal boxes. Only want of memory refuses it.
+    /// Equal boxes. Only running out of memory refuses it.
     pub(crate) fn copy(&self) -> Result<KeptBoxes, AllocError>
         ensures { IfOk result (λ copy. copy ≡ self.now) }
     {

@@ -30,7 +30,7 @@ fn push_tile(
 }
 
 /// Appends the ids of all entries whose boxes meet this one, also by touching; the reach is of no matter. An id comes once for
-/// each tile that both meet: `put_in_order` leaves each once. Only want of memory fails it, and some ids are then missing. What was
+/// each tile that both meet: `put_in_order` leaves each once. Only running out of memory fails it, and some ids are then missing. What was
 /// in the list stays at its front, also then.
 pub fn push_ids_near(
     index: &TileIndex,

@@ -1,4 +1,4 @@
--- Where the front of a text stops being the front of a condition. Types and levels are taken as they come here: a text that is
+-- Where the prefix of a text stops being the prefix of a condition. Types and levels are taken as they come here: a text that is
 -- refused for one of these alone goes on. A length and a text between quotes are asked apart, as they are refused whole.
 use Rattle.std.specs.Prelude.{◌≡◌, ◌⊎◌, ℕ, ◌+◌, true, false, ◌||◌, int_lt, List, [], ◌∷◌, ◌++◌, length, pos, ℤ, Result, Ok, Err}
 use Rattle.std.specs.Str.{is_utf8}
@@ -14,7 +14,7 @@ use Rattle.cond_lang.specs.UnitNumbers.{spelled, measure}
 use Rattle.cond_lang.specs.Trees.{CondTree}
 use Rattle.cond_lang.specs.Conditions.{reading}
 
--- ---- fronts of conditions
+-- ---- prefixes of conditions
 
 abbrev pub IsTakenAsItComes : CondError → Type 0
 IsTakenAsItComes (Bad at) = ⊥
@@ -39,7 +39,7 @@ IsFirstFault text k =
     (prefix rest : List ℕ) × (text ≡ prefix ++ rest) × (length prefix ≡ k) × GoesOn prefix
     × ((c : ℕ) (cs : List ℕ) → rest ≡ c ∷ cs → (more : List ℕ) → reading (prefix ++ (c ∷ more)) ≡ fault (Bad k))
 
--- ---- fronts of lengths
+-- ---- prefixes of lengths
 
 -- some length begins so, whatever its value
 abbrev pub LengthGoesOn : List ℕ → Type 0
@@ -59,7 +59,7 @@ IsOutOfRange (Err e) = Unit {0}
 abbrev pub IsRefusedLength : List ℕ → Type 0
 IsRefusedLength text = (whole rest : List ℕ) × (text ≡ whole ++ rest) × (spelled (length whole) whole ≡ read tt []) × IsOutOfRange (with_unit_answer whole)
 
--- Behind a front that goes on stands a length: it is refused where it begins, or stops being one at k.
+-- Behind a prefix that goes on stands a length: it is refused where it begins, or stops being one at k.
 abbrev pub IsInLength : List ℕ → ℕ → Type 0
 IsInLength text k =
     (prefix rest : List ℕ) × (text ≡ prefix ++ rest) × GoesOn prefix
@@ -67,7 +67,7 @@ IsInLength text k =
 
 -- ---- texts between quotes
 
--- behind a front that goes on and ends with a quote (39) stand signs, up to the next quote, that are no UTF-8 from k on
+-- behind a prefix that goes on and ends with a quote (39) stand signs, up to the next quote, that are no UTF-8 from k on
 abbrev pub IsInQuotes : List ℕ → ℕ → Type 0
 IsInQuotes text k =
     (prefix rest : List ℕ) × (text ≡ prefix ++ rest) × GoesOn prefix × (is_utf8 (prefix_text rest) ≡ false) × (k ≡ length prefix + utf8_valid_len (prefix_text rest))

@@ -4,7 +4,7 @@ use Rattle.plain_types.specs.Reasons.{PlainReason, refused_at, refused_nowhere}
 use Rattle.cond_lang.specs.declared.error.CondError.{CondError}
 use Rattle.cond_lang.specs.declared.error.CondError.TheVariants.{Bad, UnknownName, TypeClash, TooDeep, OutOfMemory}
 
--- want of memory has no number, which is written 0, and no place
+-- running out of memory has no number, which is written 0, and no place
 abbrev pub cond_reason : CondError → PlainReason
 cond_reason (Bad at) = refused_at (codes "Bad") 1 at
 cond_reason (UnknownName at) = refused_at (codes "UnknownName") 2 at

@@ -27,7 +27,7 @@ impl HasReason for CondError {
 
     ghost depth = { 1 };
 
-    /// What it is called, its number and its byte of the text. Want of memory has no number, which is written 0, and no
+    /// What it is called, its number and its byte of the text. Running out of memory has no number, which is written 0, and no
     /// place.
     fn reason(&self) -> Reason {
         match self {

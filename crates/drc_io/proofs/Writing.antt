@@ -25,7 +25,7 @@ AppendsPrefix-more a b first second part = record {
 pub AppendsPrefix-take : (a b : Option (List ℕ)) (text : List ℕ) (n : ℕ) → Appends a b (take n text) → AppendsPrefix a b text
 AppendsPrefix-take a b text n part = record { prefix = take n text; rest = drop n text; whole = sym (take-append-drop n text); appended = part }
 
--- a front part was written, and then nothing
+-- a prefix was written, and then nothing
 pub AppendsPrefix-kept : (a b c : Option (List ℕ)) (text : List ℕ) (n : ℕ) → Appends a b (take n text) → Keeps b c → AppendsPrefix a c text
 AppendsPrefix-kept a b c text n part kept = AppendsPrefix-take a c text n (Appends-kept a b c (take n text) part kept)
 

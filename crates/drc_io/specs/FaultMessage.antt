@@ -1,4 +1,4 @@
--- How a fetch that came to nothing is named: by its name and its number. Want of memory has no number.
+-- How a fetch that came to nothing is named: by its name and its number. Running out of memory has no number.
 use Rattle.std.specs.Prelude.{ℕ, List, codes}
 use Rattle.drc_io.specs.declared.FetchError.{FetchError}
 use Rattle.drc_io.specs.declared.FetchError.TheVariants.{Failed, TooLong, OutOfMemory}

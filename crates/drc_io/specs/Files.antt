@@ -37,7 +37,7 @@ HasAtMost (Some bytes) limit = length bytes ≤ limit
 abbrev pub IsLonger : Option (List (List ℕ × List ℕ)) → List ℕ → ℕ → Type 0
 IsLonger told name limit = IfSome told (λ files. HasMore (file_of files name) limit)
 
--- the text is a front part of the file; nothing was read where it is not there
+-- the text is a prefix of the file; nothing was read where it is not there
 abbrev pub IsPrefixOf : Option (List ℕ) → List ℕ → Type 0
 IsPrefixOf None text = text ≡ []
 IsPrefixOf (Some bytes) text = (rest : List ℕ) × (bytes ≡ text ++ rest)

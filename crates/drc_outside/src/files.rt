@@ -140,7 +140,8 @@ impl<O: Opens> FileShelf<O> {
         }
     }
 
-    /// The file that is kept, where it is the one to go on with, or else the file of this name, opened anew and read up to the place. It is kept no more.
+    /// The file that is kept, where it is the one to go on with, or else the file of this name, opened again and read up to the place. It
+    /// is kept no more.
     fn take_file(&mut self, name: &str, at: u64) -> io::Result<Opened<O::File>>
         ensures stands { IfOk result (λ opened.
             IsFileAt self.old.files name.now at (O.File.Read.remaining opened.file)) }
@@ -186,7 +187,8 @@ impl<O: Opens> Shelf for FileShelf<O> {
 
     ghost faults = { λ s _. s.faults };
 
-    /// A file stays open for the reads that follow, but for a fault. A read at another place opens it anew. The count rises exactly where a read fails.
+    /// A file stays open for the reads that follow, but for a fault. A read at another place opens it again. The count rises exactly where
+    /// a read fails.
     fn read(&mut self, name: &str, at: u64, buf: &mut [u8]) -> Result<usize, Failed>
         ensures bound { IfOk result (λ n. n ≤ length buf.old) }
         ensures bytes { IfOk result (λ n. ReadsFrom self.old.files name.now at n buf.new) }

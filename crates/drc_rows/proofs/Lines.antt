@@ -19,7 +19,7 @@ pub Puts-fails : {S T E D : Type 0} (a b : Option (List ℕ)) (m n : ℕ) (text 
 Puts-fails a b m n text pending piece kept e r d same is w =
     rw same record { bytes = subst (λ l. AppendsPrefix a b (l ++ piece)) is (AppendsPrefix-more a b text piece w.bytes); later = w.later; failed = w.failed }
 
--- what was pending went out, and then the piece, or a front of it
+-- what was pending went out, and then the piece, or a prefix of it
 pub Puts-past : {S T E D : Type 0} (a b c : Option (List ℕ)) (m n o : ℕ) (text pending piece : List ℕ) (x : S) (r : Result T E)
     → text ≡ pending → Writes {T = S} {E = D} a b m n text (Ok x) → Writes b c n o piece r → Puts a c m o pending piece [] r
 Puts-past a b c m n o text pending piece x (Ok y) is w v = record {

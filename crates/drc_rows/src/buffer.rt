@@ -105,7 +105,7 @@ impl ReportBuffer {
     }
 
     /// Puts a piece at the end. Where there is no room, what came before it goes out first. `Failed` comes only where
-    /// the sink's count of faults rose, and then a front part of what the buffer held and of the piece was written.
+    /// the sink's count of faults rose, and then a prefix of what the buffer held and of the piece was written.
     #[inline(always)]
     pub fn push<W: Sink>(&mut self, out: &mut W, piece: &[u8]) -> Result<(), Failed>
         ensures { Buffered W.written W.faults out.old out.new self.old piece.now self.new result }
@@ -131,8 +131,7 @@ impl ReportBuffer {
         Ok(())
     }
 
-    /// Lets all that is left go out. `Failed` comes only where the sink's count of faults rose, and then a front
-    /// part of it was written.
+    /// Lets all that is left go out. `Failed` comes only where the sink's count of faults rose, and then a prefix of it was written.
     pub fn end<W: Sink>(self, out: &mut W) -> Result<(), Failed>
         ensures { Wrote W.written W.faults out.old out.new self result }
     {

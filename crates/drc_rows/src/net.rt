@@ -190,7 +190,7 @@ fn push_links<W: Sink>(
 /// anchor.
 ///
 /// The net is declared; no group is empty, and all members and the items of all anchors are on the board; the links
-/// join anchors of the list. `Failed` comes only where the sink's count of faults rose, and then a front part of
+/// join anchors of the list. `Failed` comes only where the sink's count of faults rose, and then a prefix of
 /// what the buffer held and of these lines was written. It takes no memory.
 #[tactic(auto, unfolding(crate::specs::NetBlock::net_block))]
 pub fn push_net<W: Sink>(
@@ -218,7 +218,7 @@ pub fn push_net<W: Sink>(
 
 /// Writes the lines of a net, under the conditions of `push_net`: its name and how many groups it has, a line for
 /// each group, and a line for each link of its nest. `Failed` comes only where the sink's count of faults rose, and
-/// then a front part of the lines was written. It takes no memory.
+/// then a prefix of the lines was written. It takes no memory.
 pub fn write_net<W: Sink>(
     board: &Board,
     net: u32,

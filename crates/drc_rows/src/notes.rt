@@ -197,7 +197,7 @@ fn push_constraints<W: Sink>(
 }
 
 /// Puts the lines of all notes into the buffer: those of the board, by id, and then those of its rules, in their
-/// order. `Failed` comes only where the sink's count of faults rose, and then a front part of what the buffer held
+/// order. `Failed` comes only where the sink's count of faults rose, and then a prefix of what the buffer held
 /// and of these lines was written. It takes no memory.
 pub fn push_notes<W: Sink>(
     buffer: &mut ReportBuffer,
@@ -213,7 +213,7 @@ pub fn push_notes<W: Sink>(
 }
 
 /// Writes the lines of all notes: those of the board, by id, and then those of its rules, in their order. `Failed`
-/// comes only where the sink's count of faults rose, and then a front part of the lines was written. It takes no
+/// comes only where the sink's count of faults rose, and then a prefix of the lines was written. It takes no
 /// memory.
 pub fn write_notes<W: Sink>(board: &Board, rules: &Rules, out: &mut W) -> Result<(), Failed>
     ensures { Wrote W.written W.faults out.old out.new

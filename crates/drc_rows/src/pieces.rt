@@ -10,7 +10,7 @@ use drc_io::{Failed, Sink};
 use exact_dec::Nm;
 
 /// Puts pieces into the buffer, one after another. `Failed` comes only where the sink's count of faults rose, and
-/// then a front part of what the buffer held and of the pieces was written.
+/// then a prefix of what the buffer held and of the pieces was written.
 #[inline(always)]
 pub fn push_all<W: Sink>(
     buffer: &mut ReportBuffer,

@@ -365,7 +365,7 @@ module _ (one_reading : (text : List ℕ) (a b : Result PlainBoard BoardError) �
     one_text (write board script) values a b p q =
         one_written q.0 (commands_among values) a b (subst (λ (text : List ℕ). IsBoardWritten text (commands_among values) a) (texts p.0 q.0 (sym p.1 ∙ q.1)) p.2) q.2
 
-    -- what is written after some of the commands is a front part of what all give
+    -- what is written after some of the commands is a prefix of what all give
     prefix_text : (call : PlainCall) (values : List Value) (text : List ℕ) (out : Output) → IsBegunBy call values text → IsTextOf call values out → (rest : List ℕ) × (out.text ≡ text ++ rest)
     prefix_text (nothing line) values text out p q = absurd p
     prefix_text (check r) values text out p q =

@@ -1,4 +1,4 @@
--- What commands give that begin with one thing is one output, and what is written after some of the commands is a front part of it.
+-- What commands give that begin with one thing is one output, and what is written after some of the commands is a prefix of it.
 use Rattle.std.proofs.Common.{◌≡◌, ◌∙◌, ap, sym, subst, ℕ, Bool, List, ◌++◌}
 use Rattle.std.proofs.lemmas.List.{append_assoc}
 use Rattle.pair_check.specs.PlainRow.{PlainRow}

@@ -83,7 +83,7 @@ module _ (IsIt : Output → Type 0) (IsBegun : List ℕ → Type 0) (Fault : Whi
   its_status status same w out is =
       (sym w.2 ∙ ap (λ (o : Output). o.status) (same w.0 out w.1 is), subst (λ (o : Output). Appends old new o.text) (same w.0 out w.1 is) w.3)
 
--- a front part of what a text begins with is one of the text
+-- a prefix of what a text begins with is one of the text
 longer : (old new : Option (List ℕ)) (text whole rest : List ℕ) → whole ≡ text ++ rest → AppendsPrefix old new text → AppendsPrefix old new whole
 longer old new text whole rest e a = record {
   prefix = a.prefix;

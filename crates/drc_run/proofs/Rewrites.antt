@@ -71,7 +71,7 @@ module _ (read_back : IsReadBack)
   wrote_ends refused s w e =
       ended IsIt (IsTextOfOne IsIt) (λ _. ⊥) old new refused s e (output_of refused w.0, is_output refused w.0, sym e, w.1)
 
-  -- a front part was written
+  -- a prefix was written
   pub prefix_ends : WrotePrefix text commands old new → Ends IsIt (IsTextOfOne IsIt) (λ _. ⊥) old new WriteFault
   prefix_ends w = inl (inr (w.1.out, its_text IsIt (output_of w.0 w.1) (is_output w.0 w.1), w.2))
 
@@ -91,7 +91,7 @@ module _ (told : Option (List (List ℕ × List ℕ))) (board script : List ℕ)
         stops_at told before now (write board script) (named Script script) stop (reached told (named Text board ∷ []) [] (a_text text ∷ []) (named Script script) (says, tt))
         (later told before now middle (named Script script) stop up s)
 
-  -- both are accepted, and what the call left was an output or a front part of it
+  -- both are accepted, and what the call left was an output or a prefix of it
   module _ (text : List ℕ) (commands : List PlainCommand) (first : SourceSays told (named Text board) (accepted (a_text text))) (second : SourceSays told (named Script script) (accepted (a_script commands))) where
     abbrev values : List Value
     values = a_text text ∷ a_script commands ∷ []

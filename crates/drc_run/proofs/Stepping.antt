@@ -54,7 +54,7 @@ module _ (number : ℕ) (was : PlainHistory) (step : PlainStep) (is : PlainHisto
       subst (λ (x : Result (Unit {0}) Break). IfErr x (λ _. IsStepBroken number was step old new)) (sym e)
       (inr (λ past are. (let t = takes past are in record { next = t.next; text = text; turn = t.turn; written = w.bytes })))
 
--- what is refused but for want of memory
+-- what is refused but for running out of memory
 refused_is : (was is : PlainHistory) (step : PlainStep) (why : HistoryError) → was.stopped ≡ false → (why ≡ NoMemory → ⊥) → IsStepRefused was is step why
     → ((past : Past) → IsPastOf was past → StepAnswers past step (Err why)) × (is ≡ was)
 refused_is was is step (Edit e) runs n h = (h.1, h.2)

@@ -142,7 +142,7 @@ module _ (opening : State) (commands : List PlainCommand) (old mid new : Option 
   by_status false w = w
   by_status true w = w
 
-  -- all trials were written, and then the last line or a front part of it
+  -- all trials were written, and then the last line or a prefix of it
   pub trials_whole : (comes : Bool) (counts : List (Option ℕ)) (least : Option ℕ) (m n : ℕ) (r : Result (Unit {0}) Failed) (s : Status) → AreTaken (IsTrial opening) false commands comes old mid → IsSurvey opening commands counts least
       → IsLeastWritten counts least mid new m n r → MatchResult r (λ _. s ≡ trials_status comes) (λ _. s ≡ WriteFault) → Ends told told_so_far (λ _. ⊥) old new s
   trials_whole comes counts least m n r s taken survey line e = by_result r line.writes e

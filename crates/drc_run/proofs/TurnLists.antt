@@ -25,7 +25,7 @@ module _ {S C : Type 0} (Turn : ℕ → S → C → S → List ℕ → Type 0) w
       let rest = one_text one (n + 1) k.0 commands a b h.2 k.2 (subst (λ (x : S). AreTurns Turn (n + 1) x commands a h.2) here.0 h.4) k.4 in
       (rest.0, h.5 ∙ (ap (λ zs. zs ++ h.2) here.1 ∙ (ap (λ zs. k.1 ++ zs) rest.1 ∙ sym k.5)))
 
-  -- what the first of the commands write is a front part of what all of them write
+  -- what the first of the commands write is a prefix of what all of them write
   prefix_by : IsOne Turn → (n : ℕ) (s : S) (done left : List C) (mid last : S) (xs ys : List ℕ) → AreTurns Turn n s done mid xs → AreTurns Turn n s (done ++ left) last ys → (rest : List ℕ) × (ys ≡ xs ++ rest)
   prefix_by one n s [] left mid last xs ys h k = (ys, ap (λ zs. zs ++ ys) (sym h.1))
   prefix_by one n s (c ∷ done) left mid last xs ys h k =

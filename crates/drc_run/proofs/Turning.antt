@@ -28,7 +28,7 @@ use Rattle.drc_run.proofs.Written.{reporting}
 
 -- ---- one turn
 
--- its text was written, or a front part of that
+-- its text was written, or a prefix of that
 module _ {S C : Type 0} (Turn : ℕ → S → C → S → List ℕ → Type 0) (number : ℕ) (s : S) (command : C) (next : S) (old new : Option (List ℕ)) (m n : ℕ) (text : List ℕ) (turn : Turn number s command next text) where
   pub taken_by : (r : Result (Unit {0}) Failed) (b : Result (Unit {0}) Break) → MatchResult r (λ u. b ≡ Ok u) (λ _. b ≡ Err Unwritten) → Writes {T = Unit {0}} {E = Failed} old new m n text r
       → IfOk b (λ _. IsTurnTaken Turn number s command next old new)
@@ -41,7 +41,7 @@ module _ {S C : Type 0} (Turn : ℕ → S → C → S → List ℕ → Type 0) (
   broken_by (Err f) b e w =
       subst (λ (x : Result (Unit {0}) Break). IfErr x (λ _. Keeps old new ⊎ IsBroken Turn number s command old new)) (sym e) (inr (record { next = next; text = text; turn = turn; written = w.bytes }))
 
--- what is refused but for want of memory
+-- what is refused but for running out of memory
 refused_is : (old new : PlainSession) (command : PlainCommand) (why : EditError) → old.stopped ≡ false → (why ≡ NoMemory → ⊥) → IsRefusedBy old new command why → Answers old.state command (Err why) × (new ≡ old)
 refused_is old new command NoSuchItem runs n h = (h.1, h.2)
 refused_is old new command SharedName runs n h = (h.1, h.2)

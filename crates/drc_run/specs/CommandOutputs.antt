@@ -33,7 +33,7 @@ pub record AreFirstTurns {S C : Type 0} (Turn : ℕ → S → C → S → List �
 -- ---- commands
 
 -- a refused command writes its line, and the state stays; any other writes the report of the state that it leads to, where the tiles were
--- gone through that it stirred
+-- gone through that it affected
 pub data IsTurn (short : Bool) (n : ℕ) (s : State) (command : PlainCommand) (next : State) (text : List ℕ) : Type 0 where
   refused : (why : EditError) → Answers s command (Err why) → next ≡ s → text ≡ refused_line n (why_edit why) → IsTurn short n s command next text
   made : Answers s command (Ok next) → (tiles : List ℕ) → AreRechecked (checked_in s) (checked_in next) (is_rules command) tiles → IsReport short n next (length tiles) text → IsTurn short n s command next text

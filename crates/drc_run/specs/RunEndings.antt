@@ -14,11 +14,11 @@ use Rattle.drc_run.specs.Output.{Output, IsOutputFor, IsBegunFor, cannot_read}
 abbrev pub Whole : (Output → Type 0) → Option (List ℕ) → Option (List ℕ) → ℕ → Type 0
 Whole IsIt old new status = (out : Output) × IsIt out × (out.status ≡ status) × Appends old new out.text
 
--- nothing was written, or a front part of what an output begins with
+-- nothing was written, or a prefix of what an output begins with
 abbrev pub Prefix : (List ℕ → Type 0) → Option (List ℕ) → Option (List ℕ) → Type 0
 Prefix IsBegun old new = Keeps old new ⊎ ((text : List ℕ) × IsBegun text × AppendsPrefix old new text)
 
--- nothing was written, or a front part of this text
+-- nothing was written, or a prefix of this text
 abbrev pub PrefixOf : List ℕ → Option (List ℕ) → Option (List ℕ) → Type 0
 PrefixOf text old new = Keeps old new ⊎ AppendsPrefix old new text
 
@@ -26,7 +26,7 @@ PrefixOf text old new = Keeps old new ⊎ AppendsPrefix old new text
 abbrev pub Unread : (Which → Type 0) → Option (List ℕ) → Option (List ℕ) → Type 0
 Unread Fault old new = (which : Which) × Fault which × Appends old new (cannot_read which)
 
--- a text was not read, and a front part of that line was written
+-- a text was not read, and a prefix of that line was written
 abbrev pub UnreadPrefix : (Which → Type 0) → Option (List ℕ) → Option (List ℕ) → Type 0
 UnreadPrefix Fault old new = (which : Which) × Fault which × AppendsPrefix old new (cannot_read which)
 
@@ -72,14 +72,14 @@ pub record Promises (call : PlainCall) (told : Option (List (List ℕ × List �
   pub whole : status < 4 → Whole (IsOutputFor call told) old new status
   -- a read fault has its cause: the turn of that text came, and the count of its file rose; and one line was written, which says which text
   pub read : status ≡ 4 → Unread (ReadFails call told reads_before reads_now) old new
-  -- a write fault has its cause, and a front part was written of what the output begins with, or of the line of a read fault
+  -- a write fault has its cause, and a prefix was written of what the output begins with, or of the line of a read fault
   pub write : status ≡ 5 → Rose writes_before writes_now
   pub part : status ≡ 5 → Prefix (IsBegunFor call told) old new ⊎ UnreadPrefix (ReadFails call told reads_before reads_now) old new
-  -- where memory ran out a front part of what the output begins with was written
+  -- where memory ran out a prefix of what the output begins with was written
   pub memory : status ≡ 6 → Prefix (IsBegunFor call told) old new
   -- without a fault the output comes whole, unless memory runs out
   pub complete : ¬ (Rose writes_before writes_now) → ((which : Which) → ¬ (ReadFails call told reads_before reads_now which)) → (status < 4) ⊎ (status ≡ 6)
   -- of a shelf that tells, the words and the files have one output: this status and the text that was written
   pub exact : IfSome told (λ files. (output : Output) → IsOutputFor call (Some files) output → status < 4 → (status ≡ output.status) × Appends old new output.text)
-  -- and where a write failed or memory ran out, what was written is a front part of the text of every output, or of the line of a read fault
+  -- and where a write failed or memory ran out, what was written is a prefix of the text of every output, or of the line of a read fault
   pub prefix : IfSome told (λ files. (output : Output) → IsOutputFor call (Some files) output → (status ≡ 6 → PrefixOf output.text old new) × (status ≡ 5 → PrefixOf output.text old new ⊎ UnreadPrefix (ReadFails call told reads_before reads_now) old new))

@@ -24,7 +24,7 @@ use Rattle.drc_run.specs.Output.{Output, IsLeastLine, AreTrialsTold, AreFirstTri
 abbrev pub found_of : PlainSession → ℕ → Found
 found_of session held = record { rows = session.rows; parts = session.nets; held = held }
 
--- the report of a session was written, or a front part of it
+-- the report of a session was written, or a prefix of it
 pub record IsReported (short : Bool) (number : ℕ) (session : PlainSession) (done held : ℕ) (old new : Option (List ℕ)) (before now : ℕ) (result : Result (Unit {0}) Failed) : Type 0 where
   pub found : AreFindings session.state (found_of session held)
   pub writes : Writes {T = Unit {0}} {E = Failed} old new before now (report_text short number session.state (found_of session held) done) result
@@ -35,7 +35,7 @@ pub record IsTurnTaken {S C : Type 0} (Turn : ℕ → S → C → S → List ℕ
   pub turn : Turn number s command next text
   pub written : Appends old new text
 
--- a front part of what a turn writes was written
+-- a prefix of what a turn writes was written
 pub record IsBroken {S C : Type 0} (Turn : ℕ → S → C → S → List ℕ → Type 0) (number : ℕ) (s : S) (command : C) (old new : Option (List ℕ)) : Type 0 where
   pub next : S
   pub text : List ℕ
@@ -48,7 +48,7 @@ pub record AreTaken {S C : Type 0} (Turn : ℕ → S → C → S → List ℕ �
   pub turns : AreTurns Turn 1 s commands last text
   pub written : Appends old new text
 
--- a front part of what the first turns write was written
+-- a prefix of what the first turns write was written
 pub record AreBroken {S C : Type 0} (Turn : ℕ → S → C → S → List ℕ → Type 0) (s : S) (commands : List C) (old new : Option (List ℕ)) : Type 0 where
   pub text : List ℕ
   pub turns : AreFirstTurns Turn s commands text
@@ -63,7 +63,7 @@ pub record SoFar {S C : Type 0} (Turn : ℕ → S → C → S → List ℕ → T
   pub written : Appends old new text
   pub later : before ≤ faults
 
--- a refusal was told: memory ran out and nothing was written, or its line was written, or a front part of that
+-- a refusal was told: memory ran out and nothing was written, or its line was written, or a prefix of that
 pub data IsAnswered (Wants : Type 0) (text : List ℕ) (old new : Option (List ℕ)) (before now : ℕ) (result : Result (Unit {0}) Break) : Type 0 where
   wanting : Wants → result ≡ Err OutOfMemory → Keeps old new → before ≡ now → IsAnswered Wants text old new before now result
   line : (Wants → ⊥) → (written : Result (Unit {0}) Failed) → Writes {T = Unit {0}} {E = Failed} old new before now text written
@@ -82,7 +82,7 @@ IsStepAnswered number why old new before now result = IsAnswered (why ≡ NoMemo
 abbrev pub IsStepTaken : ℕ → PlainHistory → PlainStep → PlainHistory → Option (List ℕ) → Option (List ℕ) → Type 0
 IsStepTaken number was step is old new = (past : Past) → IsPastOf was past → (next : Past) × IsPastOf is next × IsTurnTaken IsStepTurn number past step next old new
 
--- a front part of what it writes was written, or nothing
+-- a prefix of what it writes was written, or nothing
 abbrev pub IsStepBroken : ℕ → PlainHistory → PlainStep → Option (List ℕ) → Option (List ℕ) → Type 0
 IsStepBroken number was step old new = Keeps old new ⊎ ((past : Past) → IsPastOf was past → IsBroken IsStepTurn number past step old new)
 
@@ -96,7 +96,7 @@ pub record AreStepsSoFar (was : PlainHistory) (done : List PlainStep) (k number 
 
 -- ---- trials
 
--- the last line was written, or a front part of it
+-- the last line was written, or a prefix of it
 pub record IsLeastWritten (counts : List (Option ℕ)) (least : Option ℕ) (old new : Option (List ℕ)) (before now : ℕ) (result : Result (Unit {0}) Failed) : Type 0 where
   pub text : List ℕ
   pub is : IsLeastLine counts least text

@@ -70,7 +70,7 @@ pub(crate) fn tiles_of(applied: &Applied) -> Tiles
     }
 }
 
-/// Writes the line of the command of this number, which is refused. Want of memory is not written.
+/// Writes the line of the command of this number, which is refused. Running out of memory is not written.
 fn refused<W: Sink>(number: u64, why: EditError, out: &mut W) -> Result<(), Break>
     ensures { IsEditAnswered number why (W.written out.old) (W.written out.new) (W.faults out.old)
         (W.faults out.new) result }

@@ -80,7 +80,7 @@ pub fn run<R: Threads + Sync + AllocGlobal, F: Shelf, W: Sink, G: Gate>(
     // The files stay as they were.
     ensures same { F.files shelf.new ≡ F.files shelf.old }
 {
-    // What is written whole is the one output, and what is begun a front part of it.
+    // What is written whole is the one output, and what is begun a prefix of it.
     one_output();
     begun_is_prefix();
     let status = match check_call(rt.alloc(), words) {

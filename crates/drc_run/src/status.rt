@@ -52,7 +52,7 @@ pub(crate) fn usage<W: Sink>(line: &'static [u8], out: &mut W) -> Status
     after(put_all(out, line), Status::Usage)
 }
 
-/// Writes why there is no report. Want of memory is not written.
+/// Writes why there is no report. Running out of memory is not written.
 pub(crate) fn write_stop<W: Sink>(stop: Stop, out: &mut W) -> Status
     ensures ends { Ends (IsLineOf stop) (IsTextOfOne (IsLineOf stop))
         (λ which. stop ≡ Stop.Unread which) (W.written out.old) (W.written out.new) result }

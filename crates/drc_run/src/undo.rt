@@ -34,7 +34,7 @@ use std::thread::Threads;
 use tile_pool::Gate;
 use undo_log::{History, HistoryError};
 
-/// By how many workers the tiles that a step stirs are gone through.
+/// By how many workers the tiles that a step affects are gone through.
 const WORKERS: u32 = 1;
 
 /// Takes the step.
@@ -55,7 +55,7 @@ fn take<R: Threads + Sync + AllocGlobal, G: Gate>(
     }
 }
 
-/// Writes the line of the step of this number, which is refused. Want of memory is not written.
+/// Writes the line of the step of this number, which is refused. Running out of memory is not written.
 fn refused<W: Sink>(number: u64, why: HistoryError, out: &mut W) -> Result<(), Break>
     ensures { IsStepAnswered number why (W.written out.old) (W.written out.new) (W.faults out.old)
         (W.faults out.new) result }

@@ -1,4 +1,4 @@
--- What is found anew after an edit, where the ids and the rules were lent.
+-- What is found again after an edit, where the ids and the rules were lent.
 use Rattle.std.proofs.Common.{◌≡◌, ◌∙◌, sym, subst, ℕ, ℤ, false, List, map, Option}
 use Rattle.int_algebra.proofs.Scalars.{passed}
 use Rattle.plain_types.specs.Lengths.{IsLength}

@@ -1,4 +1,4 @@
--- An index whose entries of some ids are found anew.
+-- An index whose entries of some ids are found again.
 use Rattle.std.proofs.Common.{◌≡◌, ◌≢◌, ◌⊎◌, inl, inr, refl, sym, ap, subst, ◌∙◌, ℕ, ◌+◌, ◌<◌, Bool, true, false, not, ◌==◌, nat_lt, List, [], ◌∷◌, ◌++◌, length, get_or, take, filter, Contains, Option, None, Some, arith, eq-eqb, true≢false}
 use Rattle.std.proofs.lemmas.Bool.{ne_eqb, lt-ltb}
 use Rattle.std.proofs.lemmas.List.{get_or_default}

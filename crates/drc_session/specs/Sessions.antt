@@ -1,4 +1,4 @@
--- A session as contracts see it: a state, its rows and its nets, and whether want of memory stopped it. Of a stopped session nothing
+-- A session as contracts see it: a state, its rows and its nets, and whether running out of memory stopped it. Of a stopped session nothing
 -- else is known.
 use Rattle.std.specs.Prelude.{◌≡◌, ℕ, Bool, true, false, List, length, Ok, Err}
 use Rattle.claim_board.specs.DealViews.{dealt_tiles, dealt_seats}
@@ -35,7 +35,7 @@ pub record IsOpened (state : State) (applied : Applied) : Type 0 where
   pub tiles : AreHeld (checked_in state) applied.tiles.items
   pub held : applied.held ≡ length applied.tiles.items
 
--- after a change those that it stirred, or all of them
+-- after a change those that it affected, or all of them
 pub record IsApplied (old new : State) (replaced : Bool) (applied : Applied) : Type 0 where
   pub tiles : AreRechecked (checked_in old) (checked_in new) replaced applied.tiles.items
   pub held : IsHeldCount (checked_in new) applied.held

@@ -21,7 +21,7 @@ use std::alloc::{AllocError, AllocGlobal, Global};
 use std::thread::Threads;
 use tile_pool::Gate;
 
-/// Makes the edit, and finds anew what it changed.
+/// Makes the edit, and finds again what it changed.
 fn carry_out<R: Threads + Sync, G: Gate>(
     rt: &R,
     alloc: Global,
@@ -85,8 +85,8 @@ impl Session {
         Ok(made)
     }
 
-    /// Carries the command out, or says why it is not carried out. The tiles that it stirs are dealt to so many workers, from 1 to 64.
-    /// After each refusal but want of memory all is as it was. After want of memory the session is stopped.
+    /// Carries the command out, or says why it is not carried out. The tiles that it affects are dealt to so many workers, from 1 to 64.
+    /// After each refusal but running out of memory all is as it was. After running out of memory the session is stopped.
     pub fn apply<R: Threads + Sync + AllocGlobal, G: Gate>(
         &mut self,
         rt: &R,
@@ -105,7 +105,7 @@ impl Session {
         Ok(applied)
     }
 
-    /// Carries the command out as [`Session::apply`] does, and gives the change that leads back too. That change replaces the rules exactly
+    /// Carries the command out as [`Session::apply`] does, and gives the inverse change too. That change replaces the rules exactly
     /// where the command does, and where an added list gives no item, or a report is asked for again, it is [`Change::Nothing`].
     pub fn apply_kept<R: Threads + Sync + AllocGlobal, G: Gate>(
         &mut self,
@@ -143,7 +143,7 @@ impl Session {
         }
     }
 
-    /// Makes a change that fits, and gives the one that leads back, which replaces the rules exactly where this one does. After want of
+    /// Makes a change that fits, and gives its inverse, which replaces the rules exactly where this one does. After running out of
     /// memory the session is stopped.
     pub fn turn<R: Threads + Sync + AllocGlobal, G: Gate>(
         &mut self,

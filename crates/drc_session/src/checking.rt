@@ -59,8 +59,9 @@ pub(crate) fn check_all<R: Threads + Sync, G: Gate>(
     Ok((rows, applied))
 }
 
-/// Makes the rows before an edit those of what is checked now. `changed` are the ids of all that changed, rising, and the boxes are theirs, as they were
-/// and as they are: the tiles that these meet are gone through. Only want of memory fails it, and the rows are then of no use.
+/// Makes the rows before an edit those of what is checked now. `changed` are the ids of all that changed, rising, and the boxes are theirs,
+/// as they were and as they are: the tiles that these meet are gone through. Only running out of memory fails it, and the rows are then of
+/// no use.
 pub(crate) fn check_near<R: Threads + Sync, G: Gate>(
     rt: &R,
     alloc: Global,

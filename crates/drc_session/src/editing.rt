@@ -125,7 +125,7 @@ fn nets_recomputed<R: Threads + Sync>(
     update_parts(rt, alloc, workers, board, nets, &touched)
 }
 
-/// What an edit stirred: the ids of all that changed, rising, the boxes that those of the edit had, and whether the reach is as
+/// What an edit affected: the ids of all that changed, rising, the boxes that those of the edit had, and whether the reach is as
 /// before.
 #[derive(Drop)]
 pub(crate) struct EditEffects {
@@ -197,7 +197,7 @@ fn is_same(reach: Nm, before: Nm) -> bool
     reach == before
 }
 
-/// Finds anew what an edit of these ids changed. `look` is what was looked up before it. Only want of memory fails it.
+/// Finds again what an edit of these ids changed. `look` is what was looked up before it. Only running out of memory fails it.
 fn find_recomputed<R: Threads + Sync, G: Gate>(
     rt: &R,
     alloc: Global,
@@ -247,7 +247,7 @@ fn find_recomputed<R: Threads + Sync, G: Gate>(
     Ok(applied)
 }
 
-/// Does the deed to the board, and finds anew what it changed. It gives the deed that leads back. Only want of memory fails it.
+/// Does the operation to the board, and finds again what it changed. It gives the inverse operation. Only running out of memory fails it.
 pub(crate) fn edit_board<R: Threads + Sync, G: Gate>(
     rt: &R,
     alloc: Global,

@@ -35,7 +35,7 @@ fn update_entries(board: &Board, index: &mut TileIndex, ids: &[u32]) -> Result<(
     Ok(())
 }
 
-/// Makes the index of a board's items before an edit of these ids that of the board as it is now. Only want of memory fails it, and
+/// Makes the index of a board's items before an edit of these ids that of the board as it is now. Only running out of memory fails it, and
 /// the index is then of no use.
 #[tactic(auto, using(crate::proofs::Entries::updated_index))]
 pub(crate) fn update_index(

@@ -148,7 +148,7 @@ fn open<R: Threads + Sync, G: Gate>(
 
 impl Session {
     /// A session of this board under these classes and rules: all is checked, by so many workers, from 1 to 64. There are fewer than
-    /// 2^32 - 1 rules. Only want of memory refuses it.
+    /// 2^32 - 1 rules. Only running out of memory refuses it.
     pub fn begin<R: Threads + Sync + AllocGlobal, G: Gate>(
         rt: &R,
         workers: u32,

@@ -39,7 +39,8 @@ fn reach_recomputed(alloc: Global, parts: &mut Parts) -> Result<(), AllocError>
     Ok(())
 }
 
-/// Puts these rules in place of those that there are, and checks all. It gives the rules that there were. Only want of memory fails it.
+/// Puts these rules in place of those that there are, and checks all. It gives the rules that there were. Only running out of memory fails
+/// it.
 pub(crate) fn replace_rules<R: Threads + Sync, G: Gate>(
     rt: &R,
     alloc: Global,

@@ -16,7 +16,7 @@ use std::marker::Model;
 use std::thread::{Threads, join};
 
 /// A board that is edited and stays checked, under the classes of a project and rules. Contracts see the state, its rows and its nets,
-/// and whether an earlier call stopped the session by a want of memory.
+/// and whether an earlier call stopped the session by running out of memory.
 #[derive(Drop)]
 pub struct Session {
     pub(crate) parts: Parts,
@@ -96,7 +96,7 @@ impl Session {
         &self.parts.nets
     }
 
-    /// Whether an earlier call met a want of memory.
+    /// Whether an earlier call ran out of memory.
     pub fn stopped(&self) -> bool
         ensures { result ≡ self.now.stopped }
     {

@@ -1,4 +1,4 @@
--- The tiles that an index finds by the boxes of all that differs are those that are gone through again.
+-- The tiles that an index finds by the boxes of all that differs are those that are rechecked.
 use Rattle.std.proofs.Common.{◌≡◌, ◌⊎◌, inl, inr, refl, sym, subst, ℕ, ◌<◌, Bool, true, false, ◌&&◌, ◌||◌, List, Contains}
 use Rattle.std.proofs.lemmas.List.Folds.{Any-from_list_any, list_any_at}
 use Rattle.std.proofs.lemmas.List.Elements.{All-weaker, All-filter, filter_passes}
@@ -49,7 +49,7 @@ module _ (old new : Checked) (index : PlainIndex) (is : IsIndexOf new index) (fa
       by_side entry m (inl own) = inl (record { own = own; meets = m })
       by_side entry m (inr own) = inr (record { own = own; meets = m })
 
-  -- what something stirs, a box of all that differs meets
+  -- what something affects, a box of all that differs meets
   met : (tile : ℕ) → IsDirty old new index.reach tile → is_met_by (margin index) boxes tile ≡ true
   met tile s = by_side s.met
     where

@@ -1,4 +1,4 @@
--- What is checked has one reach, and after a change one list of tiles is gone through again.
+-- What is checked has one reach, and after a change one list of tiles is rechecked.
 use Rattle.std.proofs.Common.{◌≡◌, ◌⊎◌, inl, inr, sym, subst, ◌∙◌, ℕ, ◌<◌, ℤ, ◌≤ℤ◌, Bool, true, false, List, true≢false, arith}
 use Rattle.std.proofs.lemmas.Int.{ints}
 use Rattle.std.proofs.lemmas.List.Elements.{All-contains}
@@ -25,7 +25,7 @@ pub one_list_held : (one : (board : PlainBoard) (reach : ℤ) (xs ys : List ℕ)
 one_list_held one c xs ys h k =
     one c.board k.reach xs ys (subst (λ (n : ℤ). AreTilesHeld c.board n xs) (one_reach c h.reach k.reach h.farthest k.farthest) h.are_held) k.are_held
 
--- the tile holds an item, and something stirred it
+-- the tile holds an item, and something affected it
 abbrev IsFound : Checked → Checked → ℤ → ℕ → Type 0
 IsFound old new reach tile = HoldsItem new.board reach tile × IsDirty old new reach tile
 

@@ -30,7 +30,7 @@ makes_answer old new board command operation none same does makes =
     answers old command (Ok new) (Ok operation) none (subst (λ (b : PlainBoard). Does b command (Ok operation)) (sym same) does)
     (new.board, makes.0, ap (λ (s : State). Ok s) makes.1)
 
--- what gives no item is a deed that gives nothing
+-- what gives no item is an operation that gives nothing
 ok_once : (x y : PlainOperation) (r : Result PlainOperation Refusal) → r ≡ Ok x → r ≡ Ok y → x ≡ y
 ok_once x y r h k = cc
 

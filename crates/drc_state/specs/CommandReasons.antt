@@ -7,7 +7,7 @@ use Rattle.rule_text.specs.RuleReasons.{rules_reason}
 use Rattle.drc_state.specs.declared.error.EditError.{EditError}
 use Rattle.drc_state.specs.declared.error.EditError.TheVariants.{NoSuchItem, SharedName, PartOfFootprint, Item, Rules, Stopped, OutOfMemory}
 
--- units that are not found have no place: they are named; want of memory has no number, which is written 0
+-- units that are not found have no place: they are named; running out of memory has no number, which is written 0
 abbrev pub edit_reason : EditError → PlainReason
 edit_reason NoSuchItem = refused_nowhere (codes "NoSuchItem") 1
 edit_reason SharedName = refused_nowhere (codes "SharedName") 2

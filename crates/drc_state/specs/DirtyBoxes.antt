@@ -1,4 +1,4 @@
--- The boxes by which the tiles are found that are gone through again.
+-- The boxes by which the tiles are found that are rechecked.
 use Rattle.std.specs.Prelude.{◌≡◌, ◌⊎◌, List, Contains}
 use Rattle.geo_seg.specs.declared.boxes.Bounds.{Bounds}
 use Rattle.box_index.specs.declared.entry.Entry.{Entry}

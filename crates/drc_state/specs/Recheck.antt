@@ -1,4 +1,4 @@
--- Which tiles are gone through again after a change. All is said of what is checked before and after it.
+-- Which tiles are rechecked after a change. All is said of what is checked before and after it.
 use Rattle.std.specs.Prelude.{◌≡◌, ◌≢◌, ◌⊎◌, ℕ, ◌<◌, ℤ, Bool, true, false, List, length, All, Contains}
 use Rattle.std.specs.List.Sorted.{IsStrictlyIncreasing}
 use Rattle.rule_pick.specs.declared.facts.Facts.{Facts}
@@ -33,14 +33,14 @@ pub record IsDirty (old new : Checked) (reach : ℤ) (tile : ℕ) : Type 0 where
   pub differs : Differs old new entry.id
   pub met : IsMetBy old.board reach entry tile ⊎ IsMetBy new.board reach entry tile
 
--- the tiles that hold an item and that something stirred, and no others, rising
+-- the tiles that hold an item and that something affected, and no others, rising
 pub record AreDirty (old new : Checked) (reach : ℤ) (tiles : List ℕ) : Type 0 where
   pub rising : IsStrictlyIncreasing tiles
   pub within : All (λ tile. tile < tile_count) tiles
   pub only : All (λ tile. HoldsItem new.board reach tile × IsDirty old new reach tile) tiles
   pub all : (tile : ℕ) → tile < tile_count → HoldsItem new.board reach tile → IsDirty old new reach tile → Contains tiles tile
 
--- ---- what is gone through again
+-- ---- what is rechecked
 
 pub record ReachStays (old new : Checked) (reach : ℤ) : Type 0 where
   pub was : IsFarthest old reach
@@ -53,7 +53,7 @@ pub record ReachDiffers (old new : Checked) : Type 0 where
   pub is : IsFarthest new now
   pub differ : before ≢ now
 
--- all tiles that hold an item, where the rules were replaced or the reach differs, and else those of them that something stirred
+-- all tiles that hold an item, where the rules were replaced or the reach differs, and else those of them that something affected
 pub data AreRechecked (old new : Checked) (replaced : Bool) (tiles : List ℕ) : Type 0 where
   whole : (replaced ≡ true) ⊎ ReachDiffers old new → AreHeld new tiles → AreRechecked old new replaced tiles
   near : replaced ≡ false → (reach : ℤ) → ReachStays old new reach → AreDirty old new reach tiles → AreRechecked old new replaced tiles

@@ -1,4 +1,4 @@
--- Changes of a state, and which lead back.
+-- Changes of a state, and which are inverse.
 use Rattle.std.specs.Prelude.{◌≡◌, Bool, true, false, map}
 use Rattle.plain_types.specs.Limits.{AreCounted}
 use Rattle.board_items.specs.Back.{kept_entry}
@@ -13,7 +13,7 @@ use Rattle.drc_state.specs.declared.change.Edit.TheVariants.{Board as OfBoard, R
 use Rattle.drc_state.specs.States.{State}
 use Rattle.drc_state.specs.CommandSteps.{with_board}
 
--- a deed is done to the board, or the rules are replaced
+-- an operation is done to the board, or the rules are replaced
 pub data PlainChange : Type 0 where
   edit : PlainOperation → PlainChange
   replace : PlainRules → PlainChange
@@ -41,7 +41,7 @@ is_replace (edit operation) = false
 abbrev pub no_change : PlainChange
 no_change = edit nothing
 
--- a deed that gives nothing
+-- an operation that gives nothing
 abbrev pub ChangesNothing : PlainChange → Type 0
 ChangesNothing (edit operation) = GivesNothing operation
 ChangesNothing (replace rules) = ⊥

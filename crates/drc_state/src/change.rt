@@ -43,7 +43,7 @@ pub fn edit_in(change: Change) -> Edit
     }
 }
 
-/// The change that is a deed which adds no new items.
+/// The change that is an operation which adds no new items.
 pub fn change_of(operation: Operation) -> Change
     requires { AddsNone (plain_operation operation) }
     ensures { plain_change result ≡ edit (plain_operation operation) }

@@ -22,7 +22,7 @@ pub enum EditError {
     Item(BoardError),
     /// The rules are refused.
     Rules(RuleError),
-    /// An earlier call met a want of memory.
+    /// An earlier call ran out of memory.
     Stopped,
     /// Memory ran out.
     OutOfMemory,
@@ -36,7 +36,7 @@ impl HasReason for EditError {
     ghost depth = { 3 };
 
     /// What it is called, its number and its byte of the text that it came from. A unit that is not found has no place.
-    /// Want of memory has no number, which is written 0, and no place.
+    /// Running out of memory has no number, which is written 0, and no place.
     fn reason(&self) -> Reason {
         match self {
             EditError::NoSuchItem => Reason::new("NoSuchItem", 1, None),

@@ -44,7 +44,7 @@ pub fn one_list_held()
     one_list_of_tiles();
 }
 
-/// After a change one list of tiles is gone through again.
+/// After a change one list of tiles is rechecked.
 pub fn one_recheck()
     ensures { (old new : Checked) (replaced : Bool) (tiles others : List ℕ)
         → AreRechecked old new replaced tiles → AreRechecked old new replaced others
@@ -53,7 +53,7 @@ pub fn one_recheck()
     one_list_held();
 }
 
-/// The tiles that an index of what is checked now finds by the boxes of all that differs are those that are gone through again.
+/// The tiles that an index of what is checked now finds by the boxes of all that differs are those that are rechecked.
 pub fn near_tiles()
     ensures { (old new : Checked) (index : PlainIndex) → IsIndexOf new index
         → IsFarthest old index.reach → (boxes : List Bounds) → AreBoxesOf old new boxes

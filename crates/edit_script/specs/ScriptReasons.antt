@@ -5,7 +5,7 @@ use Rattle.sexpr_read.specs.TreeReasons.{text_reason}
 use Rattle.edit_script.specs.declared.error.ScriptError.{ScriptError}
 use Rattle.edit_script.specs.declared.error.ScriptError.TheVariants.{Text, Bad, OutOfMemory}
 
--- want of memory has no number, which is written 0, and no place
+-- running out of memory has no number, which is written 0, and no place
 abbrev pub script_reason : ScriptError → PlainReason
 script_reason (Text e) = carried (codes "Text") 1 (text_reason e)
 script_reason (Bad at) = refused_at (codes "Bad") 2 at

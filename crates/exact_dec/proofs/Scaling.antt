@@ -66,7 +66,7 @@ down_quotient a b f y by unit r e is first h =
     let same : unit * number b * 10 ^ (length f + 0) ≡ unit * number b * 10 ^ length f = ap (λ n. unit * number b * 10 ^ n) (omega arith) in
     quotient_by _ _ _ _ _ e (omega (arith, whole, lead, none, same)) low (quotient_plus (number a * unit) _ _ r e h)
 
--- ---- a front and a back of digits
+-- ---- a prefix and a back of digits
 
 pub digits-take : (n : ℕ) (ds : List ℕ) → all_ascii_digits ds ≡ true → all_ascii_digits (take n ds) ≡ true
 digits-take zero ds h = refl

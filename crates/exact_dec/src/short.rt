@@ -14,7 +14,7 @@ pub(crate) struct Usual {
     pub(crate) nanometres: u64,
 }
 
-/// The digits at the front of a text, as a number.
+/// The digits at the prefix of a text, as a number.
 #[derive(Clone, Copy)]
 struct Run {
     n: u64,

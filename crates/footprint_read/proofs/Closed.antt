@@ -18,7 +18,7 @@ use Rattle.courtyard.proofs.Matching.{all_matched}
 use Rattle.footprint_read.specs.declared.sides.Course.{Course}
 use Rattle.footprint_read.specs.Courtyards.{at, is_long, ends_at, many_at, is_met, is_closed, line_to, seg_of, segs_of}
 
--- ---- places of points are those of spots, doubled
+-- ---- places of points are those of raw points, doubled
 
 abbrev double : ℤ × ℤ → ℤ × ℤ
 double k = (pos 2 *ℤ k.0, pos 2 *ℤ k.1)

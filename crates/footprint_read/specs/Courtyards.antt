@@ -52,7 +52,7 @@ curve_side = record empty_side { curved = true }
 abbrev pub figure_side : Figure → CourtSide
 figure_side figure = record empty_side { drawings = record { figure = figure; width = pos 0; filled = true } ∷ [] }
 
--- a line from one spot of the board to another
+-- a line from one raw point of the board to another
 unfoldable pub line_side : Placement → Tree → Result CourtSide BoardError
 line_side placement tree = do
   start ← raw_point_of (codes "start") tree
@@ -73,14 +73,14 @@ circle_side tree = do
   end ← raw_point_of (codes "end") tree
   Ok (figure_side (CircleFigure center (radius_between center end)))
 
--- an outline of these spots, three at least; with an arc among them the side has a curve
+-- an outline of these raw points, three at least; with an arc among them the side has a curve
 abbrev pub raw_points_side : Tree → Bool → List RawPoint → Result CourtSide BoardError
 raw_points_side list curved raw_points =
     if curved then Ok curve_side
     else if nat_le 3 (length raw_points) then Ok (figure_side (OutlineFigure raw_points))
     else Err (Missing (place list))
 
--- an arc stands among the spots
+-- an arc stands among the raw points
 abbrev pub has_arc : Tree → Bool
 has_arc list = list_any (has_head (codes "arc")) (parts list)
 
@@ -98,9 +98,9 @@ graphic_side placement Rect tree = rect_side tree
 graphic_side placement Circle tree = circle_side tree
 graphic_side placement Outline tree = outline_side tree
 
--- ---- loose lines; a place is a spot as a pair of numbers
+-- ---- loose lines; a place is a raw point as a pair of numbers
 
--- the place of a spot
+-- the place of a raw point
 abbrev pub at : RawPoint → ℤ × ℤ
 at raw_point = (raw_point.x, raw_point.y)
 

@@ -1,5 +1,5 @@
 -- Footprints: the items that (footprint .. (layer F.Cu) (at X Y ANGLE) ..) gives: its body, then its pads, graphics, edges and notes in
--- the order of the text, then a note for each side whose courtyard is not checked, front first. Spots of its parts are relative to its
+-- the order of the text, then a note for each side whose courtyard is not checked, front first. Raw points of its parts are relative to its
 -- position, and turned by its angle.
 use Rattle.std.specs.Prelude.{◌≡◌, ◌⊎◌, Vec, ℕ, suc, Bool, ◌&&◌, ◌||◌, List, [], ◌∷◌, ◌++◌, map, codes, Option, None, Some, Result, Ok, Err, refl, if◌then◌else◌}
 use Rattle.std.specs.declared.alloc.Global.{Global}

@@ -21,7 +21,7 @@ pub enum Count {
     Many,
 }
 
-/// The place of a spot, as a key.
+/// The place of a raw point, as a key.
 fn key_of(raw_point: RawPoint) -> (i64, i64)
     ensures { result ≡ at raw_point }
 {
@@ -80,7 +80,7 @@ fn counts_of(alloc: Global, lines: &[Course]) -> Result<BTreeMap<(i64, i64), Cou
     Ok(counts)
 }
 
-/// Whether exactly two ends stand at a spot.
+/// Whether exactly two ends stand at a raw point.
 fn has_two(lines: &[Course], counts: &BTreeMap<(i64, i64), Count>, raw_point: RawPoint) -> bool
     requires { AreCounts lines.now counts.now }
     ensures { result ≡ many_at (at raw_point) lines.now == 2 }

@@ -23,7 +23,7 @@ use part_read::{
 use sexpr_read::Node;
 use std::alloc::{AllocError, Global};
 
-/// The spot of an element which must be there.
+/// The raw point of an element which must be there.
 fn raw_point_needed(node: Node<'_, '_>, head: &[u8]) -> Result<RawPoint, BoardError>
     ensures raw_point { result
         ≡ in_needed raw_point_at (tree_of node.entry) (element head.now (tree_of node.entry)) }
@@ -56,7 +56,7 @@ fn add_course(side: &mut CourtSide, course: Course) -> Result<(), AllocError>
     side.lines.push(course)
 }
 
-/// Adds a line, which goes from one spot of the board to another.
+/// Adds a line, which goes from one raw point of the board to another.
 #[tactic(auto, unfolding(crate::specs::Courtyards::line_side))]
 fn add_line(
     placement: Placement,
@@ -97,7 +97,7 @@ fn add_circle(side: &mut CourtSide, node: Node<'_, '_>) -> Result<(), BoardError
     Ok(add_figure(side, Figure::Circle(center, radius))?)
 }
 
-/// Whether an arc stands among the spots.
+/// Whether an arc stands among the raw points.
 fn has_arc(list: Node<'_, '_>) -> bool
     ensures { result ≡ has_arc (tree_of list.entry) }
 {

@@ -379,7 +379,7 @@ fn courts_of(alloc: Global, placement: Placement, contents: &Contents) -> Result
 /// them, one after another.
 ///
 /// Its refusals are those of [`BoardError`], exactly where the items of a footprint
-/// (`specs/FootprintOf`) have them, with their places; want of memory alone is free.
+/// (`specs/FootprintOf`) have them, with their places; running out of memory alone is free.
 #[tactic(auto, using(crate::proofs::Standing::wider))]
 pub fn read_footprint(
     alloc: Global,

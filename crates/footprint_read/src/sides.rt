@@ -8,7 +8,7 @@ use part_read::{Drawing, RawPoint};
 use std::alloc::{AllocError, Global};
 use std::marker::Model;
 
-/// A line from one spot of the board to another, on the board or off it.
+/// A line from one raw point of the board to another, on the board or off it.
 #[derive(Clone, Copy, Debug, PartialEq, Eq, Drop)]
 pub struct Course {
     pub a: RawPoint,

@@ -1,4 +1,4 @@
--- Two polygons: where some spots of them are near, some edges are, or one polygon's last corner is inside the other.
+-- Two polygons: where some rational points of them are near, some edges are, or one polygon's last corner is inside the other.
 use Rattle.std.proofs.Common.{◌≡◌, ℤ, pos, ◌<ℤ◌, ◌⊎◌, ◌↔◌, Bool, true, false, List, [], ◌∷◌, sym, ◌∙◌, inl, inr}
 use Rattle.geo_seg.specs.declared.points.Point.{Point}
 use Rattle.geo_seg.specs.declared.points.Seg.{Seg}
@@ -33,7 +33,7 @@ SomePair-sym t d (f ∷ fs) es (inr h) = more t d f fs es (SomePair-sym t d fs e
 nest : (t : Bool) (d : ℤ) (p q : RationalPoint) → Near t d p q → (es fs : List Seg) → SomeEdge (λ e. IsOn e p) es → SomeEdge (λ f. IsOn f q) fs → SomePair t d es fs
 nest t d p q h es fs o u = SomeEdge-weaker (λ e x. SomeEdge-weaker (λ f y. record { from = p; to = q; of_first = x; of_second = y; near = h }) fs u) es o
 
--- ---- an odd spot on an outline: along the outline the parity stays, or edges meet
+-- ---- an odd rational point on an outline: along the outline the parity stays, or edges meet
 walk_to : (t : Bool) (d : ℤ) → Touches t d → (ks : List Point) (s : Seg) (es : List Seg) (q : RationalPoint) → IsOn s q → Odd ks q → (is_odd (rational_point_of s.a) (outline ks) ≡ is_odd q (outline ks)) ⊎ SomeEdge (λ f. Crossed f (rational_point_of s.a) q) (outline ks) → SomePair t d (s ∷ es) (outline ks) ⊎ Odd ks (rational_point_of s.a)
 walk_to t d z ks s es q u k (inl e) = inr (e ∙ k)
 walk_to t d z ks s es q u k (inr c) = inl (inl (SomeEdge-weaker (λ f x. Pair-sym t d f s (met_pair t d z f s (rational_point_of s.a) q (start_on s) u x)) (outline ks) c))

@@ -1,4 +1,5 @@
--- The ray from a spot to the right: of the edges that pass to the right of the spot, there is a first that the ray meets.
+-- The ray from a rational point to the right: of the edges that pass to the right of the rational point, there is a first that the ray
+-- meets.
 use Rattle.std.proofs.Common.{◌≡◌, ℤ, pos, ◌+ℤ◌, ◌-ℤ◌, ◌*ℤ◌, neg_ℤ, ◌≤ℤ◌, ◌<ℤ◌, ◌⊎◌, Bool, true, false, List, [], ◌∷◌, refl, sym, ap, ◌∙◌, subst, inl, inr, arith}
 use Rattle.std.proofs.lemmas.Int.{ints, by_lt_z}
 use Rattle.std.specs.Int.Signed.{lt_z}
@@ -18,7 +19,7 @@ pub record IsRight (q r : RationalPoint) : Type 0 where
   pub level : r.y *ℤ q.w ≡ q.y *ℤ r.w
   pub right : (q.x *ℤ r.w) ≤ℤ (r.x *ℤ q.w)
 
--- ---- spots of one height read alike
+-- ---- rational points of one height read alike
 same_le : (b c : Bool) (x y : ℤ) → ReadsLe b x y → ReadsLe c x y → b ≡ c
 same_le true true x y h k = refl
 same_le false false x y h k = refl
@@ -43,7 +44,7 @@ same_low q r c h =
     (ReadsLe_scaled (is_low q c) r.w (q.w *ℤ c.y) q.y (q.w *ℤ (r.w *ℤ c.y)) (r.y *ℤ q.w) (lt-le (pos 0) r.w r.positive) r.positive (mul3 r.w q.w c.y) (swap_mul r.w q.y ∙ sym h) (reads_le (q.w *ℤ c.y) q.y))
     (ReadsLe_scaled (is_low r c) q.w (r.w *ℤ c.y) r.y (q.w *ℤ (r.w *ℤ c.y)) (r.y *ℤ q.w) (lt-le (pos 0) q.w q.positive) q.positive refl (swap_mul q.w r.y) (reads_le (r.w *ℤ c.y) r.y))
 
--- ---- an edge passes strictly to the right (`true`), or may meet the spot (`false`)
+-- ---- an edge passes strictly to the right (`true`), or may meet the rational point (`false`)
 abbrev pub PassBy : Bool → Bool → Bool → ℤ → Type 0
 PassBy t true true u = ⊥
 PassBy t true false u = Below t (pos 0) u
@@ -85,7 +86,7 @@ pass_weaker true false u h = lt-le (pos 0) u h
 pass_weaker false true u h = lt-le u (pos 0) h
 pass_weaker false false u h = h
 
--- ---- more edges pass to the right of a spot farther left
+-- ---- more edges pass to the right of a rational point farther left
 side_gap : (qx qy qw rx ry rw ax ay bx by : ℤ) → ry *ℤ qw ≡ qy *ℤ rw → rw *ℤ ((bx -ℤ ax) *ℤ (qy -ℤ qw *ℤ ay) -ℤ (by -ℤ ay) *ℤ (qx -ℤ qw *ℤ ax)) -ℤ qw *ℤ ((bx -ℤ ax) *ℤ (ry -ℤ rw *ℤ ay) -ℤ (by -ℤ ay) *ℤ (rx -ℤ rw *ℤ ax)) ≡ (by -ℤ ay) *ℤ (rx *ℤ qw -ℤ qx *ℤ rw)
 side_gap qx qy qw rx ry rw ax ay bx by h =
     let Qx = var 0 in let Qy = var 1 in let Qw = var 2 in let Rx = var 3 in let Ry = var 4 in let Rw = var 5 in
@@ -151,8 +152,8 @@ Passes-left t e q r h p =
     (subst (λ (z : Bool). PassBy t z (is_low q e.b) (side e r)) (sym (same_low q r e.a h.level))
     (subst (λ (z : Bool). PassBy t (is_low r e.a) z (side e r)) (sym (same_low q r e.b h.level)) p))
 
--- ---- the spot of an edge as high as q
--- a spot on the edge that the edge may meet
+-- ---- the rational point of an edge as high as q
+-- a rational point on the edge that the edge may meet
 pub record Hit (q : RationalPoint) (e : Seg) : Type 0 where
   pub rational_point : RationalPoint
   pub right : IsRight q rational_point
@@ -331,7 +332,7 @@ clear_of_none : (q r : RationalPoint) (es : List Seg) → NonePass q es → IsCl
 clear_of_none q r [] h = tt
 clear_of_none q r (e ∷ es) h = (λ p. absurd (not_both (passes q e) h.0 p), clear_of_none q r es h.1)
 
--- two spots to the right of q, one of which is not to the right of the other
+-- two rational points to the right of q, one of which is not to the right of the other
 level_both : (qy qw ry rw sy sw : ℤ) → pos 0 <ℤ qw → ry *ℤ qw ≡ qy *ℤ rw → sy *ℤ qw ≡ qy *ℤ sw → sy *ℤ rw ≡ ry *ℤ sw
 level_both qy qw ry rw sy sw h e f =
     let Qy = var 0 in let Qw = var 1 in let Ry = var 2 in let Rw = var 3 in let Sy = var 4 in let Sw = var 5 in

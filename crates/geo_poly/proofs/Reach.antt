@@ -1,4 +1,4 @@
--- A polygon and a segment: where some spots of them are near, an edge is near, or the segment begins inside.
+-- A polygon and a segment: where some rational points of them are near, an edge is near, or the segment begins inside.
 use Rattle.std.proofs.Common.{◌≡◌, ℤ, pos, ◌+ℤ◌, ◌-ℤ◌, ◌*ℤ◌, ◌≤ℤ◌, ◌<ℤ◌, ◌⊎◌, ◌↔◌, Bool, true, false, List, [], ◌∷◌, refl, sym, ◌∙◌, inl, inr, arith}
 use Rattle.std.proofs.lemmas.Int.{ints}
 use Rattle.int_algebra.proofs.Ring.{var, num, ◌⊕◌, ◌⊖◌, ◌⊗◌, sq, fact, ring, ring_by}
@@ -16,7 +16,7 @@ use Rattle.geo_poly.proofs.Insides.{Odd, IsIn, IsPolySegApart, IsPolySegReached}
 use Rattle.geo_poly.proofs.Between.{IsBetween}
 use Rattle.geo_poly.proofs.Ways.{Crossed, same_or_crossed, SomeEdge-weaker}
 
--- ---- a segment holds what lies between two of its spots
+-- ---- a segment holds what lies between two of its rational points
 on_between_at : (m i px pw n j qx qw k l rx rw a b : ℤ) → pos 0 <ℤ pw → pos 0 <ℤ qw → m *ℤ px ≡ pw *ℤ ((m -ℤ i) *ℤ a +ℤ i *ℤ b) → n *ℤ qx ≡ qw *ℤ ((n -ℤ j) *ℤ a +ℤ j *ℤ b)
     → k *ℤ (pw *ℤ qw *ℤ rx) ≡ rw *ℤ ((k -ℤ l) *ℤ (px *ℤ qw) +ℤ l *ℤ (qx *ℤ pw))
     → k *ℤ m *ℤ n *ℤ rx ≡ rw *ℤ ((k *ℤ m *ℤ n -ℤ ((k -ℤ l) *ℤ (i *ℤ n) +ℤ l *ℤ (j *ℤ m))) *ℤ a +ℤ ((k -ℤ l) *ℤ (i *ℤ n) +ℤ l *ℤ (j *ℤ m)) *ℤ b)
@@ -69,7 +69,7 @@ limit_sym d p q = ring (d ∷ p.w ∷ q.w ∷ []) (sq (var 0 ⊗ var 1 ⊗ var 2
 pub Near-sym : (t : Bool) (d : ℤ) (p q : RationalPoint) → Near t d p q → Near t d q p
 Near-sym t d p q h = Below_along t (squared_gap p q) (squared_gap q p) (squared_limit d p q) (squared_limit d q p) (gap_sym p q) (limit_sym d p q) h
 
--- a spot is near itself
+-- a rational point is near itself
 abbrev pub Touches : Bool → ℤ → Type 0
 Touches t d = (p : RationalPoint) → Near t d p p
 
@@ -127,7 +127,7 @@ Near-between t d p q r b h =
     (le-Below t (square (r.w *ℤ (k -ℤ l)) *ℤ g) (square (r.w *ℤ k) *ℤ g) (square (r.w *ℤ k) *ℤ L) (wider r.w k l g b.starts b.ends g0)
     (scale_Below t (square (r.w *ℤ k)) g L (product-pos (r.w *ℤ k) (r.w *ℤ k) rk rk) h)))
 
--- ---- two segments, some of whose spots are near
+-- ---- two segments, some of whose rational points are near
 pub record Pair (t : Bool) (d : ℤ) (a b : Seg) : Type 0 where
   pub from : RationalPoint
   pub to : RationalPoint
@@ -138,7 +138,7 @@ pub record Pair (t : Bool) (d : ℤ) (a b : Seg) : Type 0 where
 pub Pair-sym : (t : Bool) (d : ℤ) (a b : Seg) → Pair t d a b → Pair t d b a
 Pair-sym t d a b p = record { from = p.to; to = p.from; of_first = p.of_second; of_second = p.of_first; near = Near-sym t d p.from p.to p.near }
 
--- an edge that meets the way between two spots of s meets s
+-- an edge that meets the way between two rational points of s meets s
 pub met_pair : (t : Bool) (d : ℤ) → Touches t d → (e s : Seg) (p q : RationalPoint) → IsOn s p → IsOn s q → Crossed e p q → Pair t d e s
 met_pair t d z e s p q o u c = record { from = c.rational_point; to = c.rational_point; of_first = c.on; of_second = IsOn-between s p q c.rational_point o u c.between; near = z c.rational_point }
 
@@ -168,7 +168,7 @@ reached_pair d a b p = record { from = p.from; to = p.to; of_first = p.of_first;
 pub not_pair : (d : ℤ) (a b : Seg) → IsApart a b d → Pair true d a b → ⊥
 not_pair d a b h p = h.apart p.from p.to p.of_first p.of_second p.near
 
--- a spot of an edge, with what it takes
+-- a rational point of an edge, with what it takes
 pub record OnEdge (es : List Seg) (P : RationalPoint → Type 0) : Type 0 where
   pub rational_point : RationalPoint
   pub on : SomeEdge (λ e. IsOn e rational_point) es

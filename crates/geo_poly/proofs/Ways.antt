@@ -1,4 +1,4 @@
--- Where no edge meets the way from one spot to another, an odd number of edges passes to the right of both or of neither.
+-- Where no edge meets the way from one rational point to another, an odd number of edges passes to the right of both or of neither.
 use Rattle.std.proofs.Common.{◌≡◌, ℤ, pos, ◌+ℤ◌, ◌-ℤ◌, ◌*ℤ◌, neg_ℤ, ◌≤ℤ◌, ◌<ℤ◌, ◌⊎◌, Bool, true, false, List, [], ◌∷◌, refl, sym, ap, ◌∙◌, inl, inr, arith}
 use Rattle.std.proofs.lemmas.Int.{ints, by_lt_z}
 use Rattle.std.specs.Int.Signed.{lt_z}
@@ -169,7 +169,7 @@ low_reads_p p q c = ReadsLe_scaled (is_low p c) q.w (p.w *ℤ c.y) p.y (over p q
 low_reads_q : (p q : RationalPoint) (c : Point) → ReadsLe (is_low q c) (over p q *ℤ c.y) (q.y *ℤ p.w)
 low_reads_q p q c = ReadsLe_scaled (is_low q c) p.w (q.w *ℤ c.y) q.y (over p q *ℤ c.y) (q.y *ℤ p.w) (weak p.w p.positive) p.positive (low_q p.w q.w c.y) (swap_mul p.w q.y) (reads_le (q.w *ℤ c.y) q.y)
 
--- the spot where they meet, part / whole of the way along the edge
+-- the rational point where they meet, part / whole of the way along the edge
 rational_point_between_at : (w m i j a b p q : ℤ) → (m -ℤ i) *ℤ (w *ℤ a) +ℤ i *ℤ (w *ℤ b) ≡ (m -ℤ j) *ℤ p +ℤ j *ℤ q → m *ℤ (w *ℤ ((m -ℤ i) *ℤ a +ℤ i *ℤ b)) ≡ m *ℤ ((m -ℤ j) *ℤ p +ℤ j *ℤ q)
 rational_point_between_at w m i j a b p q h =
     let W = var 0 in let M = var 1 in let I = var 2 in let J = var 3 in let A = var 4 in let B = var 5 in let P = var 6 in let Q = var 7 in

@@ -12,7 +12,7 @@ use Rattle.geo_seg.specs.Boxes.{IsInBox, IsLeastBox, AreClear}
 use Rattle.geo_seg.specs.PolygonCorners.{IsHeld}
 use Rattle.geo_seg.proofs.Distances.{apart_not_within}
 
--- a spot of a segment lies in each range that its ends lie in
+-- a rational point of a segment lies in each range that its ends lie in
 below_at : (m i w x a b hi : ℤ) → pos 0 ≤ℤ i → i ≤ℤ m → pos 0 <ℤ m → pos 0 <ℤ w → m *ℤ x ≡ w *ℤ ((m -ℤ i) *ℤ a +ℤ i *ℤ b) → a ≤ℤ hi → b ≤ℤ hi → x ≤ℤ (w *ℤ hi)
 below_at m i w x a b hi h0 h1 hm hw e ha hb =
     let M = var 0 in let I = var 1 in let W = var 2 in let X = var 3 in let A = var 4 in let B = var 5 in let H = var 6 in

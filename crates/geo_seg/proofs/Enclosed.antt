@@ -1,4 +1,4 @@
--- The box of a polygon's corners holds all of its points: a spot to the left of all corners is passed by every edge that
+-- The box of a polygon's corners holds all of its points: a rational point to the left of all corners is passed by every edge that
 -- crosses its height, and a closed path crosses each height an even number of times.
 use Rattle.std.proofs.Common.{◌≡◌, ℤ, pos, neg_ℤ, ◌+ℤ◌, ◌-ℤ◌, ◌*ℤ◌, ◌≤ℤ◌, ◌<ℤ◌, ◌⊎◌, Bool, true, false, List, [], ◌∷◌, refl, sym, ap, ◌∙◌, inl, inr, arith}
 use Rattle.std.proofs.lemmas.Int.{ints, by_lt_z}
@@ -36,7 +36,7 @@ edge_with f [] h k = absurd k
 edge_with f (e ∷ es) h (inl k) = f e h.0 k
 edge_with f (e ∷ es) h (inr k) = edge_with f es h.1 k
 
--- ---- the side on which a spot lies of an edge that rises past it and has its ends to the right of it
+-- ---- the side on which a rational point lies of an edge that rises past it and has its ends to the right of it
 rising : (w x y ax ay cx cy : ℤ) → pos 0 <ℤ w → (w *ℤ ay) ≤ℤ y → y <ℤ (w *ℤ cy) → x <ℤ (w *ℤ ax) → x <ℤ (w *ℤ cx) → pos 0 <ℤ ((cx -ℤ ax) *ℤ (y -ℤ w *ℤ ay) -ℤ (cy -ℤ ay) *ℤ (x -ℤ w *ℤ ax))
 rising w x y ax ay cx cy hw ha hc hx hz =
     let W = var 0 in let X = var 1 in let Y = var 2 in let AX = var 3 in let AY = var 4 in let CX = var 5 in let CY = var 6 in
@@ -115,7 +115,7 @@ to_depth w u v y hw h k = lt-le y (w *ℤ u) (lt_le_trans y (w *ℤ v) (w *ℤ u
 clash : (u : ℤ) → pos 0 <ℤ u → u <ℤ pos 0 → ⊥
 clash u h k = omega (arith, ints)
 
--- an edge that passes is not to the left of the spot
+-- an edge that passes is not to the left of the rational point
 not_beyond : (p : RationalPoint) (e : Seg) (r : ℤ) → e.a.x ≤ℤ r → e.b.x ≤ℤ r → Rises p e ⊎ Falls p e → (p.w *ℤ r) <ℤ p.x → ⊥
 not_beyond p e r ha hc (inl h) k =
     clash (side e p) h.left
@@ -155,8 +155,8 @@ in_between b p e h k = record {
     bottom_by (inl r) = to_depth p.w b.bottom e.b.y p.y p.positive h.1.bottom r.end
     bottom_by (inr r) = to_depth p.w b.bottom e.a.y p.y p.positive h.0.bottom r.start
 
--- ---- a spot to the left of all corners
--- every edge between a corner at the spot's height or below and a higher one passes
+-- ---- a rational point to the left of all corners
+-- every edge between a corner at the rational point's height or below and a higher one passes
 all_pass : (b : Bounds) (p : RationalPoint) (e : Seg) → AreEndsHeld b e → p.x <ℤ (p.w *ℤ b.left) → passes p e ≡ differ (is_low p e.a) (is_low p e.b)
 all_pass b p e h k = cases (is_low p e.a) (is_low p e.b) refl refl
   where

@@ -1,4 +1,4 @@
--- Odd and even counts of the edges that pass to the right of a spot, as a computed parity.
+-- Odd and even counts of the edges that pass to the right of a rational point, as a computed parity.
 use Rattle.std.proofs.Common.{◌≡◌, ℕ, ◌+◌, ◌*◌, Bool, true, false, not, cond, count_by, List, [], ◌∷◌, refl, subst, inl, inr, arith}
 use Rattle.std.proofs.lemmas.List.Recursion.{is_count_by}
 use Rattle.geo_seg.specs.declared.points.Seg.{Seg}

@@ -19,7 +19,7 @@ pub record PointReach (r : Bool) (d : ℤ) (p : Point) (s : Seg) : Type 0 where
   pub positive : pos 0 <ℤ whole
   pub below : Below r (squared_offset p s whole part) (square (d *ℤ whole))
 
--- the spot of s at part / whole
+-- the rational point of s at part / whole
 abbrev pub rational_point_at : (s : Seg) (whole part : ℤ) → pos 0 <ℤ whole → RationalPoint
 rational_point_at s whole part h = record { x = between s.a.x s.b.x whole part; y = between s.a.y s.b.y whole part; w = whole; positive = h }
 

@@ -1,4 +1,4 @@
--- Two spots given by fractions are near each other where the fractions are.
+-- Two rational points given by fractions are near each other where the fractions are.
 use Rattle.std.proofs.Common.{◌≡◌, ℤ, pos, ◌+ℤ◌, ◌-ℤ◌, ◌*ℤ◌, ◌<ℤ◌, Bool, [], ◌∷◌, sym, subst}
 use Rattle.int_algebra.proofs.Ring.{var, ◌⊕◌, ◌⊖◌, ◌⊗◌, minus, sq, fact, ring, ring_by}
 use Rattle.int_algebra.proofs.Order.{product-pos, Below, scale_Below, unscale_Below}
@@ -9,7 +9,7 @@ use Rattle.geo_seg.specs.Nearer.{square, squared_gap, squared_limit}
 pub Below_along : (r : Bool) (a a' b b' : ℤ) → a ≡ a' → b ≡ b' → Below r a b → Below r a' b'
 Below_along r a a' b b' e f h = subst (λ (y : ℤ). Below r a' y) f (subst (λ (x : ℤ). Below r x b) e h)
 
--- the spot p is (x / m, y / m)
+-- the rational point p is (x / m, y / m)
 pub record IsFraction (p : RationalPoint) (m x y : ℤ) : Type 0 where
   pub positive : pos 0 <ℤ m
   pub at_x : m *ℤ p.x ≡ p.w *ℤ x

@@ -25,7 +25,7 @@ pub record SegReach (r : Bool) (d : ℤ) (a b : Seg) : Type 0 where
   pub framed : IsFramed whole part_a part_b
   pub below : Below r (squared_step a b whole part_a part_b) (square (d *ℤ whole))
 
--- ---- to the spots and back
+-- ---- to the rational points and back
 joint : (a0 a1 b0 b1 m i n j : ℤ) → n *ℤ between a0 a1 m i -ℤ m *ℤ between b0 b1 n j ≡ step a0 a1 b0 b1 (m *ℤ n) (i *ℤ n) (m *ℤ j)
 joint a0 a1 b0 b1 m i n j =
     let a = var 0 in let a' = var 1 in let b = var 2 in let b' = var 3 in let m' = var 4 in let i' = var 5 in let n' = var 6 in let j' = var 7 in

@@ -3,7 +3,7 @@ use Rattle.std.specs.Prelude.{pos, ℤ, neg_ℤ, ◌+ℤ◌, ◌-ℤ◌, ◌*ℤ
 use Rattle.geo_seg.specs.declared.boxes.Bounds.{Bounds}
 use Rattle.geo_seg.specs.Points.{RationalPoint}
 
--- the spot lies in the box, its sides included
+-- the rational point lies in the box, its sides included
 pub record IsInBox (b : Bounds) (p : RationalPoint) : Type 0 where
   pub left : (p.w *ℤ b.left) ≤ℤ p.x
   pub top : (p.w *ℤ b.top) ≤ℤ p.y

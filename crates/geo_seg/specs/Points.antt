@@ -11,16 +11,16 @@ pub record RationalPoint : Type 0 where
   pub w : ℤ
   pub positive : pos 0 <ℤ w
 
--- the spot q is the point p
+-- the rational point q is the point p
 pub record IsAt (p : Point) (q : RationalPoint) : Type 0 where
   pub at_x : q.x ≡ q.w *ℤ p.x
   pub at_y : q.y ≡ q.w *ℤ p.y
 
--- the point p as a spot
+-- the point p as a rational point
 unfoldable pub rational_point_of : Point → RationalPoint
 rational_point_of p = record { x = p.x; y = p.y; w = pos 1; positive = record { lt = tt } }
 
--- the spot p lies on the segment s, at part / whole of the way from its one end to the other
+-- the rational point p lies on the segment s, at part / whole of the way from its one end to the other
 pub record IsOn (s : Seg) (p : RationalPoint) : Type 0 where
   pub part : ℤ
   pub whole : ℤ

@@ -26,8 +26,8 @@ use std::alloc::{AllocError, Global};
 /// How many tests of an item against an area or a body are few.
 const FEW_TESTS: usize = 8_192;
 
-/// The class of a net, sought once for each net: patterns are dear. Only want of memory refuses it; also then each net in `known` has
-/// its class.
+/// The class of a net, sought once for each net: patterns are dear. Only running out of memory refuses it; also then each net in `known`
+/// has its class.
 pub fn known_class<'c>(
     known: &mut IndexMap<u32, &'c Class>,
     board: &Board,
@@ -47,7 +47,7 @@ pub fn known_class<'c>(
     Ok(class)
 }
 
-/// The facts of an item of this class, where the ids are enough to ask for the areas and bodies that it meets. Only want of memory
+/// The facts of an item of this class, where the ids are enough to ask for the areas and bodies that it meets. Only running out of memory
 /// refuses it.
 #[inline(always)]
 pub fn facts_among(
@@ -69,7 +69,7 @@ pub fn facts_among(
 
 /// The facts of an item, which is asked only against the areas and bodies near it. The index has all areas and bodies of the
 /// board, and may have its other items. `known` are classes of nets that were sought, and `scratch` is room for ids; a walk over
-/// many items hands both on. Only want of memory refuses it; also then each net in `known` has its class.
+/// many items hands both on. Only running out of memory refuses it; also then each net in `known` has its class.
 #[inline(always)]
 pub fn facts_near<'c>(
     alloc: Global,
@@ -113,7 +113,7 @@ fn facts_of(
 }
 
 /// The facts of the item of this id, which is one of the board's: what rules may ask of it. The titles of the rule areas that
-/// it meets, and the references of the footprints whose courtyards it meets, stand in the order of the items. Only want of
+/// it meets, and the references of the footprints whose courtyards it meets, stand in the order of the items. Only running out of
 /// memory refuses it.
 pub fn facts(alloc: Global, board: &Board, classes: &Classes, id: u32) -> Result<Facts, AllocError>
     requires { IsSome (item_at board.now.items id) }
@@ -188,7 +188,7 @@ fn index_if(alloc: Global, board: &Board) -> Result<Option<TileIndex>, AllocErro
 }
 
 /// The facts of all items of the board, by id. Each is asked only against the areas and bodies near it, and the class of each
-/// net is found once. Only want of memory refuses it.
+/// net is found once. Only running out of memory refuses it.
 pub fn all_facts(alloc: Global, board: &Board, classes: &Classes) -> Result<FactsById, AllocError>
     ensures { IfOk result (HasFacts board.now classes.now) }
 {

@@ -152,7 +152,7 @@ fn facts_of_all(
 }
 
 /// The facts of all items of the board, by id: with one worker, or for few items, as `all_facts` finds them, and else by as many threads
-/// as there are processors. Only want of memory refuses it.
+/// as there are processors. Only running out of memory refuses it.
 pub fn all_facts_by(
     rt: &(impl Threads + Sync),
     alloc: Global,

@@ -47,7 +47,7 @@ opened_ends d at f fs =
           (subst (λ (n : ℕ). Behind d n fs (closed f (suc at) no_parts) i.rest i.value) len i.ends);
     }
 
--- behind a front that is begun
+-- behind a prefix that is begun
 pub record EndsBehind (d at : ℕ) (prefix : List ℕ) (Rest : ℕ → ℕ → List ℕ → Json → Type 0) : Type 0 where
   pub rest : List ℕ
   pub value : Json

@@ -4,7 +4,7 @@ use Rattle.plain_types.specs.Reasons.{PlainReason, refused_at, refused_nowhere}
 use Rattle.json_exact.specs.declared.error.JsonError.{JsonError}
 use Rattle.json_exact.specs.declared.error.JsonError.TheVariants.{Bad, TooDeep, OutOfMemory}
 
--- want of memory has no number, which is written 0, and no place
+-- running out of memory has no number, which is written 0, and no place
 abbrev pub json_reason : JsonError → PlainReason
 json_reason (Bad at) = refused_at (codes "Bad") 1 at
 json_reason (TooDeep at) = refused_at (codes "TooDeep") 2 at

@@ -65,7 +65,7 @@ pub record IsTooDeep (text : List ℕ) (at : ℕ) : Type 0 where
   pub too_deep : CanGoOn depth_limit (take (suc at) text) → ⊥
   pub deeper : CanGoOn (suc depth_limit) (take (suc at) text)
 
--- the text is refused so; want of memory says nothing of it
+-- the text is refused so; running out of memory says nothing of it
 abbrev pub IsRefused : List ℕ → JsonError → Type 0
 IsRefused text (Bad at) = IsBad text at
 IsRefused text (TooDeep at) = IsTooDeep text at

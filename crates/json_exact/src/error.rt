@@ -24,7 +24,7 @@ impl HasReason for JsonError {
 
     ghost depth = { 1 };
 
-    /// What it is called, its number and its byte of the text. Want of memory has no number, which is written 0, and
+    /// What it is called, its number and its byte of the text. Running out of memory has no number, which is written 0, and
     /// no place.
     fn reason(&self) -> Reason {
         match self {

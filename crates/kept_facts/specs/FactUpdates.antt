@@ -62,7 +62,7 @@ pub record AreRefreshed (new : PlainBoard) (classes : PlainClasses) (ids suspect
   pub gone : (id : ℕ) → Contains ids id → ¬ (Contains suspects id) → facts_at now id ≡ None
   pub others : (id : ℕ) → ¬ (Contains ids id) → ¬ (Contains suspects id) → facts_at now id ≡ facts_at kept id
 
--- all items had their facts, and those that an edit may have given others have them anew
+-- all items had their facts, and those that an edit may have given others have them again
 pub record IsFoundAgain (old new : PlainBoard) (classes : PlainClasses) (ids suspects : List ℕ) (kept now : List (Option Facts)) : Type 0 where
   pub edit : IsEdit old new ids
   pub suspected : AreSuspects old new ids suspects

@@ -17,7 +17,7 @@ pub fn facts_stay()
     ensures { (old new : PlainBoard) (ids : List ℕ) → IsEdit old new ids → (item : Item) → IsUnconcerned old new ids item → (classes : PlainClasses) (facts : Facts) → AreFactsOf old classes item facts → AreFactsOf new classes item facts }
 {}
 
-/// Once the suspects of an edit have their facts anew, all items have theirs.
+/// Once the suspects of an edit have their facts again, all items have theirs.
 pub fn facts_are_kept()
     ensures { (old new : PlainBoard) (classes : PlainClasses) (ids suspects : List ℕ) (kept now : List (Option Facts)) → IsFoundAgain old new classes ids suspects kept now → HasFacts new classes now }
 {}

@@ -66,7 +66,7 @@ fn marks_of(alloc: Global, board: &Board, ids: &[u32]) -> Result<Vec<Option<Item
 }
 
 /// Equal areas and bodies that stand under these ids, in their order, and None for each other id: what `update_facts` asks for,
-/// taken before the edit. Only want of memory refuses it.
+/// taken before the edit. Only running out of memory refuses it.
 pub fn marks_before(
     alloc: Global,
     board: &Board,

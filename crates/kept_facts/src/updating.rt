@@ -114,7 +114,7 @@ fn find_all_again(
 /// `ids` are those, rising, of all items of the edit: what was added, taken out, put back or moved. `before` are the areas and
 /// bodies among them as they were, in the order of the ids, as `marks_before` gives them of the board before the edit; none for
 /// what was added. The index holds all items of the board that have bounds. It gives the ids, rising, of the edit and of all items
-/// that have other facts. Only want of memory fails it, and the facts are then of no use.
+/// that have other facts. Only running out of memory fails it, and the facts are then of no use.
 ///
 /// It takes as long as there are items of the edit and items near its areas and bodies. An item near one that gives it the same
 /// name as before, or none as before, costs two tests of that one and no more.

@@ -61,7 +61,7 @@ fn put(parts: &mut [NetPart], work: Work) -> Result<(), AllocError>
     }
 }
 
-/// Puts the parts that were found into their places. It fails where a work met a want of memory.
+/// Puts the parts that were found into their places. It fails where a work ran out of memory.
 fn put_parts(parts: &mut [NetPart], mut works: Vec<Work>) -> Result<(), AllocError>
     requires { All (λ work. work.place < length parts.old) works.items }
     ensures { OnOk result
@@ -77,8 +77,8 @@ fn put_parts(parts: &mut [NetPart], mut works: Vec<Work>) -> Result<(), AllocErr
 /// Makes the parts of the nets of a board before an edit those of the board as it is now.
 ///
 /// `nets` are the numbers, rising, of the nets of all items of the edit, as they were and as they are; they may have others, and
-/// net 0. Only parts of these nets are found anew: with one worker on the thread of the caller, with more by as many threads as there
-/// are processors. Only want of memory fails it, and the parts are then of no use.
+/// net 0. Only parts of these nets are found again: with one worker on the thread of the caller, with more by as many threads as there
+/// are processors. Only running out of memory fails it, and the parts are then of no use.
 pub fn update_parts(
     rt: &(impl Threads + Sync),
     alloc: Global,

@@ -170,7 +170,7 @@ module _ (old new : Checked) (index : PlainIndex) (sound : IsSoundIndex index) (
       → IsPermutation ((filter (λ row. not (is_touched changed row)) rows ++ singles) ++ pairs) after → AreInOrder after → AreRows new after
   rows_updated rows singles pairs after r s p same order = rows_from_once (IsRow new) after order (once_permutation (IsRow new) ((filter (λ row. not (is_touched changed row)) rows ++ singles) ++ pairs) after same (updated rows singles pairs r s p))
 
--- ---- everything anew
+-- ---- everything again
 
 -- the same without items
 abbrev pub emptied : Checked → Checked

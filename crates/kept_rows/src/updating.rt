@@ -56,7 +56,7 @@ fn push_batches(rows: &mut Vec<Row>, batches: &[TileRows]) -> Result<(), AllocEr
 /// Makes the rows of what was checked before a change those of what is checked now.
 ///
 /// `changed` are the ids, rising, of all that changed. The tiles are all that hold an entry that changed, and the batches their
-/// rows with such an entry. Only want of memory fails it, and the rows are then of no use.
+/// rows with such an entry. Only running out of memory fails it, and the rows are then of no use.
 pub fn update_rows(
     alloc: Global,
     view: &CheckView,

@@ -247,7 +247,7 @@ fn with_items_by<R: Threads + Sync>(
 }
 
 /// The text of the generated board of so many vias and segments, from 1 to 90,000, put together by four threads where there are several
-/// workers. Only want of memory refuses it.
+/// workers. Only running out of memory refuses it.
 #[tactic(auto, unfolding(crate::specs::MadeBoard::made_text))]
 pub fn made_text(
     rt: &(impl Threads + Sync),

@@ -6,7 +6,7 @@ use Rattle.net_class.specs.Wild.{Sign, any, one, letter, sign_of, next_character
 use Rattle.net_class.specs.PatternRuns.{Rests, run_of, rests_match, matches_an_end}
 use Rattle.net_class.proofs.Matching.{IsEnd, end_same, end_is, end_end, later, run_matches}
 
--- ---- a `*` stands for a front, so that its pattern matches an end
+-- ---- a `*` stands for a prefix, so that its pattern matches an end
 
 pub any_end : (fold : Bool) (test : List ℕ → Bool) (t : List ℕ) → stands fold any test t ≡ true → (s : List ℕ) × IsEnd s t × (test s ≡ true)
 any_end fold test [] h = ([], refl, h)

@@ -5,7 +5,7 @@ use Rattle.json_exact.specs.JsonReasons.{json_reason}
 use Rattle.net_class.specs.declared.error.ProjectError.{ProjectError}
 use Rattle.net_class.specs.declared.error.ProjectError.TheVariants.{Json, Shape, BadNumber, OutOfMemory}
 
--- want of memory has no number, which is written 0, and no place
+-- running out of memory has no number, which is written 0, and no place
 abbrev pub class_reason : ProjectError → PlainReason
 class_reason (Json e) = carried (codes "Json") 1 (json_reason e)
 class_reason (Shape at) = refused_at (codes "Shape") 2 at

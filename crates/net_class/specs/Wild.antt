@@ -28,7 +28,7 @@ is_same fold a b = if fold then eq_ignore_ascii_case a b else (a == b)
 
 -- ---- as a relation
 
--- the sign stands for a front of the text, and P holds of what is left
+-- the sign stands for a prefix of the text, and P holds of what is left
 abbrev pub MatchesSign : Bool → Sign → (List ℕ → Type 0) → List ℕ → Type 0
 MatchesSign fold any P text = (prefix rest : List ℕ) × (text ≡ prefix ++ rest) × P rest
 MatchesSign fold one P [] = ⊥

@@ -27,7 +27,7 @@ impl HasReason for ProjectError {
 
     ghost depth = { 2 };
 
-    /// What it is called, its number and its byte of the text; behind `Json` and 1 those of the text's refusal. Want of
+    /// What it is called, its number and its byte of the text; behind `Json` and 1 those of the text's refusal. Running out of
     /// memory has no number, which is written 0, and no place.
     fn reason(&self) -> Reason {
         match self {

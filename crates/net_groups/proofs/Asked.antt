@@ -81,7 +81,7 @@ pub fits_at : (index : PlainIndex) (tile : ℕ) → IsSoundIndex index → (es :
 fits_at index tile sound es same i lt =
     subst (λ (xs : List Entry). All (λ e. FitsWithin (pos 2000000000) e.bounds) xs) (sym same) (All-filter (is_in index tile) (λ e. FitsWithin (pos 2000000000) e.bounds) index.entries sound.fit) i no_entry lt
 
--- the places of entries of an index of rooms
+-- the places of entries of an index of item boxes
 pub place_at : (item_boxes : List Bounds) (index : PlainIndex) (tile : ℕ) → HoldsItemBoxes item_boxes index → (es : List Entry) → es ≡ near_of index tile → (i : ℕ) → i < length es → (get_or es i no_entry).id < length item_boxes
 place_at item_boxes index tile holds es same i lt =
     subst (λ (xs : List Entry). All (λ e. e.id < length item_boxes) xs) (sym same) (All-filter (is_in index tile) (λ e. e.id < length item_boxes) index.entries holds.only) i no_entry lt

@@ -1,4 +1,4 @@
--- An index of rooms by their places.
+-- An index of item boxes by their places.
 use Rattle.std.proofs.Common.{◌≡◌, ◌≢◌, ℕ, ◌+◌, ◌<◌, nat_lt, List, [], ◌∷◌, length, get_or, filter, All, Contains, inl, inr, refl, sym, subst, ◌∙◌, arith}
 use Rattle.std.proofs.lemmas.Bool.{cases_lt, lt-ltb}
 use Rattle.std.proofs.lemmas.List.Elements.{All-cons, All-append, All-filter, All-weaker, Contains-append_left, Contains-append_right}
@@ -19,7 +19,7 @@ placed_all P e xs one all =
     All-append P (filter (λ y. nat_lt y.id e.id) xs) (e ∷ filter (λ y. nat_lt e.id y.id) xs) (All-filter (λ y. nat_lt y.id e.id) P xs all)
     (All-cons P e (filter (λ y. nat_lt e.id y.id) xs) one (All-filter (λ y. nat_lt e.id y.id) P xs all))
 
--- the index holds the first rooms
+-- the index holds the first item boxes
 pub record HoldsTo (item_boxes : List Bounds) (count : ℕ) (index : PlainIndex) : Type 0 where
   pub only : All (λ entry. entry.id < count) index.entries
   pub each : (i : ℕ) (d : Bounds) → i < count → Contains index.entries (record { id = i; bounds = get_or item_boxes i d })
@@ -62,7 +62,7 @@ held_all item_boxes count index all h = record {
   each = λ i d lt. h.each i d (omega arith);
 }
 
--- rooms that were spread serve as well
+-- item boxes that were spread serve as well
 pub spread_item_boxes : (Step : ℕ → ℕ → Type 0) (ids : List ℕ) (item_boxes wide : List Bounds) → AreItemBoxes Step ids item_boxes → AreSpread item_boxes wide → AreItemBoxes Step ids wide
 spread_item_boxes Step ids item_boxes wide are spread = record {
   many = spread.many ∙ are.many;

@@ -1,4 +1,4 @@
--- Rooms in runs, and rooms that were passed.
+-- Item boxes in runs, and item boxes that were passed.
 use Rattle.std.proofs.Common.{◌≡◌, ℕ, ◌+◌, ◌*◌, ◌-◌, ◌<◌, ◌≤◌, List, [], ◌∷◌, ◌++◌, length, get_or, inl, inr, refl, sym, subst, ap, ◌∙◌, arith}
 use Rattle.std.proofs.lemmas.Bool.{cases_lt, cases_eq}
 use Rattle.std.proofs.lemmas.Int.{ints}
@@ -15,7 +15,7 @@ part_of_part a b c h k = record {
   bottom = omega (arith, ints, h.bottom, k.bottom);
 }
 
--- what meets a room meets each box around it
+-- what meets an item box meets each box around it
 meets_whole : (own item_box run : Bounds) → IsPartOf item_box run → BoxesMeet own item_box → BoxesMeet own run
 meets_whole own item_box run h m = record {
   left = omega (arith, ints, h.right, m.left);
@@ -42,7 +42,7 @@ runs_more item_boxes runs box so_far own = λ run i d h lo hi l. elim (cases_lt 
     length_more : length (runs ++ box ∷ []) ≡ length runs + 1
     length_more = length_push runs box
 
--- ---- rooms that were passed
+-- ---- item boxes that were passed
 -- none of those from one place to another meets this box
 pub record ArePassed (item_boxes : List Bounds) (own : Bounds) (from place : ℕ) : Type 0 where
   pub from_here : from ≤ place

@@ -1,4 +1,4 @@
--- Items that touch, and rooms of items.
+-- Items that touch, and item boxes of items.
 use Rattle.std.proofs.Common.{◌≡◌, ◌≢◌, ℕ, ◌+◌, ◌-◌, ◌<◌, ◌∷◌, ◌++◌, length, All, List, [], None, Some, inl, inr, refl, sym, subst, ap, ◌∙◌}
 use Rattle.geo_seg.specs.declared.boxes.Bounds.{Bounds}
 use Rattle.geo_seg.specs.Boxes.{FitsWithin}
@@ -29,7 +29,7 @@ item_box_is board id item item_box found own other at some =
 pub no_item : (board : PlainBoard) (id : ℕ) (item_box : Bounds) → item_at board.items id ≡ None → IsItemBox board id item_box
 no_item board id item_box none other at some = absurd (cc)
 
--- a room fits an index
+-- an item box fits an index
 looser : (b : Bounds) → FitsWithin (pos 1500000000) b → FitsWithin (pos 2000000000) b
 looser b f = record { wide = f.wide; high = f.high; left = omega (arith, ints); top = omega (arith, ints); right = omega (arith, ints); bottom = omega (arith, ints) }
 
@@ -38,8 +38,8 @@ pub touching_at : (board : PlainBoard) (i j : ℕ) (a b : Item) → item_at boar
 touching_at board i j a b f g t =
     subst (λ (x : Item). Touching x b) (some_same t.a a (sym t.first ∙ f)) (subst (λ (y : Item). Touching t.a y) (some_same t.b b (sym t.second ∙ g)) t.touch)
 
--- ---- rooms of ids
--- each of the ids has its room
+-- ---- item boxes of ids
+-- each of the ids has its item box
 pub record AreItemBoxesOf (board : PlainBoard) (ids : List ℕ) (item_boxes : List Bounds) : Type 0 where
   pub many : length item_boxes ≡ length ids
   pub fit : All (λ item_box. FitsWithin (pos 1500000000) item_box) item_boxes
@@ -68,7 +68,7 @@ item_boxes_more board ids item_boxes id item_box so_far own = record {
   ];
 }
 
--- where two touch their rooms meet
+-- where two touch their item boxes meet
 pub item_boxes_tell : (board : PlainBoard) (ids : List ℕ) (item_boxes : List Bounds) → AreItemBoxesOf board ids item_boxes → AreItemBoxes (TouchOn board) ids item_boxes
 item_boxes_tell board ids item_boxes all = record {
   many = all.many;

@@ -1,4 +1,4 @@
--- Rooms that are moved and stretched: those that met still do.
+-- Item boxes that are moved and stretched: those that met still do.
 use Rattle.std.proofs.Common.{◌≡◌, ℕ, ◌+◌, ◌-◌, ◌<◌, ℤ, pos, neg_ℤ, ◌-ℤ◌, ◌*ℤ◌, ◌≤ℤ◌, List, [], ◌∷◌, ◌++◌, length, get_or, All, inl, inr, refl, sym, subst, ap, ◌∙◌, arith}
 use Rattle.std.specs.Int.{int_max, int_min}
 use Rattle.std.proofs.lemmas.Int.{ints, clamps}
@@ -119,8 +119,8 @@ sides l t r b = record { left = l; top = t; right = r; bottom = b }
 pub same_sides : (l t r b l' t' r' b' : ℤ) → l ≡ l' → t ≡ t' → r ≡ r' → b ≡ b' → sides l t r b ≡ sides l' t' r' b'
 same_sides l t r b l' t' r' b' h k m n = cc
 
--- ---- a list of rooms
--- the first rooms were stretched
+-- ---- a list of item boxes
+-- the first item boxes were stretched
 pub record AreStretchedTo (s : Stretch) (item_boxes : List Bounds) (count : ℕ) (wide : List Bounds) : Type 0 where
   pub many : length wide ≡ count
   pub fit : All (λ item_box. FitsWithin (pos 1500000000) item_box) wide

@@ -1,4 +1,4 @@
--- Private words of the search: rooms that are moved and stretched.
+-- Private words of the search: item boxes that are moved and stretched.
 use Rattle.std.specs.Prelude.{ℤ, pos, neg_ℤ, ◌-ℤ◌, ◌*ℤ◌}
 use Rattle.std.specs.Int.{int_max, int_min}
 use Rattle.geo_seg.specs.declared.boxes.Bounds.{Bounds}

@@ -87,7 +87,7 @@ fn ids_of(board: &Board, net: u32) -> &[u32]
 
 /// The anchors of a net: those of the members of its groups, by rising id and number, each with the number of its group.
 ///
-/// A track has two anchors, its position and its other end; any other item has its position alone. Only want of memory refuses
+/// A track has two anchors, its position and its other end; any other item has its position alone. Only running out of memory refuses
 /// it. It takes about as long as the net has items.
 pub fn anchors(
     alloc: Global,

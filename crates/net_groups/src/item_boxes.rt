@@ -1,4 +1,4 @@
-//! The conductors of a net, each with its room.
+//! The conductors of a net, each with its item box.
 
 ghost use Rattle.std.specs.Prelude.{◌≡◌, ◌≢◌, false, Some, [], MatchOption};
 ghost use Rattle.board_items.specs.ItemParts.{parts_of};
@@ -11,8 +11,8 @@ ghost use Rattle.net_groups.specs.ItemBoxes.{IsCopperItemBox};
 use board_items::{Board, Item};
 use geo_seg::Bounds;
 
-/// The conductors of a net: their ids, rising, and for each a room. Where two of them touch, their rooms meet. There are boxes around
-/// runs of rooms, or none.
+/// The conductors of a net: their ids, rising, and for each an item box. Where two of them touch, their item boxes meet. There are boxes
+/// around runs of item boxes, or none.
 #[derive(Clone, Copy)]
 pub(crate) struct Conductors<'a> {
     pub(crate) board: &'a Board,
@@ -21,7 +21,7 @@ pub(crate) struct Conductors<'a> {
     pub(crate) runs: &'a [Bounds],
 }
 
-/// The room of what takes up none.
+/// The item box of what takes up none.
 fn no_item_box() -> Bounds
     ensures { FitsShape result }
 {
@@ -33,7 +33,7 @@ fn no_item_box() -> Bounds
     }
 }
 
-/// The bounds of an item, or no room.
+/// The bounds of an item, or no item box.
 fn bounds_of(item: &Item) -> Bounds
     ensures fits { FitsShape result }
     ensures item_box { parts_of item.now ≢ [] → AreBoundsOf (parts_of item.now) (Some result) }
@@ -44,7 +44,7 @@ fn bounds_of(item: &Item) -> Bounds
     }
 }
 
-/// The room of the item of the id: its bounds. None where there is no such item, or it has no copper.
+/// The item box of the item of the id: its bounds. None where there is no such item, or it has no copper.
 pub(crate) fn copper_item_box(board: &Board, id: u32) -> Option<Bounds>
     ensures { MatchOption result (is_copper (item_at board.now.items id) ≡ false)
         (IsCopperItemBox board.now id) }

@@ -17,7 +17,7 @@ use crate::touch::touch_on;
 use box_index::{Entry, TileIndex};
 use std::alloc::{AllocError, Global};
 
-/// So few rooms are each held against all others, run by run, faster than tiles are made for them.
+/// So few item boxes are each held against all others, run by run, faster than tiles are made for them.
 const FEW: usize = 256;
 
 /// The label of each place, and how many labels there are.
@@ -43,7 +43,7 @@ fn newly_touched(net: &Conductors<'_>, labels: &[Option<u32>], place: usize, oth
     labels[other].is_none() && touch_on(net.board, net.ids[place], net.ids[other])
 }
 
-/// `visit` without an index: the rooms of all places from the first on are gone through.
+/// `visit` without an index: the item boxes of all places from the first on are gone through.
 fn visit_item_boxes(
     net: &Conductors<'_>,
     first: usize,
@@ -134,7 +134,7 @@ fn visit_tile(
     Ok(())
 }
 
-/// Visits a place in each tile that its room meets.
+/// Visits a place in each tile that its item box meets.
 fn visit_tiles(
     net: &Conductors<'_>,
     index: &TileIndex,

@@ -1,5 +1,5 @@
 //! The groups of a net: its items whose copper touches, joined by chains, and the anchors of those items, where links may end.
-//! Which items are near each other is told by their rooms.
+//! Which items are near each other is told by their item boxes.
 #![tactic(auto)]
 
 mod anchors_of;

@@ -18,7 +18,7 @@ use box_index::TileIndex;
 use geo_seg::Bounds;
 use std::alloc::{AllocError, Global};
 
-/// Items of a net with copper: their ids, rising, and a room of each.
+/// Items of a net with copper: their ids, rising, and an item box of each.
 #[derive(Drop)]
 struct WithItemBoxes {
     ids: Vec<u32>,
@@ -53,7 +53,7 @@ fn conductors(alloc: Global, board: &Board, net: u32) -> Result<WithItemBoxes, A
 ///
 /// Items of one net touch where their copper meets on a layer, and net 0 is no net: it has no groups. Members rise, and
 /// groups stand by their least member. Up to 256 items are each held against all others, and more are put into tiles of an
-/// index of their own. Only want of memory refuses it.
+/// index of their own. Only running out of memory refuses it.
 pub fn groups_of(alloc: Global, board: &Board, net: u32) -> Result<Vec<Group>, AllocError>
     ensures groups { IfOk result (λ groups. AreGroups board.now net groups.items) }
     ensures filled { IfOk result (λ groups. All (λ group. 0 < length group) groups.items) }
@@ -72,7 +72,7 @@ pub fn groups_of(alloc: Global, board: &Board, net: u32) -> Result<Vec<Group>, A
 }
 
 /// The groups of a net, for a caller that has an index of all items of the board that have bounds: those of [`groups_of`], which
-/// needs no index. Only want of memory refuses it.
+/// needs no index. Only running out of memory refuses it.
 pub fn groups(
     alloc: Global,
     board: &Board,

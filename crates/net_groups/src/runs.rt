@@ -1,4 +1,4 @@
-//! Rooms in runs, each with a box around it: those of a run that is far are passed over together.
+//! Item boxes in runs, each with a box around it: those of a run that is far are passed over together.
 
 ghost use Rattle.std.specs.Prelude.{◌≡◌, ◌*◌, ◌<◌, ◌≤◌, ℕ, IsTrue, IfOk, length, slice_index_or};
 ghost use Rattle.geo_seg.specs.declared.boxes.Bounds.{Bounds};
@@ -9,10 +9,10 @@ use box_index::do_boxes_meet;
 use geo_seg::Bounds;
 use std::alloc::{AllocError, Global};
 
-/// How many rooms are in a run.
+/// How many item boxes are in a run.
 const RUN: usize = 8;
 
-/// A box around the rooms from one place to another.
+/// A box around the item boxes from one place to another.
 fn run_of(item_boxes: &[Bounds], low: usize, high: usize) -> Bounds
     ensures { (i : ℕ) (d : Bounds) → low ≤ i → i < high → i < length item_boxes.now
         → IsPartOf (slice_index_or item_boxes.now i d) result }
@@ -29,7 +29,7 @@ fn run_of(item_boxes: &[Bounds], low: usize, high: usize) -> Bounds
     run
 }
 
-/// The boxes around the runs of these rooms.
+/// The boxes around the runs of these item boxes.
 pub(crate) fn runs_of(alloc: Global, item_boxes: &[Bounds]) -> Result<Vec<Bounds>, AllocError>
     ensures { IfOk result (λ runs. AreBoxRuns item_boxes.now runs.items) }
 {
@@ -65,7 +65,7 @@ fn begins_clear(runs: &[Bounds], place: usize, own: Bounds) -> bool
     run * RUN == place && is_clear(runs, run, own)
 }
 
-/// The first place from the one that is given on whose room meets this one. Where there is none, all later rooms are passed.
+/// The first place from the one that is given on whose item box meets this one. Where there is none, all later item boxes are passed.
 pub(crate) fn next_met(item_boxes: &[Bounds], runs: &[Bounds], own: Bounds, from: usize) -> usize
     requires { AreBoxRuns item_boxes.now runs.now }
     ensures from { from ≤ result }

@@ -1,4 +1,4 @@
-//! Rooms of one net, spread over all tiles of an index of their own.
+//! Item boxes of one net, spread over all tiles of an index of their own.
 
 ghost use Rattle.std.specs.Prelude.{◌≡◌, ◌<◌, ◌^◌, ◌≤ℤ◌, pos, neg_ℤ, All, IfOk, length};
 ghost use Rattle.geo_seg.specs.Boxes.{FitsShape};
@@ -11,7 +11,7 @@ use geo_seg::Bounds;
 use std::alloc::{AllocError, Global};
 use std::num::{nearest_i64_to_f64, saturating_f64_to_u32};
 
-/// The least box around all rooms, or one that is empty.
+/// The least box around all item boxes, or one that is empty.
 fn around(item_boxes: &[Bounds]) -> Bounds {
     let mut all = Bounds {
         left: 1_500_000_000,
@@ -40,7 +40,7 @@ fn middle(low: i64, high: i64) -> i64
         .max(-1_500_000_000)
 }
 
-/// About the longer side of a room, in thousandths of a tile: the root of the mean of the squares.
+/// About the longer side of an item box, in thousandths of a tile: the root of the mean of the squares.
 fn side_of(item_boxes: &[Bounds]) -> i64 {
     let mut sum: i64 = 0;
     for item_box in item_boxes {
@@ -53,13 +53,13 @@ fn side_of(item_boxes: &[Bounds]) -> i64 {
     i64::from(saturating_f64_to_u32(nearest_i64_to_f64(mean).sqrt()))
 }
 
-/// How often a box of this size goes into the tiles, where a room of this side, in thousandths of a tile, gets no larger than a tile, so
-/// that rooms lie in a few tiles each.
+/// How often a box of this size goes into the tiles, where an item box of this side, in thousandths of a tile, gets no larger than a tile,
+/// so that item boxes lie in a few tiles each.
 fn item_box_for(size: i64, side: i64) -> i64 {
     (2_000_000_000 / size.max(1)).min(1_000 / side.max(1))
 }
 
-/// How often a box of this size is stretched, from 1 to 1,000 times, so that rooms of this side, in thousandths of a tile, lie in a
+/// How often a box of this size is stretched, from 1 to 1,000 times, so that item boxes of this side, in thousandths of a tile, lie in a
 /// few tiles each.
 fn times_in(size: i64, side: i64) -> i64
     ensures from { pos 1 ≤ℤ result }
@@ -68,7 +68,7 @@ fn times_in(size: i64, side: i64) -> i64
     item_box_for(size, side).min(1_000).max(1)
 }
 
-/// What spreads the rooms over the tiles.
+/// What spreads the item boxes over the tiles.
 fn stretch_for(item_boxes: &[Bounds]) -> Stretch {
     let all = around(item_boxes);
     let wide = all.right.saturating_sub(all.left);
@@ -80,7 +80,7 @@ fn stretch_for(item_boxes: &[Bounds]) -> Stretch {
     }
 }
 
-/// A room that was moved and stretched, but not farther than to the edge.
+/// An item box that was moved and stretched, but not farther than to the edge.
 fn stretched(stretch: Stretch, item_box: Bounds) -> Bounds
     requires { FitsShape item_box }
     ensures { result ≡ stretched stretch item_box }
@@ -116,7 +116,7 @@ fn stretch_all(
     Ok(wide)
 }
 
-/// The rooms, moved and stretched so that they lie in as many tiles as may be. Those that met still do.
+/// The item boxes, moved and stretched so that they lie in as many tiles as may be. Those that met still do.
 pub(crate) fn spread_out(alloc: Global, item_boxes: &[Bounds]) -> Result<Vec<Bounds>, AllocError>
     requires { All (λ item_box. FitsShape item_box) item_boxes.now }
     ensures { IfOk result (λ wide. AreSpread item_boxes.now wide.items) }
@@ -124,7 +124,7 @@ pub(crate) fn spread_out(alloc: Global, item_boxes: &[Bounds]) -> Result<Vec<Bou
     stretch_all(alloc, stretch_for(item_boxes), item_boxes)
 }
 
-/// An index of the rooms by their places.
+/// An index of the item boxes by their places.
 pub(crate) fn index_of(alloc: Global, item_boxes: &[Bounds]) -> Result<TileIndex, AllocError>
     requires few { length item_boxes.now < 2 ^ 32 }
     requires fit { All (λ item_box. FitsShape item_box) item_boxes.now }

@@ -115,7 +115,7 @@ frame_of placement tree = do
   quarter ← needed (Turned (place tree)) (quarter_of word drilling type local_placement.angle)
   Ok (record { pad_type = type; word = word; at = stood placement local_placement.at; quarter = quarter; sizes = sizes; drilling = drilling })
 
--- the position of a pad on the board, or off it: no further from 0 than the sum of two spots that are read, those of its footprint and
+-- the position of a pad on the board, or off it: no further from 0 than the sum of two raw points that are read, those of its footprint and
 -- its own
 abbrev pub IsPadRawPoint : RawPoint → Type 0
 IsPadRawPoint s = IsRawPointWithin 2000000000000 s

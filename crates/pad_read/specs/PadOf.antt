@@ -46,7 +46,7 @@ use Rattle.pad_read.specs.PadFrames.{hole_sizes, is_plated, frame_of}
 
 -- ---- its form: what is all within a radius of a box, and what else is drawn
 
--- the form that is a cushion alone
+-- the form that is a rounded rectangle alone
 abbrev pub without_primitives : RoundedRect → Form
 without_primitives rounded_rect = record { rounded_rect = rounded_rect; primitives = [] }
 
@@ -72,7 +72,7 @@ all_drawn layers placement (d ∷ ds) = both (λ ps qs. ps ++ qs) (drawn layers 
 abbrev pub with_part : LayerSet → Shape → List Part → List Part
 with_part layers shape parts = record { layers = layers; shape = shape } ∷ parts
 
--- what stands so has its cushion in the middle, and the primitives around it
+-- what stands so has its rounded rectangle in the middle, and the primitives around it
 abbrev pub copper_of : LayerSet → Placement → Form → Option (List Part)
 copper_of layers placement form =
     both (with_part layers) (rounded_rect_at placement.at (turned_rounded_rect placement.quarter form.rounded_rect)) (all_drawn layers placement form.primitives)
@@ -155,7 +155,7 @@ local_in_range (Some m) h = λ n e. length_in_range n (subst (λ (z : ℤ). is_l
 
 -- ---- the item
 
--- the pad of this label at this spot, with this copper and this hole
+-- the pad of this label at this raw point, with this copper and this hole
 abbrev pub pad_item : (label : Label) → RawPoint → List Part → Option Hole → local_fits label.local ≡ true → Item
 pad_item label at copper hole fits = record {
   name = label.name;
@@ -171,7 +171,7 @@ pad_item label at copper hole fits = record {
   what_in_range = unmeasured (Pad label.number label.reference) refl;
 }
 
--- the pad of this label at this spot, if its copper and its hole lie on the board and its clearance is a length
+-- the pad of this label at this raw point, if its copper and its hole lie on the board and its clearance is a length
 abbrev pub pad_with : Label → RawPoint → Option (List Part) → Option (Option Hole) → Option Item
 pad_with label at copper hole =
     option_and_then (λ parts. option_and_then (λ drilled. tested (local_fits label.local) (pad_item label at parts drilled)) hole) copper

@@ -74,11 +74,11 @@ round_radius s tree = given_or (pos 0) (λ list. atom_of 1 list >>= ratio_in (le
 
 -- ---- on the board
 
--- the cushion turned by so many quarter turns
+-- the rounded rectangle turned by so many quarter turns
 abbrev pub turned_rounded_rect : ℕ → RoundedRect → RoundedRect
 turned_rounded_rect quarter c = if quarter % 2 == 0 then c else record { x = c.y; y = c.x; radius = c.radius }
 
--- the left and upper corner of the box around this spot, if it lies on the board
+-- the left and upper corner of the box around this raw point, if it lies on the board
 abbrev pub low_point : RawPoint → RoundedRect → Option Point
 low_point s c = half_point (record { x = (pos 2 *ℤ s.x) -ℤ c.x; y = (pos 2 *ℤ s.y) -ℤ c.y })
 
@@ -86,6 +86,6 @@ low_point s c = half_point (record { x = (pos 2 *ℤ s.x) -ℤ c.x; y = (pos 2 *
 abbrev pub high_point : RawPoint → RoundedRect → Option Point
 high_point s c = half_point (record { x = (pos 2 *ℤ s.x) +ℤ c.x; y = (pos 2 *ℤ s.y) +ℤ c.y })
 
--- the shape around this spot, if it lies on the board
+-- the shape around this raw point, if it lies on the board
 abbrev pub rounded_rect_at : RawPoint → RoundedRect → Option Shape
 rounded_rect_at s c = both around (radius_of c.radius) (both box_core (low_point s c) (high_point s c))

@@ -1,4 +1,4 @@
-//! The copper of a pad: its cushion and the primitives around it, where they lie on the board.
+//! The copper of a pad: its rounded rectangle and the primitives around it, where they lie on the board.
 
 ghost use Rattle.std.specs.Prelude.{◌≡◌, ◌<◌, ◌++◌, All, IfOk, List, Option, Some, None, if◌then◌else◌};
 ghost use Rattle.board_items.specs.declared.parts.Part.{Part};

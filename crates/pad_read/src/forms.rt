@@ -1,4 +1,4 @@
-//! The form of a pad: a cushion by its shape and its sizes, and the primitives of a custom pad.
+//! The form of a pad: a rounded rectangle by its shape and its sizes, and the primitives of a custom pad.
 
 ghost use Rattle.std.specs.Prelude.{◌≡◌, IfOk};
 ghost use Rattle.sexpr_read.specs.TreeViews.{tree_of};
@@ -25,7 +25,7 @@ pub struct Form {
     pub primitives: Primitives,
 }
 
-/// The form that is a cushion alone.
+/// The form that is a rounded rectangle alone.
 fn without_primitives(alloc: Global, rounded_rect: RoundedRect) -> Form
     ensures { result ≡ without_primitives rounded_rect }
 {

@@ -16,7 +16,7 @@ use list_read::place;
 use part_read::{Placement, RawPoint, stand};
 use sexpr_read::Node;
 
-/// Where a spot of a footprint that stands so is on the board, or off it.
+/// Where a raw point of a footprint that stands so is on the board, or off it.
 fn position_of(placement: Placement, raw_point: RawPoint) -> RawPoint
     requires quarter { placement.quarter < 4 }
     requires at { IsReadRawPoint placement.at }

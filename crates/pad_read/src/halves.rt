@@ -1,4 +1,4 @@
-//! The point at a spot that counts half nanometres, with the test that it lies on the board.
+//! The point at a raw point that counts half nanometres, with the test that it lies on the board.
 
 ghost use Rattle.std.specs.Prelude.{◌≡◌};
 ghost use Rattle.pad_read.specs.Halves.{is_near_half, fits_half, half_point};
@@ -16,14 +16,14 @@ fn is_near_half(z: i64) -> bool
     z.unsigned_abs() <= GREATEST_COORDINATE
 }
 
-/// Whether both numbers of the spot are coordinates.
+/// Whether both numbers of the raw point are coordinates.
 fn fits_half(raw_point: RawPoint) -> bool
     ensures { result ≡ fits_half raw_point }
 {
     is_near_half(raw_point.x) && is_near_half(raw_point.y)
 }
 
-/// The point at a spot that counts half nanometres, unless it lies off the board.
+/// The point at a raw point that counts half nanometres, unless it lies off the board.
 pub(crate) fn half_point(raw_point: RawPoint) -> Option<Point>
     ensures { result ≡ half_point raw_point }
 {

@@ -1,4 +1,4 @@
-//! Postures: where a footprint or a pad stands and how it is turned; and its clearance, which both
+//! Placements: where a footprint or a pad stands and how it is turned; and its clearance, which both
 //! read alike.
 
 ghost use Rattle.std.specs.Prelude.{◌≡◌, ◌<◌, option_map, IfOk, IfSome};

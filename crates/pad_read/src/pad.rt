@@ -220,7 +220,7 @@ fn label_of(
 /// room.
 ///
 /// Its refusals are those of [`BoardError`], exactly where the definition of a pad (`specs/PadOf`)
-/// has them, with their places; want of memory alone is free.
+/// has them, with their places; running out of memory alone is free.
 #[tactic(auto, unfolding(crate::specs::PadOf::pad_of))]
 pub fn pad_of(
     alloc: Global,

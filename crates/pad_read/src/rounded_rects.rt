@@ -1,4 +1,4 @@
-//! Cushions: the shapes of pads that are all within a radius of a box.
+//! Rounded rectangles: the shapes of pads that are all within a radius of a box.
 
 ghost use Rattle.std.specs.Prelude.{◌≡◌, ◌≤ℤ◌, ◌+ℤ◌, ◌-ℤ◌, ◌*ℤ◌, pos, IfOk};
 ghost use Rattle.plain_types.specs.Lengths.{greatest};
@@ -72,7 +72,7 @@ pub(crate) fn round_rounded_rect(sizes: Sizes, radius: i64) -> RoundedRect
     }
 }
 
-/// A cushion, turned by so many quarter turns.
+/// A rounded rectangle, turned by so many quarter turns.
 pub(crate) fn turned_rounded_rect(quarter: u32, rounded_rect: RoundedRect) -> RoundedRect
     requires { IsSmall rounded_rect }
     ensures turned { result ≡ turned_rounded_rect quarter rounded_rect }
@@ -159,7 +159,7 @@ pub(crate) fn round_radius(sizes: Sizes, node: Node<'_, '_>) -> Result<i64, Boar
 
 // ---- on the board
 
-/// The left and upper corner of the box around a spot, in half nanometres.
+/// The left and upper corner of the box around a raw point, in half nanometres.
 fn low_corner(at: RawPoint, rounded_rect: RoundedRect) -> RawPoint
     requires at { IsPlacementRawPoint at }
     requires small { IsSmall rounded_rect }
@@ -172,7 +172,7 @@ fn low_corner(at: RawPoint, rounded_rect: RoundedRect) -> RawPoint
     }
 }
 
-/// The right and lower corner of the box around a spot, in half nanometres.
+/// The right and lower corner of the box around a raw point, in half nanometres.
 fn high_corner(at: RawPoint, rounded_rect: RoundedRect) -> RawPoint
     requires at { IsPlacementRawPoint at }
     requires small { IsSmall rounded_rect }
@@ -185,7 +185,7 @@ fn high_corner(at: RawPoint, rounded_rect: RoundedRect) -> RawPoint
     }
 }
 
-/// The left and upper corner of the box around a spot, unless it lies off the board.
+/// The left and upper corner of the box around a raw point, unless it lies off the board.
 fn low_point(at: RawPoint, rounded_rect: RoundedRect) -> Option<Point>
     requires at { IsPlacementRawPoint at }
     requires small { IsSmall rounded_rect }
@@ -194,7 +194,7 @@ fn low_point(at: RawPoint, rounded_rect: RoundedRect) -> Option<Point>
     half_point(low_corner(at, rounded_rect))
 }
 
-/// The right and lower corner of the box around a spot, unless it lies off the board.
+/// The right and lower corner of the box around a raw point, unless it lies off the board.
 fn high_point(at: RawPoint, rounded_rect: RoundedRect) -> Option<Point>
     requires at { IsPlacementRawPoint at }
     requires small { IsSmall rounded_rect }
@@ -203,7 +203,7 @@ fn high_point(at: RawPoint, rounded_rect: RoundedRect) -> Option<Point>
     half_point(high_corner(at, rounded_rect))
 }
 
-/// The shape around this spot, unless it leaves the board.
+/// The shape around this raw point, unless it leaves the board.
 pub(crate) fn rounded_rect_at(
     alloc: Global,
     at: RawPoint,

@@ -54,7 +54,7 @@ needed_ok e (Some y) x h = let s : y ≡ x = cc in ap (λ (z : _). Some z) s
 same_ok : {A : Type 0} {x y : A} → (let r : Result A BoardError = Ok x in r) ≡ Ok y → x ≡ y
 same_ok h = cc
 
--- ---- outlines have a first spot
+-- ---- outlines have a first raw point
 
 abbrev pub IsStarted : Figure → Type 0
 IsStarted (Outline raw_points) = 1 ≤ length raw_points

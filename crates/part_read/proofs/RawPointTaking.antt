@@ -1,4 +1,4 @@
--- What one part more gives the spots of an outline, case by case.
+-- What one part more gives the raw points of an outline, case by case.
 use Rattle.std.proofs.Common.{◌≡◌, ◌∙◌, refl, ap, sym, List, [], ◌∷◌, ◌++◌, append_assoc, Bool, ◌&&◌, not, true, false, Result, Ok, Err, codes}
 use Rattle.sexpr_read.specs.Tree.{Tree}
 use Rattle.board_errors.specs.declared.errors.BoardError.{BoardError}

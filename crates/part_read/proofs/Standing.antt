@@ -1,4 +1,4 @@
--- Where spots stand: sums of numbers that are small enough.
+-- Where raw points stand: sums of numbers that are small enough.
 use Rattle.std.proofs.Common.{◌≡◌, ◌∙◌, ap, sym, subst, ℕ, ◌+◌, ◌≤◌, ℤ, neg_ℤ, ◌+ℤ◌, unsigned_abs, Bool, true, false, cond, eqb, arith}
 use Rattle.std.proofs.lemmas.Int.{ints}
 use Rattle.int_algebra.proofs.Scalars.{passed, passed_is}

@@ -36,7 +36,7 @@ number_in atom = do
 
 -- ---- in elements
 
--- the spot of (HEAD X Y)
+-- the raw point of (HEAD X Y)
 unfoldable pub raw_point_at : Tree → Result RawPoint BoardError
 raw_point_at list = do
   first ← atom_of 1 list
@@ -45,7 +45,7 @@ raw_point_at list = do
   y ← length_in second
   Ok (record { x = x; y = y })
 
--- the spot in the element with this head, which must be there
+-- the raw point in the element with this head, which must be there
 abbrev pub raw_point_of : List ℕ → Tree → Result RawPoint BoardError
 raw_point_of head tree = in_needed raw_point_at tree (element head tree)
 

@@ -11,11 +11,11 @@ root (suc m) = let r = root m in if nat_le (suc r * suc r) (suc m) then suc r el
 abbrev pub squared : ℤ → ℕ
 squared z = unsigned_abs z * unsigned_abs z
 
--- the square of the distance of two spots
+-- the square of the distance of two raw points
 abbrev pub square_between : RawPoint → RawPoint → ℕ
 square_between a b = squared (b.x -ℤ a.x) + squared (b.y -ℤ a.y)
 
--- the square of the distance of two spots that are read is at most this
+-- the square of the distance of two raw points that are read is at most this
 abbrev pub most_square : ℕ
 most_square = 8000000000000 * 1000000000000
 

@@ -20,7 +20,7 @@ use Rattle.part_read.specs.Circles.{radius_between}
 
 -- ---- corners
 
--- the spots of each (xy X Y), in order; an (arc ..) is refused, or passed over where curves may stand
+-- the raw points of each (xy X Y), in order; an (arc ..) is refused, or passed over where curves may stand
 abbrev pub raw_points_among : Bool → List Tree → Result (List RawPoint) BoardError
 raw_points_among curved [] = Ok []
 raw_points_among curved (t ∷ ts) =
@@ -31,13 +31,13 @@ raw_points_among curved (t ∷ ts) =
     else if has_head (codes "arc") t && not curved then Err (Arc (place t))
     else raw_points_among curved ts
 
--- one part more is looked at: the spots so far, and those of this part and of what follows it, are the new ones and those of what
+-- one part more is looked at: the raw points so far, and those of this part and of what follows it, are the new ones and those of what
 -- follows; or the part is refused
 abbrev pub TakesRawPoint : Result (Unit {0}) BoardError → Bool → Tree → List RawPoint → List RawPoint → Type 0
 TakesRawPoint (Ok _) curved t old new = (rest : List Tree) → before old (raw_points_among curved (t ∷ rest)) ≡ before new (raw_points_among curved rest)
 TakesRawPoint (Err e) curved t old new = (e ≡ OutOfMemory) ⊎ ((rest : List Tree) → raw_points_among curved (t ∷ rest) ≡ Err e)
 
--- three spots or more
+-- three raw points or more
 abbrev pub enough : Tree → List RawPoint → Result (List RawPoint) BoardError
 enough list raw_points = check (Missing (place list)) (nat_le 3 (length raw_points)) >>= λ _. Ok raw_points
 

@@ -116,12 +116,12 @@ drawn_edge placement d =
 
 -- ---- where it is said to be
 
--- the first of the spots; where there is none, the spot at 0
+-- the first of the raw points; where there is none, the raw point at 0
 abbrev pub first_of : List RawPoint → RawPoint
 first_of [] = record { x = pos 0; y = pos 0 }
 first_of (s ∷ ss) = s
 
--- the spot by which a report names a figure
+-- the raw point by which a report names a figure
 abbrev pub first_raw_point : Figure → RawPoint
 first_raw_point (Line a b) = a
 first_raw_point (Rect a b) = a
@@ -145,7 +145,7 @@ is_circle figure = false
 
 -- ---- what was read lies within reach of all sums
 
--- the spots and the radius of the figure are as they are read; an outline has its spots so by its type
+-- the raw points and the radius of the figure are as they are read; an outline has its raw points so by its type
 abbrev pub HasReach : Figure → Type 0
 HasReach (Line a b) = IsReadRawPoint a × IsReadRawPoint b
 HasReach (Rect a b) = IsReadRawPoint a × IsReadRawPoint b

@@ -44,7 +44,7 @@ layer_role_among copper (Some list) = do
   layer ← drawn_on copper atom
   Ok (layer_role_by atom layer)
 
--- the ground that (layer NAME) names; a copper layer that the board has not is refused
+-- the layer role that (layer NAME) names; a copper layer that the board has not is refused
 unfoldable pub layer_role_of : LayerSet → Tree → Result LayerRole BoardError
 layer_role_of copper tree = layer_role_among copper (element (codes "layer") tree)
 

@@ -1,4 +1,4 @@
--- What is known of the ground of a graphic.
+-- What is known of the layer role of a graphic.
 use Rattle.std.specs.Prelude.{◌<◌, IsTrue, ⊤}
 use Rattle.copper_layers.specs.declared.set.LayerSet.{LayerSet}
 use Rattle.copper_layers.specs.Layers.{has_layer}

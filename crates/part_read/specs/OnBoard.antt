@@ -23,11 +23,11 @@ tested false make = None
 pub doubled_in_range : (z : ℤ) → is_near z ≡ true → IsCoordinate (pos 2 *ℤ z)
 doubled_in_range z h = doubled_by_tests z (front _ _ h) (back _ _ h)
 
--- the spot lies on a board: at most 500 mm from 0 in x and in y
+-- the raw point lies on a board: at most 500 mm from 0 in x and in y
 abbrev pub fits_board : RawPoint → Bool
 fits_board raw_point = is_near raw_point.x && is_near raw_point.y
 
--- the point at a spot that does
+-- the point at a raw point that does
 abbrev pub point_at : (raw_point : RawPoint) → fits_board raw_point ≡ true → Point
 point_at raw_point fits = record {
   x = pos 2 *ℤ raw_point.x;

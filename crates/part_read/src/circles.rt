@@ -7,7 +7,7 @@ ghost use Rattle.part_read.specs.Circles.{most_square, most_radius, root, radius
 use crate::numbers::RawPoint;
 use board_items::Nm;
 
-/// The square of the distance of two spots.
+/// The square of the distance of two raw points.
 fn square_between(a: RawPoint, b: RawPoint) -> u128
     requires a { IsReadRawPoint a }
     requires b { IsReadRawPoint b }

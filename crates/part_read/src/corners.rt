@@ -1,4 +1,4 @@
-//! The corners of an outline: three spots or more, as they are read.
+//! The corners of an outline: three raw points or more, as they are read.
 
 ghost use Rattle.std.specs.Prelude.{◌≡◌, ◌≤◌, All, length};
 ghost use Rattle.part_read.specs.Placements.{IsReadRawPoint};
@@ -6,7 +6,7 @@ ghost use Rattle.part_read.specs.Placements.{IsReadRawPoint};
 use crate::numbers::RawPoint;
 use std::marker::Model;
 
-/// Three spots or more, each at most 10^12 nanometres from 0 in x and in y. Contracts see the list
+/// Three raw points or more, each at most 10^12 nanometres from 0 in x and in y. Contracts see the list
 /// of them.
 #[derive(Drop)]
 pub struct Corners {
@@ -26,7 +26,7 @@ impl Model for Corners {
 }
 
 impl Corners {
-    /// The corners at these spots.
+    /// The corners at these raw points.
     pub fn of(raw_points: Vec<RawPoint>) -> Corners
         requires enough { 3 ≤ length raw_points.items }
         requires within { All IsReadRawPoint raw_points.items }
@@ -35,7 +35,7 @@ impl Corners {
         Corners { raw_points }
     }
 
-    /// The spots in their order.
+    /// The raw points in their order.
     pub fn as_slice(&self) -> &[RawPoint]
         ensures same { result.now ≡ self.now }
         ensures enough { 3 ≤ length result.now }

@@ -31,7 +31,7 @@ pub enum GraphicKind {
     Outline,
 }
 
-/// The spot of `(HEAD X Y)`. Each number is at most 10^12 nanometres from 0.
+/// The raw point of `(HEAD X Y)`. Each number is at most 10^12 nanometres from 0.
 pub fn raw_point_in(list: Node<'_, '_>) -> Result<RawPoint, BoardError>
     ensures raw_point { result ≡ raw_point_at (tree_of list.entry) }
     ensures within { IfOk result IsReadRawPoint }
@@ -40,7 +40,7 @@ pub fn raw_point_in(list: Node<'_, '_>) -> Result<RawPoint, BoardError>
     Ok(raw_point)
 }
 
-/// The spot of an element which must be there.
+/// The raw point of an element which must be there.
 fn raw_point_needed(node: Node<'_, '_>, head: &[u8]) -> Result<RawPoint, BoardError>
     ensures raw_point { result
         ≡ in_needed raw_point_at (tree_of node.entry) (element head.now (tree_of node.entry)) }
@@ -52,7 +52,7 @@ fn raw_point_needed(node: Node<'_, '_>, head: &[u8]) -> Result<RawPoint, BoardEr
     }
 }
 
-/// Puts a spot behind the others.
+/// Puts a raw point behind the others.
 fn gather(raw_points: &mut Vec<RawPoint>, raw_point: RawPoint) -> Result<(), AllocError>
     ensures { OnOk result (raw_points.new.items ≡ raw_points.old.items ++ raw_point ∷ []) }
 {
@@ -60,7 +60,7 @@ fn gather(raw_points: &mut Vec<RawPoint>, raw_point: RawPoint) -> Result<(), All
     Ok(())
 }
 
-/// Takes the spot of a part, if it is `(xy X Y)`. An arc is refused, or passed over where curves may
+/// Takes the raw point of a part, if it is `(xy X Y)`. An arc is refused, or passed over where curves may
 /// stand.
 fn take_raw_point(
     part: Node<'_, '_>,
@@ -82,7 +82,7 @@ fn take_raw_point(
     Ok(())
 }
 
-/// The spots of each `(xy X Y)`, each number at most 10^12 nanometres from 0. An arc is refused, or
+/// The raw points of each `(xy X Y)`, each number at most 10^12 nanometres from 0. An arc is refused, or
 /// passed over where curves may stand.
 pub fn raw_points_in(
     alloc: Global,

@@ -254,7 +254,7 @@ pub(crate) fn draw(
     Ok(Some(Parts::of(list)))
 }
 
-/// The spot by which a report names a figure.
+/// The raw point by which a report names a figure.
 pub(crate) fn first_raw_point(figure: &Figure) -> RawPoint
     requires { HasReach figure.now }
     ensures raw_point { result ≡ first_raw_point figure.now }

@@ -66,7 +66,7 @@ fn layer_role_by(atom: Node<'_, '_>, layer: Option<u32>) -> LayerRole
     LayerRole::Elsewhere
 }
 
-/// The ground that `(layer NAME)` names. A copper layer that the board has not is refused.
+/// The layer role that `(layer NAME)` names. A copper layer that the board has not is refused.
 #[tactic(auto, unfolding(crate::specs::Graphics::layer_role_of))]
 pub fn layer_role_of(copper: LayerSet, node: Node<'_, '_>) -> Result<LayerRole, BoardError>
     ensures lies { result ≡ layer_role_of copper (tree_of node.entry) }

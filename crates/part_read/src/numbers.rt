@@ -10,7 +10,7 @@ use board_items::{BoardError, Nm};
 use exact_dec::{count_of, mm_cut};
 use sexpr_read::Node;
 
-/// A spot in the plane, in nanometres. It may lie off the board.
+/// A raw point in the plane, in nanometres. It may lie off the board.
 #[derive(Clone, Copy, Debug, PartialEq, Eq, Drop)]
 pub struct RawPoint {
     pub x: Nm,
@@ -60,7 +60,7 @@ pub fn number_in(atom: Node<'_, '_>) -> Result<u32, BoardError>
 
 // ---- in elements
 
-/// The spot of `(HEAD X Y)`.
+/// The raw point of `(HEAD X Y)`.
 #[tactic(auto, unfolding(crate::specs::BoardNumbers::raw_point_at))]
 pub(crate) fn raw_point_at(list: Node<'_, '_>) -> Result<RawPoint, BoardError>
     ensures { result ≡ raw_point_at (tree_of list.entry) }
@@ -70,7 +70,7 @@ pub(crate) fn raw_point_at(list: Node<'_, '_>) -> Result<RawPoint, BoardError>
     Ok(RawPoint { x, y })
 }
 
-/// The spot in an element that the list must have.
+/// The raw point in an element that the list must have.
 pub fn raw_point_of(node: Node<'_, '_>, found: Option<Node<'_, '_>>) -> Result<RawPoint, BoardError>
     ensures { result ≡ in_needed raw_point_at (tree_of node.entry) (option_map tree_of found.entry) }
 {

@@ -16,14 +16,14 @@ pub struct Strip {
     pub width: Nm,
 }
 
-/// Whether the spot is at most 500 mm from 0 in x and in y.
+/// Whether the raw point is at most 500 mm from 0 in x and in y.
 pub fn fits_board(raw_point: RawPoint) -> bool
     ensures { result ≡ fits_board raw_point }
 {
     is_near(raw_point.x) && is_near(raw_point.y)
 }
 
-/// The point at a spot, unless it lies off the board.
+/// The point at a raw point, unless it lies off the board.
 pub fn point_at(raw_point: RawPoint) -> Option<Point>
     ensures { result ≡ tested (fits_board raw_point) (point_at raw_point) }
 {
@@ -33,7 +33,7 @@ pub fn point_at(raw_point: RawPoint) -> Option<Point>
     None
 }
 
-/// The point at a spot that lies on the board.
+/// The point at a raw point that lies on the board.
 fn doubled(raw_point: RawPoint) -> Point
     requires { fits_board raw_point ≡ true }
     ensures x { result.x ≡ pos 2 *ℤ raw_point.x }

@@ -16,7 +16,7 @@ pub struct Placement {
     pub at: RawPoint,
 }
 
-/// Where a spot of something that stands so is on the board, or off it: turned first, and then
+/// Where a raw point of something that stands so is on the board, or off it: turned first, and then
 /// moved.
 pub fn stand(placement: Placement, raw_point: RawPoint) -> RawPoint
     requires quarter { placement.quarter < 4 }
@@ -33,7 +33,7 @@ pub fn stand(placement: Placement, raw_point: RawPoint) -> RawPoint
     }
 }
 
-/// The point at a spot of something that stands so, unless it lies off the board.
+/// The point at a raw point of something that stands so, unless it lies off the board.
 pub(crate) fn point_stood(placement: Placement, raw_point: RawPoint) -> Option<Point>
     requires quarter { placement.quarter < 4 }
     requires at { IsPlacementRawPoint placement.at }
@@ -43,7 +43,7 @@ pub(crate) fn point_stood(placement: Placement, raw_point: RawPoint) -> Option<P
     point_at(stand(placement, raw_point))
 }
 
-/// The points at all spots of something that stands so, unless one lies off the board.
+/// The points at all raw points of something that stands so, unless one lies off the board.
 pub fn points_stood(
     alloc: Global,
     placement: Placement,

@@ -33,7 +33,7 @@ use Rattle.pcb_read.proofs.Nearness.{Near, ShortIf, step, by_test, near_needed, 
 in_atom_or : {A : Type 0} → (otherwise : A) (read : Tree → Result A BoardError) (found : Option Tree) → ShortIf found → ((a : Tree) → IsShort a → Near (read a)) → Near (atom_or otherwise read found)
 in_atom_or otherwise read found k f = in_or otherwise _ found k (λ a h. by_test (is_list a) (Ok otherwise) (read a) tt (f a h))
 
--- ---- postures and clearances
+-- ---- placements and clearances
 
 near_angle : (o : Option Tree) → ShortIf o → Near (angle_by o)
 near_angle o h = in_atom_or (pos 0) length_in o h near_length

@@ -29,7 +29,7 @@ in_capacity board unit tree answer = do
   capacity ← check (TooMany (place tree)) (has_capacity board unit items)
   Ok items
 
--- what is said by the ground on which a list lies
+-- what is said by the layer role on which a list lies
 abbrev pub on_ground : PlainBoard → Tree → (LayerRole → Result (List Item) BoardError) → Result (List Item) BoardError
 on_ground board tree given = layer_role_of board.copper tree >>= given
 

@@ -143,7 +143,7 @@ fn further(error: BoardError, by: u32) -> BoardError
 /// The text stands at `at` in a longer one, in which places are counted. Both have at most 33,554,432 bytes. The reasons are
 /// those of [`BoardError`], exactly where the text of a list (`specs/ItemText`) has them: what is no form, or not one list
 /// alone, is refused as `Text`, a list whose head is that of no item as `NotABoard`, and `TooMany` comes also where the unit is
-/// 4,294,967,295 and there is an item. Want of memory alone is free.
+/// 4,294,967,295 and there is an item. Running out of memory alone is free.
 pub fn read_item(
     alloc: Global,
     text: &[u8],

@@ -32,7 +32,7 @@ fn add_item(board: &mut Board, item: Item) -> Result<(), BoardError>
 }
 
 /// Appends the items of a unit in order. They are items that the board takes, one after another, as the readers give them.
-/// Want of memory is the one refusal; the board then has the first of them, or none, behind the items that it had, and is
+/// Running out of memory is the one refusal; the board then has the first of them, or none, behind the items that it had, and is
 /// else as it was.
 pub fn add_items(board: &mut Board, unit: u32, items: Vec<Item>) -> Result<(), BoardError>
     requires { AreReady board.old unit items.items }

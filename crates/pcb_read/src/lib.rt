@@ -41,7 +41,7 @@ use std::thread::Threads;
 ///
 /// All nets and copper layers that the text lists are kept, and the items of its tracks, vias, graphics, texts, dimensions,
 /// zones and footprints (`specs/ItemsOf`); lists with other heads are passed over. The reasons are those of [`BoardError`],
-/// exactly where the board of a tree (`specs/BoardOf`) has them; want of memory alone is free.
+/// exactly where the board of a tree (`specs/BoardOf`) has them; running out of memory alone is free.
 pub fn read_board(alloc: Global, text: &[u8]) -> Result<Board, BoardError>
     requires { IsReadable text.now }
     ensures says { MatchResult result (λ board. BoardSays text.now (Ok board))

@@ -161,7 +161,7 @@ fn by_chains(alloc: Global, anchors: &[Anchor]) -> Result<Vec<Link>, AllocError>
 }
 
 /// Whether these are the links of the nest of the anchors, whoever made them: false exactly where they are not. Anchors rise by
-/// id and number; nothing is asked of the nest. Only want of memory refuses it.
+/// id and number; nothing is asked of the nest. Only running out of memory refuses it.
 ///
 /// It makes all links of the anchors, so it takes the square of their number in memory.
 pub fn check_nest(alloc: Global, anchors: &[Anchor], nest: &Nest) -> Result<bool, AllocError>

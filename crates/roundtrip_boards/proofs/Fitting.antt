@@ -68,7 +68,7 @@ list_fits draft before after i a u = by_unit (nat_eq before.board.next_unit afte
     by_unit false true = (tt, tt)
     by_unit false false = disposition_fits (shift_of_unit draft before.board.next_unit) i a u
 
--- the fates of all lists
+-- the dispositions of all lists
 pub dispositions_fit : (draft : Draft) (f : Forest) (a : Reading) (dispositions : List Disposition) → DispositionsAre draft a (trees f) dispositions → AreAtoms f → AreUtf8 f → AreFit dispositions f × BecomeUtf8 dispositions f
 dispositions_fit draft none a dispositions h atoms texts = (tt, tt)
 dispositions_fit draft (atom s q c others) a dispositions (next, more, says, rest, are) atoms texts =

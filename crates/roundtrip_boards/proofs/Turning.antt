@@ -42,7 +42,7 @@ said_by board unit at text list items (Ok its) answer is says same k =
     let equal : its ≡ items = cc in
     said_after board unit text list items (refusal_of_all text) is (subst (λ (l : List Item). SaysText board unit text (Ok l)) equal says)
 
--- ---- a name stands for the unit of a deed
+-- ---- a name stands for the unit of an operation
 
 taken_named : (found : Found) (unit : ℕ) → Ok (take_out unit) ≡ to_unit found (λ u. Ok (take_out u)) → found ≡ OneUnit unit
 taken_named NoUnit unit e = absurd cc

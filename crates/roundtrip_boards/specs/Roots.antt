@@ -30,8 +30,8 @@ abbrev pub total : List (List Item) → ℕ
 total [] = 0
 total (items ∷ others) = length items + total others
 
--- what is known of the items of lists of a board that is alike: `Carries sort t u items cs` says that the list t of this sort gives the
--- items, and the list u those that they have become
+-- what is known of the items of lists of a board that is equal up to translation: `Carries sort t u items cs` says that the list t of this
+-- sort gives the items, and the list u those that they have become
 module _ (Carries : Sort → Tree → Tree → List Item → List Item → Type 0) where
   -- the parts of the one board, from what was read before to what is read then, and the parts of the other, with the items of its units
   pub data Goes : Reading → List Tree → Reading → List Tree → List (List Item) → Type 0 where

@@ -32,7 +32,7 @@ IsListOf (move name dx dy at) list = ⊥
 IsListOf (rules text at) list = ⊥
 IsListOf (again at) list = ⊥
 
--- what the deed of a command changes
+-- what the operation of a command changes
 abbrev pub IsChangeBy : PlainCommand → PlainOperation → Change → Type 0
 IsChangeBy command nothing change = change ≡ unchanged
 IsChangeBy command (append items) change = (list : Tree) × IsListOf command list × (change ≡ appends list items)

@@ -91,7 +91,7 @@ abbrev pub unit_disposition : Draft → Forest → Option ℕ → Disposition
 unit_disposition draft inside None = stays
 unit_disposition draft inside (Some unit) = if is_gone draft unit then leaves else disposition_by (shift_of_unit draft unit) inside
 
--- the fates of the lists of the root, in order: of one that took a unit number, what became of that unit
+-- the dispositions of the lists of the root, in order: of one that took a unit number, what became of that unit
 abbrev pub list_disposition : Draft → Reading → Reading → Forest → Disposition
 list_disposition draft before after inside =
     if before.board.next_unit == after.board.next_unit then stays else unit_disposition draft inside (Some before.board.next_unit)

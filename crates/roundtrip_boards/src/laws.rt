@@ -20,7 +20,7 @@ pub fn changes()
         → AreChanges commands answers changes → ChangeAll board changes last }
 {}
 
-/// The fates of a board's lists fit them, and the version, which stands first, stays.
+/// The dispositions of a board's lists fit them, and the version, which stands first, stays.
 pub fn dispositions()
     ensures fit { (draft : Draft) (f : Forest) (a : Reading) (dispositions : List Disposition)
         → DispositionsAre draft a (trees f) dispositions → AreAtoms f → AreUtf8 f

@@ -61,7 +61,7 @@ all_atoms (a ∷ more) h = (h.0.0, all_atoms more h.1)
 
 module _ (text : List ℕ) (s h : Span) (q : Bool) (c : List ℕ) (others : Forest) (draft : Draft) (dispositions : List Disposition)
     (accepted : header_in (branch s (atom h q c others)) ≡ Ok tt) (are : DispositionsAre draft unread (trees (atom h q c others)) dispositions) where
-  -- the head is no list, so it has no fate
+  -- the head is no list, so it has no disposition
   after_head : (next : Reading) × DispositionsAre draft next (trees others) dispositions
   after_head = by_head are
     where

@@ -1,4 +1,4 @@
--- Lists of footprints, as they are written anew.
+-- Lists of footprints, as they are rewritten.
 use Rattle.std.proofs.Common.{◌≡◌, ◌∙◌, refl, sym, ap, subst, ℕ, ◌<◌, ◌≤◌, arith, Bool, true, false, cond, leb, ltb, List, [], ◌∷◌, length, codes, Option, None, Some, Ok, inl, inr}
 use Rattle.std.specs.List.{AllZip}
 use Rattle.std.proofs.lemmas.Bool.{leb-true, ltb-true, and_parts}

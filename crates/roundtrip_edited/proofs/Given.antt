@@ -1,4 +1,4 @@
--- Elements that may be missing, words, and layers that stand in alike lists are the same.
+-- Elements that may be missing, words, and layers that stand in lists equal up to translation are the same.
 use Rattle.std.proofs.Common.{◌≡◌, ◌∙◌, refl, sym, ap, ℕ, Bool, true, false, ◌||◌, List, Option, None, Some, Result, Ok}
 use Rattle.std.specs.List.{list_any}
 use Rattle.sexpr_read.specs.declared.place.Span.{Span}

@@ -1,4 +1,4 @@
--- Lists of units, as they are written anew.
+-- Lists of units, as they are rewritten.
 use Rattle.std.proofs.Common.{◌≡◌, ◌∙◌, refl, sym, ap, subst, ℕ, suc, Bool, true, false, cond, List, [], ◌∷◌, map, length, codes, Option, None, Some, Ok}
 use Rattle.std.specs.Prelude.{nat_le, nat_lt, ◌&&◌}
 use Rattle.std.specs.List.{AllZip}

@@ -1,4 +1,4 @@
--- A track's list that is alike gives the track, carried.
+-- A track's list that is equal up to translation gives the track, carried.
 use Rattle.std.proofs.Common.{◌≡◌, ◌∙◌, refl, sym, ap, subst, ℕ, ℤ, pos, ◌+ℤ◌, ◌*ℤ◌, true, ◌&&◌, List, [], ◌∷◌, Option, None, Some, Ok, codes, arith}
 use Rattle.std.proofs.lemmas.Int.{ints}
 use Rattle.int_algebra.proofs.Tested.{front, back}

@@ -1,4 +1,4 @@
--- What lists give in a board that is alike, where it has room.
+-- What lists give in a board that is equal up to translation, where it has room.
 use Rattle.std.proofs.Common.{◌≡◌, ◌∙◌, sym, ap, subst, ℕ, ℤ, Bool, true, false, List, Option, Result, Ok, Err}
 use Rattle.std.specs.List.{AllZip}
 use Rattle.sexpr_read.specs.declared.place.Span.{Span}

@@ -1,4 +1,4 @@
--- A via's list that is alike gives the via, carried.
+-- A via's list that is equal up to translation gives the via, carried.
 use Rattle.std.proofs.Common.{◌≡◌, ◌∙◌, refl, sym, ap, subst, ℕ, ℤ, pos, ◌+ℤ◌, ◌*ℤ◌, Bool, true, List, [], ◌∷◌, Option, None, Some, Ok, codes}
 use Rattle.std.specs.Prelude.{unwrap_or}
 use Rattle.int_algebra.proofs.Tested.{front, back}

@@ -1,4 +1,4 @@
--- A zone's list that is alike gives the same area or fills, carried, where the board has room.
+-- A zone's list that is equal up to translation gives the same area or fills, carried, where the board has room.
 use Rattle.std.proofs.Common.{◌≡◌, ◌∙◌, refl, sym, ap, subst, ℕ, suc, ◌+◌, ◌<◌, ◌≤◌, arith, ℤ, pos, ◌+ℤ◌, ◌*ℤ◌, Bool, true, false, cond, List, [], ◌∷◌, length, codes, Option, None, Some, option_map, Result, Ok, Err}
 use Rattle.std.specs.Prelude.{nat_lt, unwrap_or, MatchBool}
 use Rattle.std.specs.List.{AllZip}
@@ -108,7 +108,7 @@ bans_translated d t u h =
 
 -- ---- polygons
 
--- the corners in a list whose parts are alike
+-- the corners in a list whose parts are equal up to translation
 pub corners_in_parts : (d : Option Shift) (t u : Tree) → TranslatedParts d t u → Agrees (AreCorners d) (corners_of t) (corners_of u)
 corners_in_parts d t u h = by_found (element (codes "pts") t) (element (codes "pts") u) (element_in d (codes "pts") t u h)
   where

@@ -1,4 +1,4 @@
--- The list of a unit, as it is written anew, and the items that the unit has become.
+-- The list of a unit, as it is rewritten, and the items that the unit has become.
 use Rattle.std.specs.Prelude.{◌≡◌, List, Option, Some}
 use Rattle.std.specs.List.{AllZip}
 use Rattle.sexpr_read.specs.declared.place.Span.{Span}

@@ -1,4 +1,4 @@
--- What a list gives on one board, and a list that is alike on another.
+-- What a list gives on one board, and a list that is equal up to translation on another.
 use Rattle.std.specs.Prelude.{◌≡◌, ℕ, true, List, Ok}
 use Rattle.std.specs.List.{AllZip}
 use Rattle.sexpr_read.specs.Tree.{Tree}

@@ -22,7 +22,7 @@ ghost use Rattle.roundtrip_boards.specs.Reads.{IsUnit};
 ghost use Rattle.roundtrip_boards.specs.SameBoards.{IsReadBack};
 ghost use Rattle.roundtrip_edited.specs.Carries.{Carries};
 
-/// A list is of the same sort when it is written anew, and parts that give no items leave those of the board. Read on boards with the
+/// A list is of the same sort when it is rewritten, and parts that give no items leave those of the board. Read on boards with the
 /// same layers and nets, they leave those the same.
 pub fn parts()
     ensures plain { (t u : Tree) → TranslatedTrees None t u → sort_of t ≡ sort_of u }
@@ -44,7 +44,7 @@ pub fn header()
         → insides kept ≡ i ∷ others → header_in (branch p forest) ≡ Ok tt }
 {}
 
-/// The list of a unit, written anew, carries the items that the unit has become, and gives them where the board has room, whatever it
+/// The list of a unit, rewritten, carries the items that the unit has become, and gives them where the board has room, whatever it
 /// is but a footprint. A unit takes one number.
 pub fn lists()
     ensures carries { (sort : Sort) (s r : Span) (i j : Forest) (o : Option Shift) (e : Entry)
@@ -63,7 +63,7 @@ pub fn lists()
         → next.board.next_unit ≡ suc a.board.next_unit }
 {}
 
-/// The list of a footprint, written anew, carries the items that the unit has become, and gives them where the board has room. A unit
+/// The list of a footprint, rewritten, carries the items that the unit has become, and gives them where the board has room. A unit
 /// takes one number.
 pub fn footprints()
     ensures carried { (board other : PlainBoard) (unit own : ℕ) (t u : Tree) (items now : List Item)

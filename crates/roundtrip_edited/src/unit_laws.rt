@@ -18,7 +18,7 @@ ghost use Rattle.roundtrip_boards.specs.Roots.{SameLayersAndNets};
 ghost use Rattle.roundtrip_edited.specs.Footprints.{is_footprint};
 ghost use Rattle.roundtrip_edited.specs.ListResults.{GivesCarried, GivesInCapacity};
 
-/// A track's or a via's list that is alike gives the track or the via, carried.
+/// A track's or a via's list that is equal up to translation gives the track or the via, carried.
 pub fn tracks()
     ensures tracks { (d : Option Shift) (board other : PlainBoard) → SameLayersAndNames board other
         → (unit own : ℕ) (i j : Forest) (s r : Span) → Translated d i j
@@ -30,8 +30,8 @@ pub fn tracks()
         (via_of other own (branch r j)) }
 {}
 
-/// The list of a graphic, a curve or a text that is alike gives the same items, carried, on a board with the same layers and nets and
-/// room for the items.
+/// The list of a graphic, a curve or a text that is equal up to translation gives the same items, carried, on a board with the same layers
+/// and nets and room for the items.
 pub fn graphics()
     ensures graphics { (o : Option Shift) (board other : PlainBoard) (unit own : ℕ) (i j : Forest)
         (s r : Span) → SameLayersAndNets board other → Translated o i j → (kind : GraphicKind)
@@ -44,7 +44,7 @@ pub fn graphics()
         → GivesInCapacity (shift_of o) (Text about) board other unit own (branch s i) (branch r j) }
 {}
 
-/// The list of a zone that is alike gives the same items, carried, where there is room.
+/// The list of a zone that is equal up to translation gives the same items, carried, where there is room.
 pub fn zones()
     ensures { (o : Option Shift) (board other : PlainBoard) (unit own : ℕ) (i j : Forest)
         (s r : Span) → SameLayersAndNames board other → Translated o i j

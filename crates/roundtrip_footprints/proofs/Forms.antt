@@ -193,7 +193,7 @@ primitives_plain t u h =
 
 -- ---- forms
 
--- the same cushion, and primitives that are read again
+-- the same rounded rectangle, and primitives that are read again
 pub record FormAgain (f g : Form) : Type 0 where
   pub rounded_rect : g.rounded_rect ≡ f.rounded_rect
   pub primitives : AreRead f.primitives g.primitives

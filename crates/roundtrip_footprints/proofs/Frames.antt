@@ -27,7 +27,7 @@ use Rattle.roundtrip_lists.proofs.Numbers.{size_in_translated}
 use Rattle.roundtrip_lists.proofs.Steps.{agrees_check, element_in, same_bind, needed_same}
 use Rattle.roundtrip_footprints.proofs.Parts.{PlainParts, inside, PartsFound, part_found, atom_step, needed_step, given_step, raw_point_plain, length_plain, atom_or_plain}
 
--- ---- postures and clearances
+-- ---- placements and clearances
 
 pub angle_plain : (o p : Option Tree) → PartsFound o p → Agrees Same (angle_by o) (angle_by p)
 angle_plain o p h = atom_or_plain Same (pos 0) length_in length_in o p h refl length_plain

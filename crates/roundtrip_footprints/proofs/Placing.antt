@@ -57,7 +57,7 @@ point_again a b s t p q some h ex ey =
     let near_y : is_near_half t.y ≡ true = le-leb (unsigned_abs t.y) 1000000000 (subst (λ (z : ℤ). unsigned_abs z ≤ 1000000000) y q.y_in_range) in
     sym (is_tested (fits_half t) (half_point_at t) q (λ fits. one_point q (half_point_at t fits) x y) (two_pass (is_near_half t.x) (is_near_half t.y) near_x near_y))
 
--- ---- cushions
+-- ---- rounded rectangles
 
 first_core : {a b : Core} → a ∷ [] ≡ b ∷ [] → a ≡ b
 first_core h = cc

@@ -1,4 +1,4 @@
--- Where a footprint is, written anew.
+-- Where a footprint is, rewritten.
 use Rattle.std.proofs.Common.{◌≡◌, ◌∙◌, refl, sym, ap, subst, ℕ, ℤ, pos, ◌+ℤ◌, Bool, true, false, List, codes, Option, None, Some, Result, Ok, Err, inl, inr, arith}
 use Rattle.std.specs.Prelude.{slice_get}
 use Rattle.std.proofs.lemmas.Int.{ints}
@@ -67,7 +67,7 @@ module _ (d : Shift) where
       agrees_bind (IsMovedRawPoint (Some d)) (LocalPlacementMoved d) (raw_point_at (branch s i)) (raw_point_at (branch r j)) _ _ raw_points (λ p q k.
       same_bind (LocalPlacementMoved d) (angle_by (slice_get (trees i) 3)) (angle_by (slice_get (trees j) 3)) _ _ angles (λ a. (k, refl)))
 
-  -- a place that is written anew says so moved
+  -- a place that is rewritten says so moved
   pub written_place : (inside within : Forest) → first_is (trees inside) (codes "at") ≡ true → SameTrees (put_if (place_moved d inside) inside) within → IsPlaceAgain d inside within
   written_place inside within first same = by_place (place_moved d inside) refl same
     where

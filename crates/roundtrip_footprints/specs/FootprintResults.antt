@@ -1,4 +1,4 @@
--- What a footprint's list gives on one board, and a list that is alike on another.
+-- What a footprint's list gives on one board, and a list that is equal up to translation on another.
 use Rattle.std.specs.Prelude.{◌<◌, ◌≤◌, ℕ, List, length, Ok}
 use Rattle.std.specs.List.{AllZip}
 use Rattle.sexpr_read.specs.Tree.{Tree}

@@ -25,7 +25,7 @@ pub fn footprints()
         → FootprintSays board unit tree (Ok items) → ItemsOf unit items }
 {}
 
-/// A place that is written anew is that place, moved, and lists that are the same but for spans are moved by nothing.
+/// A place that is rewritten is that place, moved, and lists that are the same but for spans are moved by nothing.
 pub fn places()
     ensures moved { (d : Shift) (i j : Forest) → first_is (trees i) (codes "at") ≡ true
         → SameTrees (put_if (place_moved d i) i) j → IsPlaceAgain d i j }

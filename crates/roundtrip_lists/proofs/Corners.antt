@@ -1,4 +1,4 @@
--- The corners of alike lists are moved.
+-- The corners of lists equal up to translation are moved.
 use Rattle.std.proofs.Common.{◌≡◌, refl, sym, ap, subst, suc, Bool, true, false, not, ◌&&◌, cond, List, [], ◌∷◌, length, codes, Option, Result, Ok, Err}
 use Rattle.std.specs.Prelude.{nat_le}
 use Rattle.std.specs.List.{AllZip}

@@ -1,4 +1,4 @@
--- The drawings of alike lists.
+-- The drawings of lists equal up to translation.
 use Rattle.std.proofs.Common.{◌≡◌, ◌∙◌, refl, ap, ℤ, Bool, true, false, codes, Option}
 use Rattle.sexpr_read.specs.declared.place.Span.{Span}
 use Rattle.sexpr_read.specs.Tree.{Forest, Tree, branch}

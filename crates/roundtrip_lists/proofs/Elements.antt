@@ -1,4 +1,4 @@
--- The elements of alike lists are alike.
+-- The elements of lists equal up to translation are equal up to translation.
 use Rattle.std.proofs.Common.{◌≡◌, ◌∙◌, refl, sym, ap, subst, ℕ, zero, suc, Bool, true, false, List, Option, None, Some, Result, Ok, Err, inl, inr, find, cond}
 use Rattle.std.specs.Prelude.{slice_get}
 use Rattle.std.proofs.lemmas.Slice.Eq.{bytes_eq-Decides}
@@ -112,7 +112,7 @@ given_or_translated S d test x y f g None (Some u) h same law = absurd h
 given_or_translated S d test x y f g (Some t) None h same law = absurd h
 given_or_translated S d test x y f g (Some t) (Some u) h same law = law t u h.0 h.1
 
--- ---- what stands in lists that are alike, but for lists with a place
+-- ---- what stands in lists that are equal up to translation, but for lists with a place
 
 pub word_of : (v : Option (List ℕ)) (word : List ℕ) → is_value v word ≡ true → is_place_head v ≡ is_place_word word
 word_of None word h = absurd cc

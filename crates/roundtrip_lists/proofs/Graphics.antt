@@ -1,4 +1,4 @@
--- Graphics and texts of alike lists: the items that they give are carried.
+-- Graphics and texts of lists equal up to translation: the items that they give are carried.
 use Rattle.std.proofs.Common.{◌≡◌, ◌∙◌, refl, sym, ap, subst, ℕ, ℤ, pos, ◌+ℤ◌, ◌*ℤ◌, ◌≤ℤ◌, Bool, true, false, not, ◌||◌, cond, List, [], ◌∷◌, codes, Option, None, Some, Result, Ok, Err}
 use Rattle.std.specs.Prelude.{int_le, MatchBool, unwrap_or}
 use Rattle.std.specs.List.{AllZip}

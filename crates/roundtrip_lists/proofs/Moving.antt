@@ -1,4 +1,4 @@
--- What is moved is alike, and may be written.
+-- What is moved is equal up to translation, and may be written.
 use Rattle.std.proofs.Common.{◌≡◌, ◌∙◌, refl, sym, ap, subst, ℕ, ◌≤◌, ℤ, ◌+ℤ◌, unsigned_abs, Bool, true, false, List, Option, None, Some, Result, Ok, Err, inl, inr}
 use Rattle.std.proofs.lemmas.Bool.{ltb-false}
 use Rattle.exact_dec.specs.declared.DecError.{DecError}
@@ -54,9 +54,9 @@ if_some false o n h = absurd cc
 no_numbers : (b : Bool) (n : ℤ × ℤ) → if_place b None ≡ Some n → ⊥
 no_numbers b n h = let k = (if_some b None n h).1 in cc
 
--- ---- places that are moved are alike
+-- ---- places that are moved are equal up to translation
 
--- a place with its numbers written anew
+-- a place with its numbers rewritten
 numbers_put : (d : Shift) (s t u : Span) (q r p : Bool) (c x y : List ℕ) (others rest : Forest) (n : ℤ × ℤ) → place_moved d (atom s q c (atom t r x (atom u p y others))) ≡ Some n
     → IsPlaceMoved d (atom s q c (atom t r x (atom u p y others))) (atom s q c (atom t r (mm_text n.0) (atom u p (mm_text n.1) rest)))
 numbers_put d s t u q r p c x y others rest n h =
@@ -96,7 +96,7 @@ place_translated d (atom s q c (atom t r x none)) n h = absurd (no_numbers (is_p
 place_translated d (atom s q c (atom t r x (list u inside others))) n h = absurd (no_numbers (is_place_head (value (leaf s q c))) n h)
 place_translated d (atom s q c (atom t r x (atom u p y others))) n h = numbers_put d s t u q r p c x y others (moved d others) n h
 
--- only the numbers are written anew
+-- only the numbers are rewritten
 pub place_put : (d : Shift) (i : Forest) (n : ℤ × ℤ) → place_moved d i ≡ Some n → IsPlaceMoved d i (put_numbers n i)
 place_put d none n h = absurd cc
 place_put d (list s inside others) n h = absurd cc
@@ -183,7 +183,7 @@ moved_utf8 d none h = tt
 moved_utf8 d (atom s q c others) h = (h.0, moved_utf8 d others h.1)
 moved_utf8 d (list s inside others) h = (inside_utf8 d inside (place_moved d inside) refl (moved_utf8 d inside h.0), moved_utf8 d others h.1)
 
--- ---- and what is the same but for spans is alike too
+-- ---- and what is the same but for spans is equal up to translation too
 
 pub moved_same : (d : Shift) (i g h : Forest) → IsPlaceMoved d i g → SameTrees g h → IsPlaceMoved d i h
 moved_same d i g h p same = by_shape h (subst (λ (x : Forest). SameTrees x h) p.is same)

@@ -1,4 +1,4 @@
--- Layers that are named in alike lists are the same.
+-- Layers that are named in lists equal up to translation are the same.
 use Rattle.std.proofs.Common.{◌∙◌, refl, sym, ap, subst, Bool, true, false, cond, List, [], ◌∷◌, ◌++◌, codes, Option, Result, Ok}
 use Rattle.sexpr_read.specs.declared.place.Span.{Span}
 use Rattle.sexpr_read.specs.Tree.{Forest, none, atom, list, Tree, leaf, branch, trees, parts}

@@ -1,4 +1,4 @@
--- The spots of alike lists with a place: moved, unless they would go too far.
+-- The spots of lists equal up to translation with a place: moved, unless they would go too far.
 use Rattle.std.proofs.Common.{◌≡◌, ◌∙◌, refl, sym, ap, subst, ℕ, ℤ, ◌+ℤ◌, Bool, true, false, List, Option, None, Some, Result, Ok, Err, ◌⊎◌, inl, inr}
 use Rattle.exact_dec.specs.declared.DecError.{DecError}
 use Rattle.exact_dec.specs.Computed.{mm_cut_answer}

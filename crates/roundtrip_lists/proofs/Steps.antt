@@ -50,7 +50,7 @@ pub needed_same : {A : Type 0} (d e : BoardError) (o p : Option A) → p ≡ o �
 needed_same d e None p h = tt
 needed_same d e (Some x) p h = subst (λ (z : _). Agrees Same (let r : Result _ BoardError = Ok x in r) (needed e z)) (sym h) refl
 
--- ---- elements of lists whose parts are alike
+-- ---- elements of lists whose parts are equal up to translation
 
 pub parts_are : (t : Tree) → parts t ≡ trees (forest_in t)
 parts_are (leaf s q c) = refl

@@ -1,4 +1,4 @@
--- Widths and fills of alike lists are the same.
+-- Widths and fills of lists equal up to translation are the same.
 use Rattle.std.proofs.Common.{◌≡◌, ◌∙◌, refl, sym, ap, subst, ℕ, ℤ, pos, Bool, true, false, ◌||◌, cond, List, codes, Option, None, Some, Result, Ok, Err}
 use Rattle.std.specs.Prelude.{int_le}
 use Rattle.std.specs.Option.{option_or}

@@ -38,10 +38,10 @@ abbrev pub forest_in : Tree → Forest
 forest_in (leaf s q c) = none
 forest_in (branch s inside) = inside
 
--- what stands in the two lists is alike
+-- what stands in the two lists is equal up to translation
 abbrev pub TranslatedParts : Option Shift → Tree → Tree → Type 0
 TranslatedParts d t u = Translated d (forest_in t) (forest_in u)
 
--- found by this test in both, and alike
+-- found by this test in both, and equal up to translation
 abbrev pub FoundTranslated : Option Shift → (Tree → Bool) → Option Tree → Option Tree → Type 0
 FoundTranslated d test found other = OptionsAgree (λ t u. TranslatedTrees d t u × (test t ≡ true)) found other

@@ -1,4 +1,4 @@
--- Drawings that are read of lists that are alike.
+-- Drawings that are read of lists that are equal up to translation.
 use Rattle.std.specs.Prelude.{◌≡◌, ℤ, pos, int_le, nat_le, true, length, List, Option}
 use Rattle.std.specs.List.{AllZip}
 use Rattle.part_read.specs.declared.numbers.RawPoint.{RawPoint}

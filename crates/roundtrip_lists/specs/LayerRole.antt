@@ -1,4 +1,4 @@
--- Two boards on which lists that are alike give the same.
+-- Two boards on which lists that are equal up to translation give the same.
 use Rattle.std.specs.Prelude.{◌≡◌, ℕ}
 use Rattle.board_items.specs.Boards.{PlainBoard, name_of}
 

@@ -1,4 +1,4 @@
--- The lists of a unit that is moved, with their places written anew.
+-- The lists of a unit that is moved, with their places rewritten.
 use Rattle.std.specs.Prelude.{ℤ, Option, None, Some}
 use Rattle.exact_dec.specs.MillimetreText.{mm_text}
 use Rattle.sexpr_read.specs.Tree.{Forest, none, atom, list}

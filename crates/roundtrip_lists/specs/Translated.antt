@@ -1,4 +1,4 @@
--- Trees that are alike: the same but for their spans, and for the places in them, which may be moved.
+-- Trees that are equal up to translation: the same but for their spans, and for the places in them, which may be moved.
 use Rattle.std.specs.Prelude.{◌≡◌, ◌⊎◌, ℕ, ℤ, ◌+ℤ◌, Bool, true, false, List, [], ◌∷◌, codes, bytes_eq, Option, None, Some, Result, Ok, Err, ⊤}
 use Rattle.std.specs.List.{list_any}
 use Rattle.exact_dec.specs.declared.DecError.{DecError}

@@ -30,7 +30,8 @@ ghost use Rattle.roundtrip_lists.specs.Carried.{IsCarried};
 ghost use Rattle.roundtrip_lists.specs.Moved.{IsMovedRawPoint};
 ghost use Rattle.roundtrip_lists.specs.Moving.{moved};
 
-/// What is moved is alike, may be written, and is alike whatever its spans are. What is not is alike itself.
+/// What is moved is equal up to translation, may be written, and is equal up to translation whatever its spans are. What is not is equal up
+/// to translation itself.
 pub fn moving()
     ensures translated { (d : Shift) (f : Forest) → Translated (Some d) f (moved d f) }
     ensures written { (d : Shift) (f : Forest) → AreAtoms f → IsRespelled f (moved d f) }
@@ -39,7 +40,7 @@ pub fn moving()
     ensures itself { (f : Forest) → Translated None f f }
 {}
 
-/// The elements of alike lists are alike, and have the same heads.
+/// The elements of lists equal up to translation are equal up to translation, and have the same heads.
 pub fn elements()
     ensures heads { (d : Option Shift) (t u : Tree) (word : List ℕ) → TranslatedTrees d t u
         → has_head word t ≡ has_head word u }
@@ -47,7 +48,7 @@ pub fn elements()
         → FoundTranslated d (has_head word) (element word (branch s f)) (element word (branch t g)) }
 {}
 
-/// Sizes, names, layers and nets of alike lists are the same, where the first list has them; spots are moved.
+/// Sizes, names, layers and nets of lists equal up to translation are the same, where the first list has them; spots are moved.
 pub fn numbers()
     ensures raw_points { (d : Option Shift) (word : List ℕ) → is_place_word word ≡ true
         → (i j : Forest) (s r : Span) → Translated d i j

@@ -1,4 +1,4 @@
--- A text of which lists are left out or written anew still spells the others, in order. Words that come to stand side by side become one.
+-- A text of which lists are left out or rewritten still spells the others, in order. Words that come to stand side by side become one.
 use Rattle.std.proofs.Common.{◌≡◌, ◌∙◌, refl, sym, ap, subst, ℕ, suc, ◌+◌, ◌-◌, ◌<◌, ◌≤◌, arith, Bool, true, false, List, [], ◌∷◌, ◌++◌, length, append_assoc}
 use Rattle.std.specs.Prelude.{slice_range}
 use Rattle.sexpr_read.specs.declared.place.Span.{Span}

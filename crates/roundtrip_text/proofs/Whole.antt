@@ -1,4 +1,4 @@
--- The whole text of one list, of which parts are left out, written anew, and added.
+-- The whole text of one list, of which parts are left out, rewritten, and added.
 use Rattle.std.proofs.Common.{◌≡◌, ◌∙◌, refl, sym, ap, subst, ℕ, suc, max, ◌+◌, ◌-◌, ◌<◌, ◌≤◌, arith, Bool, true, false, List, [], ◌∷◌, ◌++◌, length, take, append_assoc, append-nil, IsUtf8}
 use Rattle.std.specs.Prelude.{slice_range}
 use Rattle.std.proofs.Common.{take_all}

@@ -1,4 +1,4 @@
--- What is written anew spells the trees that it was written from.
+-- What is rewritten spells the trees that it was written from.
 use Rattle.std.proofs.Common.{◌≡◌, ◌∙◌, refl, sym, ap, subst, ℕ, suc, ◌+◌, ◌-◌, ◌<◌, ◌≤◌, arith, Bool, true, false, List, [], ◌∷◌, ◌++◌, length}
 use Rattle.std.specs.Prelude.{slice_range}
 use Rattle.sexpr_read.specs.declared.place.Span.{Span}
@@ -77,7 +77,7 @@ module _ (t : List ℕ) where
   follows_text_rewritten false s c others rest to h o a k r = text_rewritten_apart others rest s.end to h k r (apart_after t s.end to o h a.0.longest)
   follows_text_rewritten true s c others rest to h o a k r = tt
 
-  -- what is written anew spells these trees
+  -- what is rewritten spells these trees
   pub text_rewritten_writes : (f g : Forest) (from to : ℕ) → to ≤ length t → SpellsForest (sign_of t) t from to f → IsRespelled f g → WritesForest (text_rewritten t from to g) g
   text_rewritten_writes none none from to h k r = cut_gap t from to h k
   text_rewritten_writes none (atom u p d rest) from to h k r = absurd r

@@ -20,7 +20,7 @@ pub record Root (text : List ℕ) : Type 0 where
 abbrev pub inside_root : {text : List ℕ} → Root text → Forest
 inside_root root = atom root.head_span root.quoted root.head root.others
 
--- the fates are ones of what follows a head, of which the first tree is still there
+-- the dispositions are ones of what follows a head, of which the first tree is still there
 pub record FitBehindHead (dispositions : List Disposition) (others : Forest) : Type 0 where
   pub fit : AreFit dispositions others
   pub first : FirstIsThere dispositions others

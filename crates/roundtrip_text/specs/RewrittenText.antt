@@ -1,4 +1,4 @@
--- Texts that are written anew from their trees.
+-- Texts that are rewritten from their trees.
 use Rattle.std.specs.Prelude.{◌≡◌, ℕ, suc, ◌+◌, ◌-◌, Bool, true, false, List, [], ◌∷◌, ◌++◌, ⊤, slice_range, length, max}
 use Rattle.sexpr_read.specs.declared.place.Span.{Span}
 use Rattle.sexpr_read.specs.Tree.{Forest, none, atom, list, levels_in}
@@ -25,7 +25,7 @@ IsRespelled (list s inside others) none = ⊥
 IsRespelled (list s inside others) (atom t r d rest) = ⊥
 IsRespelled (list s inside others) (list t within rest) = (s ≡ t) × IsRespelled inside within × IsRespelled others rest
 
--- ---- a text of which lists are left out, or written anew
+-- ---- a text of which lists are left out, or rewritten
 
 -- what becomes of a list: it stays as it is, it is left out, or it is written with other contents
 pub data Disposition : Type 0 where
@@ -38,7 +38,7 @@ list_by text s stays = slice_range text s.at s.end
 list_by text s leaves = []
 list_by text s (becomes inside) = 40 ∷ (text_rewritten text (s.at + 1) (s.end - 1) inside ++ 41 ∷ [])
 
--- the fate of the first of the lists that are still to come, and those of the others; where there is none left, lists stay
+-- the disposition of the first of the lists that are still to come, and those of the others; where there is none left, lists stay
 abbrev pub first_disposition : List Disposition → Disposition
 first_disposition [] = stays
 first_disposition (disposition ∷ dispositions) = disposition
@@ -47,7 +47,7 @@ abbrev pub later : List Disposition → List Disposition
 later [] = []
 later (disposition ∷ dispositions) = dispositions
 
--- the part of the text from one place to another, each list of these trees with its fate, in order
+-- the part of the text from one place to another, each list of these trees with its disposition, in order
 abbrev pub edited : List ℕ → ℕ → ℕ → List Disposition → Forest → List ℕ
 edited text from to dispositions none = slice_range text from to
 edited text from to dispositions (atom s q content others) = slice_range text from s.at ++ (written q content ++ edited text s.end to dispositions others)
@@ -89,7 +89,7 @@ inside_by inside stays = inside ∷ []
 inside_by inside leaves = []
 inside_by inside (becomes other) = other ∷ []
 
--- the same after each list's fate
+-- the same after each list's disposition
 abbrev pub insides_after : List Disposition → Forest → List Forest
 insides_after dispositions none = []
 insides_after dispositions (atom s q c others) = insides_after dispositions others
@@ -117,7 +117,7 @@ FirstIsThere dispositions none = ⊤
 FirstIsThere dispositions (atom s q c others) = ⊤
 FirstIsThere dispositions (list s inside others) = IsThere (first_disposition dispositions)
 
--- the text of one list, of which the parts have their fates, and these trees stand last in it
+-- the text of one list, of which the parts have their dispositions, and these trees stand last in it
 abbrev pub edited_whole : List ℕ → Span → List Disposition → Forest → Forest → List ℕ
 edited_whole text s dispositions inside added =
     slice_range text 0 (s.at + 1) ++ (edited text (s.at + 1) (s.end - 1) dispositions inside ++ (spaced false added ++ slice_range text (s.end - 1) (length text)))

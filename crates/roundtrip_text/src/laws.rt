@@ -20,14 +20,14 @@ pub fn pieces()
         × SpellsForest (sign_of text) text (length prefix) (length prefix + length bytes) g }
 {}
 
-/// What is written anew spells the trees that it is written from.
+/// What is rewritten spells the trees that it is written from.
 pub fn writing()
     ensures text_rewritten { (text : List ℕ) (f g : Forest) (from to : ℕ) → SpellsPart text from to f
         → IsRespelled f g → WritesForest (text_rewritten text from to g) g }
     ensures alone { (first : Bool) (f : Forest) → AreAtoms f → WritesForest (spaced first f) f }
 {}
 
-/// A text of which lists are left out or written anew spells the others, in order; its head stays, where what follows it does.
+/// A text of which lists are left out or rewritten spells the others, in order; its head stays, where what follows it does.
 pub fn editing()
     ensures { (text : List ℕ) (dispositions : List Disposition) (s : Span) (q : Bool) (content : List ℕ)
         (others : Forest) (from to : ℕ) → SpellsPart text from to (atom s q content others)
@@ -48,8 +48,8 @@ pub fn forms()
         → AreAtoms f × AreUtf8 f }
 {}
 
-/// The text of one list of at most 64 levels, of which parts have their fates and trees are added last, is the text of one list of at
-/// most 64 levels: with its head, the lists that are left, as they have become, and the trees that were added, but for spans.
+/// The text of one list of at most 64 levels, of which parts have their dispositions and trees are added last, is the text of one list of
+/// at most 64 levels: with its head, the lists that are left, as they have become, and the trees that were added, but for spans.
 pub fn whole()
     ensures { (text : List ℕ) (root : Root text) (dispositions : List Disposition) (added : Forest)
         → FitInRoot dispositions root.others → MayBeAdded added

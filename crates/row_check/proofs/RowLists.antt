@@ -22,7 +22,7 @@ module _ {X : Type 0} where
       let first = pairs_first R x (xs ++ ys) h in
       AllPairs-cons R x xs (λ k d l. All-contains (R x) (xs ++ ys) (get_or xs k d) first (Contains-append_left xs ys (get_or xs k d) (Contains-get_or xs k d l))) (pairs_prefix R xs ys (pairs_rest R x (xs ++ ys) h))
 
-  -- what stands in the front part with what stands behind it
+  -- what stands in the prefix with what stands behind it
   pub across : (R : X → X → Type 0) (xs ys : List X) → AllPairs R (xs ++ ys) → (x y : X) → Contains xs x → Contains ys y → R x y
   across R [] ys h x y cx cy = absurd (nothing x cx)
   across R (z ∷ xs) ys h x y cx cy = by_case (λ k. across R xs ys (pairs_rest R z (xs ++ ys) h) x y k cy) (cons_case z x xs cx)

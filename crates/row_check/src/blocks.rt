@@ -58,7 +58,7 @@ fn box_of(block: &[Entry]) -> Bounds
     }
 }
 
-/// The boxes of all blocks of so many entries, the last block first. Only want of memory refuses it.
+/// The boxes of all blocks of so many entries, the last block first. Only running out of memory refuses it.
 pub(crate) fn boxes_of(
     alloc: Global,
     entries: &[Entry],

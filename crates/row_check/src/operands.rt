@@ -25,7 +25,7 @@ pub(crate) fn operand_of<'a>(view: &CheckView<'a>, id: u32) -> Option<Operand<'a
     Some(Operand { id, single })
 }
 
-/// The items of the entries, in their order. Only want of memory refuses it.
+/// The items of the entries, in their order. Only running out of memory refuses it.
 pub(crate) fn operands_of<'a>(
     alloc: Global,
     view: &CheckView<'a>,

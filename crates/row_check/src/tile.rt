@@ -275,7 +275,7 @@ fn operands_if<'a>(
 /// then by the number of the kind. Each pair is tested in one tile.
 ///
 /// `changed` rises. The index holds the items of the board under their bounds, and reaches as far as anything is asked for. A
-/// pair costs one step at most, and none where the widened bounds do not meet. Only want of memory refuses it.
+/// pair costs one step at most, and none where the widened bounds do not meet. Only running out of memory refuses it.
 pub fn test_tile<L: Ledger>(
     alloc: Global,
     view: &CheckView,

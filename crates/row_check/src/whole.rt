@@ -20,7 +20,7 @@ use std::alloc::{AllocError, Global};
 use std::marker::Brand;
 use std::sync::ledger::{Blank, Ledger};
 
-/// The ids of all items of the board, which rise. Only want of memory refuses it.
+/// The ids of all items of the board, which rise. Only running out of memory refuses it.
 pub fn ids_of(alloc: Global, board: &Board) -> Result<Vec<u32>, AllocError>
     ensures ids { IfOk result (λ ids. ids.items ≡ ids_of board.now) }
     ensures rise { IfOk result (λ ids. IsStrictlyIncreasing ids.items) }
@@ -111,7 +111,7 @@ fn push_single(
     }
 }
 
-/// Appends the rows of each of these items alone, in order. The ids rise; one that no item has gives none. Only want of memory
+/// Appends the rows of each of these items alone, in order. The ids rise; one that no item has gives none. Only running out of memory
 /// fails it; what was in the list is then followed by the rows of some of the first ids alone.
 pub fn push_singles(
     alloc: Global,
@@ -161,7 +161,7 @@ fn rows_counted<L: Ledger>(
 /// the single items in `changed`; by the first id, then by the second, then by the number of the kind.
 ///
 /// `tiles` and `changed` rise. The index holds the items of the board under their bounds, and reaches as far as anything is
-/// asked for. Only want of memory refuses it.
+/// asked for. Only running out of memory refuses it.
 pub fn rows_of_changed(
     alloc: Global,
     view: &CheckView,
@@ -183,7 +183,7 @@ pub fn rows_of_changed(
 /// All rows of the board under its classes and rules, by the first id, then by the second, then by the number of the kind.
 ///
 /// The index holds the items of the board under their bounds, and reaches as far as anything is asked for. Two items are
-/// compared in one tile, and only where their bounds, widened so, meet. Only want of memory refuses it.
+/// compared in one tile, and only where their bounds, widened so, meet. Only running out of memory refuses it.
 pub fn rows_of(alloc: Global, view: &CheckView, index: &TileIndex) -> Result<Vec<Row>, AllocError>
     requires view { IsWholeView view.now }
     requires index { IsIndexOf (checked_by view.now) index.now }

@@ -7,7 +7,7 @@ use Rattle.cond_lang.specs.ConditionReasons.{cond_reason}
 use Rattle.rule_text.specs.declared.error.RuleError.{RuleError}
 use Rattle.rule_text.specs.declared.error.RuleError.TheVariants.{Text, Version, Bad, Cond, BadNumber, OutOfMemory}
 
--- a condition is refused where its text begins; want of memory has no number, which is written 0, and no place
+-- a condition is refused where its text begins; running out of memory has no number, which is written 0, and no place
 abbrev pub rules_reason : RuleError → PlainReason
 rules_reason (Text e) = carried (codes "Text") 1 (text_reason e)
 rules_reason (Version at) = refused_at (codes "Version") 2 at

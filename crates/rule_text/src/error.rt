@@ -33,7 +33,7 @@ impl HasReason for RuleError {
     ghost depth = { 2 };
 
     /// What it is called, its number and its byte of the text: for a condition that where its text begins, and its inner
-    /// place is counted in what that text stands for. Want of memory has no number, which is written 0, and no place.
+    /// place is counted in what that text stands for. Running out of memory has no number, which is written 0, and no place.
     fn reason(&self) -> Reason {
         match self {
             RuleError::Text(error) => error.reason().behind("Text", 1),

@@ -41,7 +41,7 @@ use sexpr_read::{TextError, parse_all};
 use std::alloc::Global;
 
 /// The rules of the text of a rule file, of at most 33,554,432 bytes, or the first reason why there are none, with its
-/// place. The reasons are those of [`RuleError`], exactly where `specs/RuleText` has them; want of memory alone is free.
+/// place. The reasons are those of [`RuleError`], exactly where `specs/RuleText` has them; running out of memory alone is free.
 #[tactic(auto, using(crate::proofs::Shortness::forms_short, crate::proofs::Shortness::forms_few), unfolding(crate::specs::RulesOf::file_of))]
 pub fn read_rules(alloc: Global, text: &[u8]) -> Result<Rules, RuleError>
     requires { IsReadable text.now }

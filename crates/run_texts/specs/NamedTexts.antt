@@ -87,7 +87,7 @@ why_at names (Some at) inner = names ++ codes " at " ++ decimal at ++ inner_text
 abbrev pub reason_text : PlainReason → List ℕ
 reason_text why = why_at (written why) why.place why.inner_place
 
--- a refusal that has a place, as it is written. Want of memory has none: no text is refused for it
+-- a refusal that has a place, as it is written. Running out of memory has none: no text is refused for it
 pub record IsRefusalText (why : PlainReason) (text : List ℕ) : Type 0 where
   pub at : ℕ
   pub has_place : why.place ≡ Some at

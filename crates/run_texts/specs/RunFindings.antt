@@ -50,7 +50,7 @@ StopsText told before now text (Refused r) = (r.which ≡ text.which) × SourceS
 StopsText told before now text (Unread it) = (it ≡ text.which) × HasRisen before now text.source
 StopsText told before now text OutOfMemory = Unit {0}
 
--- the stop of a text that is refused for this reason. Want of memory has no place
+-- the stop of a text that is refused for this reason. Running out of memory has no place
 abbrev pub IsStopOf : Which → PlainReason → Stop → Type 0
 IsStopOf which why (Refused r) = (r.which ≡ which) × (reason_in r ≡ why)
 IsStopOf which why (Unread it) = ⊥

@@ -97,7 +97,7 @@ pub struct Texts {
     pub rules: Rules,
 }
 
-/// The refusal of a text for this reason. Want of memory has no place.
+/// The refusal of a text for this reason. Running out of memory has no place.
 fn refused_for(which: Which, why: &Reason) -> Stop
     ensures { IsStopOf which why.now result }
 {
@@ -112,7 +112,7 @@ fn refused_for(which: Which, why: &Reason) -> Stop
     }
 }
 
-/// The refusal of a text by its reader. Want of memory has no place.
+/// The refusal of a text by its reader. Running out of memory has no place.
 pub fn refused<E: HasReason>(which: Which, error: &E) -> Stop
     ensures { IsStopOf which (E.reason_of error.now) result }
 {

@@ -44,7 +44,7 @@ pub enum Call<'a> {
 }
 
 /// The call of a check, whatever the first word is. Words that call for nothing give the line that says how the
-/// program is called. The one error is want of memory.
+/// program is called. The one error is running out of memory.
 pub fn check_call<'a>(alloc: Global, words: &'a [&'a str]) -> Result<Call<'a>, AllocError>
     ensures call { IfOk result (λ call. call_in call ≡ check_call (words_of words.entry.now)) }
     ensures fits { IfOk result CallFits }
@@ -171,7 +171,7 @@ fn write_call<'a>(words: &'a [&'a str]) -> Call<'a>
 
 /// The call of the words, by the first of them: `undo`, `try`, `steal` and `write` have calls of their own, and all
 /// else calls for a check. Words that call for nothing give the line that says how the program is called. The one error
-/// is want of memory.
+/// is running out of memory.
 pub fn call_of<'a>(alloc: Global, words: &'a [&'a str]) -> Result<Call<'a>, AllocError>
     ensures call { IfOk result (λ call. call_in call ≡ call_of (words_of words.entry.now)) }
     ensures fits { IfOk result CallFits }

@@ -4,7 +4,7 @@ use Rattle.plain_types.specs.Reasons.{PlainReason, refused_at, refused_nowhere}
 use Rattle.sexpr_read.specs.declared.place.TextError.{TextError}
 use Rattle.sexpr_read.specs.declared.place.TextError.TheVariants.{NotUtf8, CloseWithoutOpen, EndInside, TooDeep, ExtraText, EmptyText, OutOfMemory}
 
--- an empty text is refused at its start; want of memory has no number, which is written 0, and no place
+-- an empty text is refused at its start; running out of memory has no number, which is written 0, and no place
 abbrev pub text_reason : TextError → PlainReason
 text_reason (NotUtf8 at) = refused_at (codes "NotUtf8") 1 at
 text_reason (CloseWithoutOpen at) = refused_at (codes "CloseWithoutOpen") 2 at

@@ -39,7 +39,7 @@ impl HasReason for TextError {
 
     ghost depth = { 1 };
 
-    /// What it is called, its number and its byte of the text. Want of memory has no number, which is written 0, and
+    /// What it is called, its number and its byte of the text. Running out of memory has no number, which is written 0, and
     /// no place. An empty text is refused at 0.
     fn reason(&self) -> Reason {
         match self {

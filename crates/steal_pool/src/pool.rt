@@ -87,7 +87,7 @@ fn gathered<T: TileWork>(
 /// Tests each number below `tiles`, which is at most the count of the work and at most 15,625, by 1 to 64 workers that have deques of
 /// their own and steal from each other's. Worker w is given the numbers that leave w over when they are divided by the number of
 /// workers. The answers stand in the order of the numbers, and beside them it is told which seat took which numbers. A taker calls
-/// `before`, tests and calls `after`; after a want of memory it takes on without testing. Only want of memory refuses the call.
+/// `before`, tests and calls `after`; after running out of memory it takes on without testing. Only running out of memory refuses the call.
 pub fn run_stolen<R: Threads + Sync, T: TileWork, G: Gate>(
     rt: &R,
     alloc: Global,

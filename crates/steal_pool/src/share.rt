@@ -37,7 +37,7 @@ impl<X: Drop> Share<X> {
     }
 }
 
-/// Takes a number to the end of the hand and tests it. After a want of memory it is taken and not tested.
+/// Takes a number to the end of the hand and tests it. After running out of memory it is taken and not tested.
 pub(crate) fn take<T: TileWork, G: Gate>(
     job: &Job<'_, T, G>,
     number: u32,

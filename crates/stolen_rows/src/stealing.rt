@@ -22,7 +22,7 @@ pub(crate) struct StolenTiles {
 }
 
 /// The rows of each of the tiles with an id that changed, in the order of the tiles. There are 1 to 64 workers and at most 15,625
-/// tiles. Only want of memory refuses it.
+/// tiles. Only running out of memory refuses it.
 pub(crate) fn steal_tiles<R: Threads + Sync, G: Gate>(
     rt: &R,
     alloc: Global,

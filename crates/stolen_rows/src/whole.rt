@@ -51,7 +51,7 @@ fn steal_all<R: Threads + Sync, G: Gate>(
 
 /// All rows of the board under these classes and no rules, in order. Each tile that holds an item is tested by one of `workers` workers,
 /// from 1 to 64, who have deques of their own and steal from each other's; the gate is called before and after each test. What they
-/// steal changes no row. Only want of memory refuses it.
+/// steal changes no row. Only running out of memory refuses it.
 pub fn rows_by_stealing<R: Threads + Sync, G: Gate>(
     rt: &R,
     alloc: Global,

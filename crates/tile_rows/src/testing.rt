@@ -15,7 +15,7 @@ use std::thread::Threads;
 use tile_pool::{Gate, run_tiles};
 
 /// The rows of each of the tiles with an id that changed, in the order of the tiles, and how these were dealt to the workers, of which
-/// there are 1 to 64. There are at most 15,625 tiles. Only want of memory refuses it.
+/// there are 1 to 64. There are at most 15,625 tiles. Only running out of memory refuses it.
 pub fn test_tiles<R: Threads + Sync, G: Gate>(
     rt: &R,
     alloc: Global,

@@ -120,7 +120,7 @@ module _ (one_state : (change : PlainChange) (old a b : State) → Makes change 
     later = lead_alike history.session.state history.on past.later other.later h.later k.later;
   }
 
-  -- the nearest change on one side is made, and the one that leads back goes to the other
+  -- the nearest change on one side is made, and its inverse goes to the other
   turn : (old new : State) (change other : PlainChange) (changes others : List PlainChange) (passed : Passed) (far near : List Passed)
       → DoLead old (change ∷ changes) (passed ∷ far) → DoLead old others near → Makes change old new → ChangeLeadsTo other new (record { state = old; replaced = is_replace change })
       → (new ≡ returned passed.state old) × DoLead new changes far × DoLead new (other ∷ others) (record { state = old; replaced = passed.replaced } ∷ near)

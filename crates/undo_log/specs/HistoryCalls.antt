@@ -22,7 +22,7 @@ pub record IsHistoryStepTaken (old new : PlainHistory) (step : PlainStep) (appli
   pub past : HasPast old
   pub steps : (past : Past) → IsPastOf old past → IsStepFrom past new step applied
 
--- what want of memory leaves of a session: it is stopped, or it is as it was
+-- what running out of memory leaves of a session: it is stopped, or it is as it was
 abbrev pub IsStoppedOrSame : PlainSession → PlainSession → Type 0
 IsStoppedOrSame old new = (new.stopped ≡ true) ⊎ (new ≡ old)
 

@@ -6,7 +6,7 @@ use Rattle.drc_state.specs.CommandReasons.{edit_reason}
 use Rattle.undo_log.specs.declared.error.HistoryError.{HistoryError}
 use Rattle.undo_log.specs.declared.error.HistoryError.TheVariants.{Edit, NothingToUndo, NothingToRedo, Stopped, OutOfMemory}
 
--- only commands have places; want of memory has no number, which is written 0
+-- only commands have places; running out of memory has no number, which is written 0
 abbrev pub step_reason : HistoryError → PlainReason
 step_reason (Edit e) = carried (codes "Edit") 10 (edit_reason e)
 step_reason NothingToUndo = refused_nowhere (codes "NothingToUndo") 11

@@ -9,7 +9,7 @@ use Rattle.drc_state.specs.StateChanges.{PlainChange, edit, replace, plain_chang
 use Rattle.drc_session.specs.Sessions.{PlainSession}
 use Rattle.undo_log.specs.Past.{Past, Passed, is_again}
 
--- the changes that lead back and those that lead on, the nearest first on both sides; want of memory stops a history
+-- the inverse changes and those that lead on, the nearest first on both sides; running out of memory stops a history
 pub record PlainHistory : Type 0 where
   pub session : PlainSession
   pub back : List PlainChange

@@ -1,4 +1,4 @@
-//! What is kept of a step. A place for the change that leads back is made before the session is changed.
+//! What is kept of a step. A place for the inverse change is made before the session is changed.
 
 ghost use Rattle.std.specs.Prelude.{◌≡◌, ◌⊎◌, ◌++◌, ◌∷◌, ◌<◌, true, false, [], List, vec_len, vec_capacity, OnOk, IfOk, IfErr, OnErr, Err};
 ghost use Rattle.plain_types.specs.Limits.{IsWorkerCount};
@@ -20,7 +20,7 @@ use std::alloc::{AllocError, AllocGlobal};
 use std::thread::Threads;
 use tile_pool::Gate;
 
-/// Keeps the change that leads back, and nothing leads on any more. Of a report again nothing is kept.
+/// Keeps the inverse change, and nothing leads on any more. Of a report again nothing is kept.
 fn keep(command: &Command<'_>, change: Change, back: &mut Vec<Change>, on: &mut Vec<Change>)
     requires room { vec_len back.old < vec_capacity back.old }
     ensures again { is_again (plain_command command.now) ≡ true → (back.new.items ≡ back.old.items)
@@ -37,7 +37,7 @@ fn keep(command: &Command<'_>, change: Change, back: &mut Vec<Change>, on: &mut 
     }
 }
 
-/// Carries the command out, and keeps the change that leads back.
+/// Carries the command out, and keeps the inverse change.
 pub(crate) fn carry_out<R: Threads + Sync + AllocGlobal, G: Gate>(
     rt: &R,
     workers: u32,
@@ -70,7 +70,7 @@ pub(crate) fn carry_out<R: Threads + Sync + AllocGlobal, G: Gate>(
     Ok(applied)
 }
 
-/// Makes the nearest change on one side, and keeps the one that leads back on the other. Only want of memory fails it.
+/// Makes the nearest change on one side, and keeps its inverse on the other. Only running out of memory fails it.
 pub(crate) fn switch<R: Threads + Sync + AllocGlobal, G: Gate>(
     rt: &R,
     workers: u32,

@@ -21,8 +21,8 @@ use tile_pool::Gate;
 
 impl History {
     /// Carries the command out, or says why it is not carried out. What was undone before is forgotten, but for a report again, which is
-    /// no step. The tiles that it stirs are dealt to so many workers, from 1 to 64. After each refusal but want of memory all is as it
-    /// was. After want of memory the history is stopped, and its session is stopped or as it was.
+    /// no step. The tiles that it affects are dealt to so many workers, from 1 to 64. After each refusal but running out of memory all is
+    /// as it was. After running out of memory the history is stopped, and its session is stopped or as it was.
     pub fn apply<R: Threads + Sync + AllocGlobal, G: Gate>(
         &mut self,
         rt: &R,
@@ -59,8 +59,8 @@ impl History {
         }
     }
 
-    /// Goes back by one step, or says that there is none, or that memory is wanting. `NothingToUndo` says exactly that nothing leads back.
-    /// After want of memory the history is stopped, and its session is stopped or as it was.
+    /// Goes back by one step, or says that there is none, or that memory is wanting. `NothingToUndo` says exactly that there is nothing to
+    /// undo. After running out of memory the history is stopped, and its session is stopped or as it was.
     pub fn undo<R: Threads + Sync + AllocGlobal, G: Gate>(
         &mut self,
         rt: &R,
@@ -95,8 +95,8 @@ impl History {
         Ok(applied)
     }
 
-    /// Goes on by one step that was undone, or says that there is none, or that memory is wanting. `NothingToRedo` says exactly that nothing
-    /// leads on. After want of memory the history is stopped, and its session is stopped or as it was.
+    /// Goes on by one step that was undone, or says that there is none, or that memory is wanting. `NothingToRedo` says exactly that
+    /// nothing leads on. After running out of memory the history is stopped, and its session is stopped or as it was.
     pub fn redo<R: Threads + Sync + AllocGlobal, G: Gate>(
         &mut self,
         rt: &R,

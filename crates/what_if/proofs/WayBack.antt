@@ -24,7 +24,7 @@ pub record AreSame (old new : PlainBoard) : Type 0 where
   pub ids : new.next_id ≡ old.next_id
   pub units : new.next_unit ≡ old.next_unit
 
--- ---- deeds
+-- ---- operations
 
 -- where something is done, it adds no new items
 abbrev NoneAdded : Result PlainOperation Refusal → Type 0

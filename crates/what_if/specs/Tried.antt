@@ -32,7 +32,7 @@ IsRefusedAt s command place OutOfMemory = Unit {0}
 
 -- ---- on the session itself
 
--- the session took the command: beside it stand the rows that come and go, and the change that leads back
+-- the session took the command: beside it stand the rows that come and go, and the inverse change
 pub record IsTaken (before : State) (command : PlainCommand) (after : State) (taken : Taken) : Type 0 where
   pub answer : Answers before command (Ok after)
   pub differ : IsDifference before after taken.come.items taken.gone.items
@@ -43,6 +43,6 @@ abbrev pub IsRefusedHere : PlainSession → PlainSession → PlainCommand → Tr
 IsRefusedHere old new command (Refused step inner) = (step ≡ 0) × Answers old.state command (Err inner) × (inner ≢ Stopped) × (inner ≢ NoMemory) × (new ≡ old)
 IsRefusedHere old new command OutOfMemory = Unit {0}
 
--- what want of memory leaves of the session: it is stopped, or it took the command, and only the rows that come and go are wanting
+-- what running out of memory leaves of the session: it is stopped, or it took the command, and only the rows that come and go are wanting
 abbrev pub IsStoppedOrTook : PlainSession → PlainSession → PlainCommand → Type 0
 IsStoppedOrTook old new command = (new.stopped ≡ true) ⊎ ((new.stopped ≡ false) × Answers old.state command (Ok new.state))

@@ -22,7 +22,7 @@ impl HasReason for TrialError {
 
     ghost depth = { 1 };
 
-    /// What it is called and its number. It has no place: a command is told by its step. Want of memory has no number, which
+    /// What it is called and its number. It has no place: a command is told by its step. Running out of memory has no number, which
     /// is written 0.
     fn reason(&self) -> Reason {
         match self {

@@ -72,7 +72,7 @@ pub fn take<R: Threads + Sync + AllocGlobal, G: Gate>(
     }
 }
 
-/// Turns a session that took a command back to the state from before, by the change that leads back. Where memory runs out the session is
+/// Turns a session that took a command back to the state from before, by the inverse change. Where memory runs out the session is
 /// stopped.
 pub fn turn_back<R: Threads + Sync + AllocGlobal>(
     session: &mut Session,

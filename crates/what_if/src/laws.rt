@@ -38,7 +38,7 @@ pub fn one_survey()
     one_list();
 }
 
-/// After a command that adds no list, the change that leads back makes the state from before, with the same numbers that come next.
+/// After a command that adds no list, the inverse change makes the state from before, with the same numbers that come next.
 pub fn turned_back()
     ensures { (s next last : State) (command : PlainCommand) (change : PlainChange)
         → adds command ≡ false → Answers s command (Ok next) → IsInverseChange change next s

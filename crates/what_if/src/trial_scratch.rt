@@ -43,7 +43,7 @@ impl<'a> Model for TrialScratch<'a> {
 }
 
 impl<'a> TrialScratch<'a> {
-    /// A desk for a session that is not stopped. It takes no memory.
+    /// A scratch copy for a session that is not stopped. It takes no memory.
     pub(crate) fn new(session: &'a Session) -> TrialScratch<'a>
         requires { session.now.stopped ≡ false }
         ensures { result ≡ session.now }
@@ -75,7 +75,7 @@ impl<'a> TrialScratch<'a> {
         drop(self.copy.replace(copy));
     }
 
-    /// The copy once it took the command, and the change that leads back.
+    /// The copy once it took the command, and the inverse change.
     fn take<R: Threads + Sync + AllocGlobal, G: Gate>(
         &mut self,
         rt: &R,
@@ -135,8 +135,8 @@ impl<'a> TrialScratch<'a> {
         }
     }
 
-    /// How many rows there are after the command alone, which one worker carries out, or none where it is refused. Only want of memory
-    /// refuses the call.
+    /// How many rows there are after the command alone, which one worker carries out, or none where it is refused. Only running out of
+    /// memory refuses the call.
     pub(crate) fn count<R: Threads + Sync + AllocGlobal>(
         &mut self,
         rt: &R,

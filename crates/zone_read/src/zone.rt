@@ -120,7 +120,7 @@ fn area_of(alloc: Global, corners: &Corners) -> Result<Option<Shape>, AllocError
     }
 }
 
-/// The spot by which a report names an area.
+/// The raw point by which a report names an area.
 fn first_of(corners: &Corners) -> RawPoint
     ensures { result ≡ first_of corners.now }
 {
@@ -372,7 +372,7 @@ fn fills_of(alloc: Global, owner: &Owner<'_>, node: Node<'_, '_>) -> Result<Vec<
 /// on copper.
 ///
 /// Its refusals are those of [`BoardError`], exactly where the items of a zone (`specs/ZoneOf`)
-/// have them, with their places; want of memory alone is free. A fill keeps the boxes of its runs
+/// have them, with their places; running out of memory alone is free. A fill keeps the boxes of its runs
 /// of corners.
 #[tactic(auto, using(crate::proofs::Admitting::one_ready), unfolding(crate::specs::ZoneOf::zone_of))]
 pub fn read_zone(

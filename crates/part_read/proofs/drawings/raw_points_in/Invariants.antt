@@ -7,7 +7,7 @@ use Rattle.part_read.specs.Placements.{IsReadRawPoint}
 use Rattle.part_read.specs.Drawings.{raw_points_among}
 use Rattle.part_read.proofs.drawings.raw_points_in.Given as goal
 
--- the spots so far, and those of what is left, are all
+-- the raw points so far, and those of what is left, are all
 abbrev pub invariant-loop-part : goal.invariant-loop-part
 invariant-loop-part l = record {
   raw_points : before l.raw_points.items (raw_points_among l.curved (trees_left l.part-iterator)) ≡ raw_points_among l.curved (parts (tree_of l.list));
