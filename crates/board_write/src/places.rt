@@ -108,7 +108,7 @@ impl Moving {
     ghost use Rattle.board_write.specs.MovedPlaces.{list_numbers, StandsIn};
 
     /// What is moved in the list of a unit: in a footprint its own place, in another all of them.
-    pub fn of_unit(list: Node<'_, '_>, by: Distance) -> Moving
+    pub(crate) fn of_unit(list: Node<'_, '_>, by: Distance) -> Moving
         ensures { result ≡ unit_moving by (inside (tree_of list.entry)) }
     {
         if has_head(list, b"footprint") {
@@ -119,7 +119,7 @@ impl Moving {
     }
 
     /// The place of a list itself, if it is moved.
-    pub fn own_place<'d, 't>(self, list: Node<'d, 't>) -> Option<Place<'d, 't>>
+    pub(crate) fn own_place<'d, 't>(self, list: Node<'d, 't>) -> Option<Place<'d, 't>>
         ensures numbers { option_map list_numbers result ≡ own_place self (inside (tree_of list.entry)) }
         ensures stands { IfSome result (StandsIn (inside (tree_of list.entry))) }
     {
@@ -137,7 +137,7 @@ impl Moving {
     }
 
     /// What is moved in a list, its own place aside.
-    pub fn within(self) -> Moving
+    pub(crate) fn within(self) -> Moving
         ensures { result ≡ within self }
     {
         match self {
@@ -147,7 +147,7 @@ impl Moving {
     }
 
     /// What is moved behind a list.
-    pub fn behind(self, list: Node<'_, '_>) -> Moving
+    pub(crate) fn behind(self, list: Node<'_, '_>) -> Moving
         ensures { result ≡ behind self (inside (tree_of list.entry)) }
     {
         match self {

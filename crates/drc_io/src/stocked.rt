@@ -46,7 +46,7 @@ impl MemShelf {
         MemShelf::in_pieces(files, fails, usize::MAX)
     }
 
-    /// The same, of which a read gives at most `most` bytes. That is at least 1.
+    /// A shelf with these files, of which a read gives at most `most` bytes, at least 1. The reads of the numbers in `fails` fail.
     pub fn in_pieces(files: Vec<(Name, Vec<u8>)>, fails: Vec<u64>, most: usize) -> MemShelf
         requires { 1 ≤ most }
         ensures { result ≡ record {

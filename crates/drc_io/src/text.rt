@@ -21,7 +21,7 @@ pub enum Text {
 }
 
 /// The few bytes.
-pub fn keep_inside(bytes: &[u8]) -> Held
+pub(crate) fn keep_inside(bytes: &[u8]) -> Held
     requires { length bytes.now ≤ 30 }
     ensures { take result.len result.bytes ≡ bytes.now }
 {

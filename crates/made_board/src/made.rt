@@ -194,7 +194,7 @@ fn room_for(alloc: Global, count: u32) -> Result<Vec<u8>, AllocError>
     Vec::with_capacity(alloc, count as usize * ITEM_BYTES)
 }
 
-/// As `with_items`, the numbers halved so many times, and each half by a thread of its own.
+/// Appends the lists of the items of so many numbers. The numbers are halved so many times, and each half has a thread of its own.
 fn with_halves<R: Threads + Sync>(
     rt: &R,
     alloc: Global,
@@ -228,7 +228,7 @@ fn with_halves<R: Threads + Sync>(
     Ok(whole)
 }
 
-/// As `with_items`: with one worker, or for few numbers, on the thread of the caller, and else by four threads.
+/// Appends the lists of the items of the first numbers: on the thread of the caller with one worker or for few numbers, and else by four threads.
 fn with_items_by<R: Threads + Sync>(
     rt: &R,
     alloc: Global,

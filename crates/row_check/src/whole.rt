@@ -131,7 +131,7 @@ pub fn push_singles(
     Ok(())
 }
 
-/// As `rows_of_changed`, with where steps are counted.
+/// The rows of the changed items in these tiles, in order. A ledger of the type `L` counts the steps.
 fn rows_counted<L: Ledger>(
     alloc: Global,
     view: &CheckView,
