@@ -19,7 +19,8 @@ pub fn one_operation()
 
 /// An operation makes one board of another.
 pub fn one_board()
-    ensures { (old : PlainBoard) (operation : PlainOperation) (a b : PlainBoard) → After old operation a →
+    ensures { (old : PlainBoard) (operation : PlainOperation) (a b : PlainBoard)
+        → After old operation a →
         After old operation b → a ≡ b }
 {
     one_move();

@@ -188,11 +188,14 @@ pub fn make(
     requires touched { touched.items ≡ ids_touched board.old (plain_operation operation) }
     ensures after { OnOk result (After board.old (plain_operation operation) board.new) }
     ensures sound { IsSound board.old × IsSound board.new }
-    ensures back { IfOk result (λ made. IsInverseOperation (plain_operation made.back) board.new board.old ×
+    ensures back { IfOk result (λ made.
+        IsInverseOperation (plain_operation made.back) board.new board.old ×
         AddsNone (plain_operation made.back)) }
-    ensures none { IfOk result (λ made. GivesNothing (plain_operation operation) → plain_operation made.back ≡ nothing) }
+    ensures none { IfOk result (λ made. GivesNothing (plain_operation operation)
+        → plain_operation made.back ≡ nothing) }
     ensures edited { IfOk result (λ made. AreEdited board.old board.new made.ids.items) }
-    ensures known { IfOk result (λ made. AreKnown board.old (ids_touched board.old (plain_operation operation))
+    ensures known { IfOk result (λ made.
+        AreKnown board.old (ids_touched board.old (plain_operation operation))
         made.ids.items) }
 {
     board.soundness();

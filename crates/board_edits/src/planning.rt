@@ -84,7 +84,8 @@ pub fn operation_of(
     ensures does { MatchResult result (λ operation. Does board.now (plain_command command.now)
         (Ok (plain_operation operation))) (λ why. (why ≡ Refusal.OutOfMemory) ⊎
         Does board.now (plain_command command.now) (Err why)) }
-    ensures only { (answer : Result PlainOperation Refusal) → Does board.now (plain_command command.now) answer →
+    ensures only { (answer : Result PlainOperation Refusal)
+        → Does board.now (plain_command command.now) answer →
         MatchResult result (λ operation. answer ≡ Ok (plain_operation operation))
         (λ why. (why ≡ Refusal.OutOfMemory) ⊎ (answer ≡ Err why)) }
     ensures fits { IfOk result (λ operation. OperationFits board.now (plain_operation operation)) }

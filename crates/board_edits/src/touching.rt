@@ -83,7 +83,8 @@ pub fn ids_touched(
     board: &Board,
     operation: &Operation,
 ) -> Result<Vec<u32>, AllocError>
-    ensures { IfOk result (λ ids. ids.items ≡ ids_touched board.now (plain_operation operation.now)) }
+    ensures { IfOk result (λ ids.
+        ids.items ≡ ids_touched board.now (plain_operation operation.now)) }
 {
     match operation {
         Operation::TakeOut { unit } => ids_of_unit(alloc, board, *unit),

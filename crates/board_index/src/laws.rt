@@ -11,12 +11,14 @@ ghost use Rattle.board_index.specs.TilesHeld.{AreTilesHeld};
 pub fn tiles_held()
     ensures held { (board : PlainBoard) (index : PlainIndex) → IsIndexOfItems board index →
         AreTilesHeld board index.reach (held_of index) }
-    ensures dirty { (board : PlainBoard) (index : PlainIndex) (boxes : List Bounds) → IsIndexOfItems board index
+    ensures dirty { (board : PlainBoard) (index : PlainIndex) (boxes : List Bounds)
+        → IsIndexOfItems board index
         → AreTilesHeld board index.reach (dirty_of index boxes true) }
 {}
 
 /// A board and a reach have one list of tiles that hold an item.
 pub fn one_list_of_tiles()
-    ensures { (board : PlainBoard) (reach : ℤ) (tiles others : List ℕ) → AreTilesHeld board reach tiles →
+    ensures { (board : PlainBoard) (reach : ℤ) (tiles others : List ℕ)
+        → AreTilesHeld board reach tiles →
         AreTilesHeld board reach others → tiles ≡ others }
 {}

@@ -27,7 +27,8 @@ impl Board {
     /// as it was.
     pub fn taken(&mut self, unit: u32) -> Result<Vec<Kept>, AllocError>
         ensures taken { OnOk result (self.new ≡ without_unit self.old unit) }
-        ensures items { IfOk result (λ items. map kept_entry items.items ≡ entries_of unit self.old.items) }
+        ensures items { IfOk result (λ items.
+            map kept_entry items.items ≡ entries_of unit self.old.items) }
         ensures unchanged { OnErr result (self.new ≡ self.old) }
     {
         let mut items = Vec::with_capacity(*self.slots.allocator(), self.count_of(unit))?;
@@ -58,7 +59,8 @@ impl Board {
 
     /// Takes every item of the unit out and appends them.
     fn take_into(&mut self, unit: u32, items: &mut Vec<Kept>)
-        requires { vec_len items.old + length (entries_of unit self.old.items) ≤ vec_capacity items.old }
+        requires { vec_len items.old + length (entries_of unit self.old.items)
+            ≤ vec_capacity items.old }
         ensures taken { self.new ≡ without_unit self.old unit }
         ensures items { map kept_entry items.new.items ≡ map kept_entry items.old.items ++
             entries_of unit self.old.items }
@@ -72,14 +74,16 @@ impl Board {
     /// Takes the item with this id out if it is of the unit, and appends it.
     fn take_own(&mut self, id: u32, unit: u32, items: &mut Vec<Kept>)
         requires id { id < self.old.next_id }
-        requires spare_capacity { vec_len items.old + length (own_at id unit self.old.items) ≤ vec_capacity items.old }
+        requires spare_capacity { vec_len items.old + length (own_at id unit self.old.items)
+            ≤ vec_capacity items.old }
         ensures taken { self.new ≡ record self.old {
           items = filter
               (λ entry. not (nat_eq entry.0 id && nat_eq entry.1.unit unit)) self.old.items;
         } }
         ensures items { map kept_entry items.new.items ≡ map kept_entry items.old.items ++
             own_at id unit self.old.items }
-        ensures len { vec_len items.new ≡ vec_len items.old + length (own_at id unit self.old.items) }
+        ensures len { vec_len items.new
+            ≡ vec_len items.old + length (own_at id unit self.old.items) }
         ensures capacity { vec_capacity items.new ≡ vec_capacity items.old }
     {
         if self.unit_at(id) != unit {

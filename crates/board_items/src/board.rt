@@ -369,7 +369,8 @@ impl Board {
     /// The items of the unit with their ids, by rising id. It looks at no item of another unit: it walks a row of unit
     /// numbers, and where units rise along the items, as all readers give them, only those of the unit.
     pub fn of_unit(&self, unit: u32) -> UnitIter<'_>
-        ensures items { unit_left result ≡ filter (λ entry. nat_eq entry.1.unit unit) self.now.items }
+        ensures items { unit_left result ≡ filter (λ entry.
+            nat_eq entry.1.unit unit) self.now.items }
         ensures sound { IsSound self.now }
     {
         let places = places_in(&self.units, self.in_order, unit);
@@ -516,8 +517,10 @@ fn push_slot(
     ensures slots { OnOk result (slots.new.items ≡ slots.old.items ++ Some item ∷ []) }
     ensures tags { OnOk result (tags.new.items ≡ tags.old.items ++ tag_of item.name ∷ []) }
     ensures units { OnOk result (units.new.items ≡ units.old.items ++ item.unit ∷ []) }
-    ensures marks { IfOk result (λ id. marks.new.items ≡ marks.old.items ++ marks_of ((id, item) ∷ [])) }
-    ensures notes { IfOk result (λ id. notes.new.items ≡ notes.old.items ++ notes_of ((id, item) ∷ [])) }
+    ensures marks { IfOk result (λ id.
+        marks.new.items ≡ marks.old.items ++ marks_of ((id, item) ∷ [])) }
+    ensures notes { IfOk result (λ id.
+        notes.new.items ≡ notes.old.items ++ notes_of ((id, item) ∷ [])) }
     ensures of_net { IfOk result (λ id. of_net.new.items ≡ of_net.old.items ++ id ∷ []) }
     ensures slots_stay { OnErr result (slots.new.items ≡ slots.old.items) }
     ensures tags_stay { OnErr result (tags.new.items ≡ tags.old.items) }

@@ -9,7 +9,8 @@ use crate::item::Item;
 
 /// Whether the row is in order with one more unit behind the others.
 pub(crate) fn goes_on(in_order: bool, units: &[u32], unit: u32) -> bool
-    ensures { (in_order ≡ true → UnitsRise 0 units.now) → result ≡ true → UnitsRise 0 (units.now ++ unit ∷
+    ensures { (in_order ≡ true → UnitsRise 0 units.now) → result ≡ true
+        → UnitsRise 0 (units.now ++ unit ∷
         []) }
 {
     let Some(last) = units.last() else {

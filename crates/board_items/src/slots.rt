@@ -92,7 +92,8 @@ pub(crate) fn drop_id(ids: &mut Vec<u32>, id: u32)
 
 /// Drops it where it may be in the list.
 pub(crate) fn drop_if(ids: &mut Vec<u32>, id: u32, listed: bool)
-    ensures { ids.new.items ≡ (if listed then filter (λ other. not (nat_eq other id)) ids.old.items else
+    ensures { ids.new.items ≡ (if listed then filter (λ other.
+        not (nat_eq other id)) ids.old.items else
         ids.old.items) }
 {
     if listed {

@@ -76,7 +76,8 @@ fn note<'t>(
     requires command { Fits (plain_command command.now) }
     requires can { CanNote (plain_operation operation.now) edit_state.old }
     requires fits { OperationFits edit_state.old.board (plain_operation operation.now) }
-    ensures noted { OnOk result (IsNoted (plain_command command.now) (plain_operation operation.now) edit_state.old edit_state.new) }
+    ensures noted { OnOk result (IsNoted (plain_command command.now)
+        (plain_operation operation.now) edit_state.old edit_state.new) }
     ensures board { OnOk result (edit_state.new.board ≡ edit_state.old.board) }
     ensures refused { OnOk result (edit_state.new.refused ≡ edit_state.old.refused) }
 {
@@ -112,7 +113,8 @@ fn done<'t>(
     requires command { Fits (plain_command command.now) }
     requires can { CanNote (plain_operation operation) edit_state.old }
     requires fits { OperationFits edit_state.old.board (plain_operation operation) }
-    ensures left { OnOk result (LeftBy (plain_command command.now) (Ok (plain_operation operation)) edit_state.old edit_state.new) }
+    ensures left { OnOk result (LeftBy (plain_command command.now)
+        (Ok (plain_operation operation)) edit_state.old edit_state.new) }
     ensures refused { OnOk result (edit_state.new.refused ≡ edit_state.old.refused) }
 {
     note(alloc, edit_state, command, &operation)?;
@@ -136,7 +138,8 @@ fn carry_out<'t>(
 ) -> Result<(), AllocError>
     requires command { Fits (plain_command command.now) }
     requires edit_state { IsOnEditState edit_state.old }
-    ensures step { OnOk result (IsCommandStep (plain_command command.now) edit_state.old edit_state.new) }
+    ensures step { OnOk result (IsCommandStep
+        (plain_command command.now) edit_state.old edit_state.new) }
     ensures sound { IsSound edit_state.old.board }
 {
     is_sound(&edit_state.board);

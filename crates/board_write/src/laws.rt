@@ -10,7 +10,8 @@ use sexpr_read::laws::one_tree;
 
 /// A text and commands have one outcome.
 pub fn one_outcome()
-    ensures { (text : List ℕ) (commands : List PlainCommand) (m n : ℕ) (a : Outcome text commands m) (b : Outcome text commands n) → (m ≡ n) × (a.out ≡ b.out) }
+    ensures { (text : List ℕ) (commands : List PlainCommand) (m n : ℕ) (a : Outcome text commands m)
+        (b : Outcome text commands n) → (m ≡ n) × (a.out ≡ b.out) }
 {
     one_tree();
     one_reading();

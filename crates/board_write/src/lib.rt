@@ -48,8 +48,13 @@ pub fn write_board<W: Sink>(
     requires text { length text.now ≤ 33_554_432 }
     requires few { length commands.now < 4_294_967_295 }
     requires fit { All Fits (map plain_command commands.now) }
-    ensures written { MatchResult result (WroteWhole text.now (map plain_command commands.now) (W.written out.old) (W.written out.new)) (IsCause text.now (map plain_command commands.now) (W.written out.old) (W.written out.new) (W.faults out.old) (W.faults out.new)) }
-    ensures refused { (why : BoardError) → BoardSays text.now (Err why) → (result ≡ Err (WriteError.Board why)) ⊎ (result ≡ Err WriteError.OutOfMemory) }
+    ensures written { MatchResult result
+        (WroteWhole text.now (map plain_command commands.now) (W.written out.old)
+        (W.written out.new))
+        (IsCause text.now (map plain_command commands.now) (W.written out.old) (W.written out.new)
+        (W.faults out.old) (W.faults out.new)) }
+    ensures refused { (why : BoardError) → BoardSays text.now (Err why)
+        → (result ≡ Err (WriteError.Board why)) ⊎ (result ≡ Err WriteError.OutOfMemory) }
     ensures counts { W.faults out.old ≤ W.faults out.new }
 {
     let source = read_source(alloc, text)?;
@@ -68,7 +73,11 @@ pub fn write_source<W: Sink>(
     requires read { IsSource text.now source }
     requires few { length commands.now < 4_294_967_295 }
     requires fit { All Fits (map plain_command commands.now) }
-    ensures written { MatchResult result (WroteWhole text.now (map plain_command commands.now) (W.written out.old) (W.written out.new)) (IsCause text.now (map plain_command commands.now) (W.written out.old) (W.written out.new) (W.faults out.old) (W.faults out.new)) }
+    ensures written { MatchResult result
+        (WroteWhole text.now (map plain_command commands.now) (W.written out.old)
+        (W.written out.new))
+        (IsCause text.now (map plain_command commands.now) (W.written out.old) (W.written out.new)
+        (W.faults out.old) (W.faults out.new)) }
     ensures read { (why : BoardError) → result ≡ Err (WriteError.Board why) → ⊥ }
     ensures counts { W.faults out.old ≤ W.faults out.new }
 {

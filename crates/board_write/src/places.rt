@@ -74,8 +74,10 @@ fn both<'d, 't>(
     y: Option<Number<'d, 't>>,
     rest: Children<'d, 't>,
 ) -> Option<Place<'d, 't>>
-    ensures numbers { option_map list_numbers result ≡ both (option_map (λ number. number.nm) x.entry) (option_map (λ number. number.nm) y.entry) }
-    ensures place { IfSome result (λ place. (x.entry ≡ Some place.x) × (y.entry ≡ Some place.y) × (place.head ≡ head.entry) × (place.rest ≡ rest.entry)) }
+    ensures numbers { option_map list_numbers result ≡ both (option_map (λ number.
+        number.nm) x.entry) (option_map (λ number. number.nm) y.entry) }
+    ensures place { IfSome result (λ place. (x.entry ≡ Some place.x) × (y.entry ≡ Some place.y)
+        × (place.head ≡ head.entry) × (place.rest ≡ rest.entry)) }
 {
     match x {
         None => None,
@@ -88,7 +90,8 @@ fn both<'d, 't>(
 
 /// The place of a list, moved, if it has one of which both numbers can be.
 fn place_of<'d, 't>(list: Node<'d, 't>, by: Distance) -> Option<Place<'d, 't>>
-    ensures numbers { option_map list_numbers result ≡ place_moved (plain_shift by) (inside (tree_of list.entry)) }
+    ensures numbers { option_map list_numbers result
+        ≡ place_moved (plain_shift by) (inside (tree_of list.entry)) }
     ensures stands { IfSome result (StandsIn (inside (tree_of list.entry))) }
 {
     let mut rest = list.children();
@@ -120,7 +123,8 @@ impl Moving {
 
     /// The place of a list itself, if it is moved.
     pub(crate) fn own_place<'d, 't>(self, list: Node<'d, 't>) -> Option<Place<'d, 't>>
-        ensures numbers { option_map list_numbers result ≡ own_place self (inside (tree_of list.entry)) }
+        ensures numbers { option_map list_numbers result
+            ≡ own_place self (inside (tree_of list.entry)) }
         ensures stands { IfSome result (StandsIn (inside (tree_of list.entry))) }
     {
         match self {

@@ -97,7 +97,8 @@ pub(crate) fn append_atom(out: &mut Vec<u8>, atom: Node<'_, '_>) -> Result<(), A
 /// Appends a number in the place of an atom.
 fn append_number(out: &mut Vec<u8>, number: Number<'_, '_>) -> Result<(), AllocError>
     requires { unsigned_abs number.nm ≤ 1000000000000 }
-    ensures { OnOk result (out.new.items ≡ out.old.items ++ written (quoted (tree_of number.entry.atom)) (mm_text number.entry.nm)) }
+    ensures { OnOk result (out.new.items
+        ≡ out.old.items ++ written (quoted (tree_of number.entry.atom)) (mm_text number.entry.nm)) }
 {
     let mut bytes = [0; 16];
     let len = write_mm(number.nm, &mut bytes);
@@ -146,7 +147,8 @@ fn append_prefix<'d, 't>(
     list: Node<'d, 't>,
     moving: Moving,
 ) -> Result<Left<'d, 't>, AllocError>
-    ensures { IfOk result (IsListOpened setting.entry moving (tree_of list.entry) out.old.items out.new.items) }
+    ensures { IfOk result (IsListOpened setting.entry moving
+        (tree_of list.entry) out.old.items out.new.items) }
 {
     append(out, b"(")?;
     let from = list.span().at as usize + 1;
@@ -168,7 +170,9 @@ fn append_parts(
     to: usize,
     moving: Moving,
 ) -> Result<(), AllocError>
-    ensures { OnOk result (out.new.items ≡ out.old.items ++ set_down setting.entry left.entry.from to left.entry.is_first (updated moving (grove (trees_left left.entry.parts)))) }
+    ensures { OnOk result (out.new.items
+        ≡ out.old.items ++ set_down setting.entry left.entry.from to left.entry.is_first
+        (updated moving (grove (trees_left left.entry.parts)))) }
 {
     let mut from = left.from;
     let mut is_first = left.is_first;
@@ -204,7 +208,9 @@ pub(crate) fn append_list(
     list: Node<'_, '_>,
     moving: Moving,
 ) -> Result<(), AllocError>
-    ensures { OnOk result (out.new.items ≡ out.old.items ++ list_down setting.entry (span (tree_of list.entry)) (updated moving (inside (tree_of list.entry)))) }
+    ensures { OnOk result (out.new.items
+        ≡ out.old.items ++ list_down setting.entry (span (tree_of list.entry))
+        (updated moving (inside (tree_of list.entry)))) }
 {
     append(out, b"(")?;
     let span = list.span();

@@ -28,7 +28,8 @@ pub fn read_source<'t>(alloc: Global, text: &'t [u8]) -> Result<SourceText<'t>, 
     ensures read { IfOk result (IsSource text.entry.now) }
     ensures says { IfOk result (λ source. BoardSays text.entry.now (Ok source.board)) }
     ensures cause { IfErr result (IsCauseBefore text.entry.now) }
-    ensures refused { (why : BoardError) → BoardSays text.entry.now (Err why) → (result ≡ Err (WriteError.Board why)) ⊎ (result ≡ Err WriteError.OutOfMemory) }
+    ensures refused { (why : BoardError) → BoardSays text.entry.now (Err why)
+        → (result ≡ Err (WriteError.Board why)) ⊎ (result ≡ Err WriteError.OutOfMemory) }
 {
     one_reading();
     match parse_one(alloc, text) {

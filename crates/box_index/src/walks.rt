@@ -54,7 +54,8 @@ pub(crate) fn take_out_each(tiles: &[u32], lists: &mut [Shared], area: Area, end
     requires rising { AreRising area tiles.now lists.old }
     requires end { end ≤ end_of area }
     requires all { DoMeetAll area tiles.now end }
-    ensures { AreListsChanged (IsEntryRemoved id) (λ list. Unit) area tiles.now lists.old lists.new }
+    ensures { AreListsChanged (IsEntryRemoved id) (λ list.
+        Unit) area tiles.now lists.old lists.new }
 {
     let mut tile = area.first();
     'tiles: while tile < end {

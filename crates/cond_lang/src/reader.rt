@@ -111,7 +111,8 @@ fn behind_sign<'t>(whole: usize, sign: u8, text: &'t [u8]) -> Result<&'t [u8], C
     ensures found { MatchResult result
         (λ rest. twice whole sign text.now ≡ read tt rest.now)
         (λ e. twice whole sign text.now ≡ fault e) }
-    ensures left { MatchResult result (λ rest. length rest.now + 1 ≤ length text.now) (λ _. Unit {0}) }
+    ensures left { MatchResult result (λ rest. length rest.now + 1 ≤ length text.now) (λ _.
+        Unit {0}) }
 {
     byte(whole, sign, &text[1..])
 }

@@ -150,7 +150,8 @@ fn write_reason<W: Sink>(
     out: &mut W,
 ) -> Result<(), Failed>
     ensures { Wrote W.written W.faults out.old out.new
-        (reason_line prefix.now (word.now ++ digits_text number) behind.now (reason_told told)) result }
+        (reason_line prefix.now (word.now
+        ++ digits_text number) behind.now (reason_told told)) result }
 {
     let causes = told.causes;
     let inner = inner_behind(told.place, told.inner);

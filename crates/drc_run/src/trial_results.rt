@@ -78,7 +78,8 @@ fn told_of(
     requires running { session.now.stopped ≡ false }
     requires rows { All (IsRow (checked_in session.now.state)) come.now }
     ensures { (s : State) (command : PlainCommand) → Answers s command (Ok session.now.state) →
-        IsDifference s session.now.state come.now gone.items → IfOk result (IsTrialResult s command) }
+        IsDifference s session.now.state come.now gone.items
+        → IfOk result (IsTrialResult s command) }
 {
     let comes = is_some_row(come);
     let count = session.rows().len() as u64;
@@ -103,7 +104,8 @@ fn trial_result_here<R: Threads + Sync + AllocGlobal, G: Gate>(
     requires fits { Fits (plain_command command.now) }
     requires none_added { adds (plain_command command.now) ≡ false }
     ensures still { OnOk result (IsStill session.old session.new) }
-    ensures trial_result { IfOk result (IsTrialResult session.old.state (plain_command command.now)) }
+    ensures trial_result { IfOk result (IsTrialResult session.old.state
+        (plain_command command.now)) }
     ensures refused { IfErr result (IsRefusedHere session.old session.new
         (plain_command command.now)) }
 {
@@ -131,7 +133,8 @@ fn trial_result_apart<R: Threads + Sync + AllocGlobal, G: Gate>(
     requires workers { (1 ≤ workers) × (workers ≤ 8) }
     requires running { session.now.stopped ≡ false }
     requires fits { Fits (plain_command command.now) }
-    ensures trial_result { IfOk result (IsTrialResult session.now.state (plain_command command.now)) }
+    ensures trial_result { IfOk result (IsTrialResult session.now.state
+        (plain_command command.now)) }
     ensures refused { IfErr result (IsRefusedHere session.now session.now
         (plain_command command.now)) }
 {
@@ -157,7 +160,8 @@ pub(crate) fn trial_result_of<R: Threads + Sync + AllocGlobal, G: Gate>(
     requires trial_context { IsTrialContext session.old trial_context }
     requires fits { Fits (plain_command command.now) }
     ensures still { OnOk result (IsStill session.old session.new) }
-    ensures trial_result { IfOk result (IsTrialResult session.old.state (plain_command command.now)) }
+    ensures trial_result { IfOk result (IsTrialResult session.old.state
+        (plain_command command.now)) }
     ensures refused { IfErr result (IsRefusedHere session.old session.new
         (plain_command command.now)) }
 {

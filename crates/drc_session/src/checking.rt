@@ -77,7 +77,8 @@ pub(crate) fn check_near<R: Threads + Sync, G: Gate>(
     requires boxes { All FitsIndex near.boxes.now }
     requires enough { AreEnough near.index.now near.changed.now
         (dirty_of near.index.now near.boxes.now false) }
-    ensures rows { (old : Checked) → IsCheckChange old (checked_by near.entry.view) near.entry.changed.now
+    ensures rows { (old : Checked) → IsCheckChange old
+        (checked_by near.entry.view) near.entry.changed.now
         → AreRows old rows.old.items
         → IfOk result (λ _. AreRows (checked_by near.entry.view) rows.new.items) }
     ensures dealt { IfOk result (λ applied. IsDealt workers applied) }

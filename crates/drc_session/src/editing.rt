@@ -267,7 +267,8 @@ pub(crate) fn edit_board<R: Threads + Sync, G: Gate>(
     ensures back { IfOk result (λ r.
         IsInverseChange (edit (plain_operation r.1)) (state_of parts.new) (state_of parts.old)
         × AddsNone (plain_operation r.1)) }
-    ensures none { IfOk result (λ r. GivesNothing (plain_operation operation) → plain_operation r.1 ≡ nothing) }
+    ensures none { IfOk result (λ r. GivesNothing (plain_operation operation)
+        → plain_operation r.1 ≡ nothing) }
 {
     let touched = ids_touched(alloc, &parts.board, &operation)?;
     let look = look_up(alloc, &parts.board, &touched, parts.reach)?;

@@ -74,7 +74,8 @@ fn add_items(
     ensures with { OnOk result
         (onto contents.old (giving (tree_of node.entry) (Ok items.items)) ≡ Ok contents.new) }
     ensures ready { (board : PlainBoard) (unit : ℕ)
-        → All (IsReady board unit) (items_of contents.old.given) → All (IsReady board unit) items.items
+        → All (IsReady board unit) (items_of contents.old.given)
+        → All (IsReady board unit) items.items
         → OnOk result (All (IsReady board unit) (items_of contents.new.given)) }
 {
     contents.given.append(place(node), items)

@@ -65,7 +65,8 @@ fn add_line(
 ) -> Result<(), BoardError>
     requires quarter { placement.quarter < 4 }
     requires at { IsPlacementRawPoint placement.at }
-    ensures { Leaves result side.new (onto_side side.old (line_side placement (tree_of node.entry))) }
+    ensures { Leaves result side.new
+        (onto_side side.old (line_side placement (tree_of node.entry))) }
 {
     let start = raw_point_needed(node, b"start")?;
     let end = raw_point_needed(node, b"end")?;

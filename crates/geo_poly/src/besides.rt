@@ -69,7 +69,8 @@ fn clear_step(poly: &Poly, low: usize, size: usize, s: Seg, near: Bounds, d: i64
     requires fits { FitsCore near }
     requires range { IsUpTo (pos 2000000001) d }
     requires positive { pos 0 <ℤ d }
-    ensures { IfSome result (IsPast (EachEdge (LiesClear near d)) poly.now (rational_point_of s.a) low) }
+    ensures { IfSome result (IsPast (EachEdge (LiesClear near d)) poly.now
+        (rational_point_of s.a) low) }
 {
     let b = poly.run_box(low, size)?;
     let corners = poly.corners();
@@ -86,7 +87,8 @@ fn longest_step(poly: &Poly, low: usize, s: Seg, near: Bounds, d: i64) -> Option
     requires fits { FitsCore near }
     requires range { IsUpTo (pos 2000000001) d }
     requires positive { pos 0 <ℤ d }
-    ensures { IfSome result (IsPast (EachEdge (LiesClear near d)) poly.now (rational_point_of s.a) low) }
+    ensures { IfSome result (IsPast (EachEdge (LiesClear near d)) poly.now
+        (rational_point_of s.a) low) }
 {
     if low % THIRD_RUN != 0 {
         None
@@ -105,7 +107,8 @@ fn long_step(poly: &Poly, low: usize, s: Seg, near: Bounds, d: i64) -> Option<St
     requires fits { FitsCore near }
     requires range { IsUpTo (pos 2000000001) d }
     requires positive { pos 0 <ℤ d }
-    ensures { IfSome result (IsPast (EachEdge (LiesClear near d)) poly.now (rational_point_of s.a) low) }
+    ensures { IfSome result (IsPast (EachEdge (LiesClear near d)) poly.now
+        (rational_point_of s.a) low) }
 {
     if low % SECOND_RUN != 0 {
         None
@@ -124,7 +127,8 @@ fn any_step(poly: &Poly, low: usize, s: Seg, near: Bounds, d: i64) -> Option<Ste
     requires fits { FitsCore near }
     requires range { IsUpTo (pos 2000000001) d }
     requires positive { pos 0 <ℤ d }
-    ensures { IfSome result (IsPast (EachEdge (LiesClear near d)) poly.now (rational_point_of s.a) low) }
+    ensures { IfSome result (IsPast (EachEdge (LiesClear near d)) poly.now
+        (rational_point_of s.a) low) }
 {
     if let Some(step) = long_step(poly, low, s, near, d) {
         Some(step)

@@ -126,7 +126,8 @@ impl Indexed {
         requires some { 0 < length self.old.corners.items }
         requires runs { HasRuns self.old }
         requires stays { list_all (point_stays by.dx by.dy) self.old.corners.items ≡ true }
-        ensures corners { AllZip (IsShiftedPoint by.dx by.dy) self.old.corners.items self.new.corners.items }
+        ensures corners { AllZip (IsShiftedPoint by.dx by.dy) self.old.corners.items
+            self.new.corners.items }
         ensures runs { HasRuns self.new }
     {
         shift_outline(&mut self.corners, by);

@@ -79,7 +79,8 @@ pub fn marks_before(
 
 /// The title that the item has from an area, if it meets it.
 fn title_if<'o>(item: &Item, mark: Option<&'o Item>) -> Option<&'o Name>
-    ensures { IsNameIf (GivesIf (MeetsArea item.now) (option_copied mark.entry)) (option_copied result) }
+    ensures { IsNameIf (GivesIf (MeetsArea item.now) (option_copied mark.entry))
+        (option_copied result) }
 {
     match mark {
         None => None,
@@ -89,7 +90,8 @@ fn title_if<'o>(item: &Item, mark: Option<&'o Item>) -> Option<&'o Name>
 
 /// The reference that the item has from a body, if it meets one of its courtyards.
 fn reference_if<'o>(item: &Item, mark: Option<&'o Item>) -> Option<&'o Name>
-    ensures { IsNameIf (GivesIf (MeetsCourtyard item.now) (option_copied mark.entry)) (option_copied result) }
+    ensures { IsNameIf (GivesIf (MeetsCourtyard item.now) (option_copied mark.entry))
+        (option_copied result) }
 {
     match mark {
         None => None,
@@ -109,7 +111,8 @@ fn is_same(a: Option<&Name>, b: Option<&Name>) -> bool
 
 /// Whether the item has the same name from the one as from the other, or none from both.
 pub(crate) fn give_same(item: &Item, before: Option<&Item>, now: Option<&Item>) -> bool
-    ensures { IsTrue result ↔ GiveSame item.now (option_copied before.entry) (option_copied now.entry) }
+    ensures { IsTrue result ↔ GiveSame item.now (option_copied before.entry)
+        (option_copied now.entry) }
 {
     is_same(title_if(item, before), title_if(item, now))
         && is_same(reference_if(item, before), reference_if(item, now))

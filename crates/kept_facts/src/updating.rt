@@ -61,7 +61,8 @@ fn find_again<'a>(
     requires index { HoldsMarks sources.now.board.now.items sources.now.index.now }
     requires known { AreKnown sources.now.classes.now sources.now.board.now known.old }
     ensures known { OnOk result (AreKnown sources.now.classes.now sources.now.board.now known.new) }
-    ensures found { IfOk result (λ differs. IsFoundAgain sources.now.board.now sources.now.classes.now id facts.old facts.new differs) }
+    ensures found { IfOk result (λ differs.
+        IsFoundAgain sources.now.board.now sources.now.classes.now id facts.old facts.new differs) }
 {
     match sources.board.get(id) {
         None => Ok(facts.remove(id).is_some()),
@@ -94,7 +95,9 @@ fn find_all_again(
     requires index { HoldsMarks sources.now.board.now.items sources.now.index.now }
     requires ids { IsStrictlyIncreasing ids.now }
     requires asked { IsStrictlyIncreasing asked.now }
-    ensures { IfOk result (λ changed. AreFoundAgain sources.now.board.now sources.now.classes.now ids.now asked.now facts.old facts.new changed.items) }
+    ensures { IfOk result (λ changed.
+        AreFoundAgain sources.now.board.now sources.now.classes.now ids.now asked.now facts.old
+        facts.new changed.items) }
 {
     let mut known = IndexMap::new(sources.alloc);
     let mut room = Vec::new(sources.alloc);
@@ -129,8 +132,10 @@ pub fn update_facts(
 ) -> Result<Vec<u32>, AllocError>
     requires index { HoldsItems board.now index.now }
     requires ids { IsStrictlyIncreasing ids.now }
-    ensures { (old : PlainBoard) → IsEdit old board.now ids.now → AreMarksBefore old ids.now before.now → HasFacts old classes.now facts.old
-        → IfOk result (λ changed. HasFacts board.now classes.now facts.new × AreChanged old board.now classes.now ids.now facts.old facts.new changed.items) }
+    ensures { (old : PlainBoard) → IsEdit old board.now ids.now
+        → AreMarksBefore old ids.now before.now → HasFacts old classes.now facts.old
+        → IfOk result (λ changed. HasFacts board.now classes.now facts.new
+        × AreChanged old board.now classes.now ids.now facts.old facts.new changed.items) }
 {
     let asked = asked_for(alloc, board, index, ids, before)?;
     let sources = Sources {

@@ -11,6 +11,8 @@ ghost use Rattle.kept_rows.specs.CheckChanges.{IsCheckChange, AreUpdated};
 /// The rows after a change are those that it left, those of each item that changed alone, and those of the tiles that hold such an
 /// item, put in order.
 pub fn rows_updated()
-    ensures { (old new : Checked) (index : PlainIndex) → IsSoundIndex index → IsIndexOf new index → (changed tiles : List ℕ) → IsCheckChange old new changed → AreEnough index changed tiles
-        → (rows after : List PlainRow) → AreRows old rows → AreUpdated new index tiles changed rows after → AreRows new after }
+    ensures { (old new : Checked) (index : PlainIndex) → IsSoundIndex index → IsIndexOf new index
+        → (changed tiles : List ℕ) → IsCheckChange old new changed → AreEnough index changed tiles
+        → (rows after : List PlainRow) → AreRows old rows
+        → AreUpdated new index tiles changed rows after → AreRows new after }
 {}

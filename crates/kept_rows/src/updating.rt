@@ -42,7 +42,8 @@ fn keep_untouched(rows: &mut Vec<Row>, changed: &[u32])
 
 /// Appends the rows of each batch.
 fn push_batches(rows: &mut Vec<Row>, batches: &[TileRows]) -> Result<(), AllocError>
-    ensures { OnOk result (rows.new.items ≡ rows.old.items ++ flat_map (λ (batch : List PlainRow). batch) batches.now) }
+    ensures { OnOk result (rows.new.items
+        ≡ rows.old.items ++ flat_map (λ (batch : List PlainRow). batch) batches.now) }
 {
     for batch in batches {
         // most tiles have no rows
@@ -70,8 +71,10 @@ pub fn update_rows(
     requires index { IsIndexOf (checked_by view.now) index.now }
     requires changed { IsStrictlyIncreasing changed.now }
     requires enough { AreEnough index.now changed.now tiles.now }
-    requires batches { AllZip (λ tile batch. AreRowsOfTile (checked_by view.now) index.now tile changed.now batch) tiles.now batches.now }
-    ensures { (old : Checked) → IsCheckChange old (checked_by view.now) changed.now → AreRows old rows.old.items → OnOk result (AreRows (checked_by view.now) rows.new.items) }
+    requires batches { AllZip (λ tile batch.
+        AreRowsOfTile (checked_by view.now) index.now tile changed.now batch) tiles.now batches.now }
+    ensures { (old : Checked) → IsCheckChange old (checked_by view.now) changed.now
+        → AreRows old rows.old.items → OnOk result (AreRows (checked_by view.now) rows.new.items) }
 {
     // the index says here that it is sound
     let _ = index.near(0);
@@ -96,7 +99,8 @@ pub fn whole_board_rows(
     requires ids { ids.now ≡ ids_of (checked_by view.now).board }
     requires rise { IsStrictlyIncreasing ids.now }
     requires enough { AreEnough index.now ids.now tiles.now }
-    requires batches { AllZip (λ tile batch. AreRowsOfTile (checked_by view.now) index.now tile ids.now batch) tiles.now batches.now }
+    requires batches { AllZip (λ tile batch.
+        AreRowsOfTile (checked_by view.now) index.now tile ids.now batch) tiles.now batches.now }
     ensures { IfOk result (λ rows. AreRows (checked_by view.now) rows.items) }
 {
     let mut rows = Vec::new(alloc);

@@ -220,7 +220,8 @@ fn with_halves<R: Threads + Sync>(
         { with_halves(rt, alloc, halvings - 1, text, first, low) },
         move || -> Result<Vec<u8>, AllocError>
             requires { IsSync R.row × (0 < halvings) × (first + low + high ≤ 90_000) }
-            ensures { IfOk result (λ whole. whole.items ≡ rest.items ++ item_lines (first + low) high) }
+            ensures { IfOk result (λ whole.
+                whole.items ≡ rest.items ++ item_lines (first + low) high) }
         { with_halves(rt, alloc, halvings - 1, rest, first + low, high) },
     );
     let mut whole = prefix?;

@@ -53,7 +53,8 @@ fn half(z: i64) -> Option<i64>
 /// The point in nanometres. A point between two nanometres is none.
 fn anchor_point_at(p: Point) -> Option<AnchorPoint>
     ensures { MatchOption result
-        ((x y : ℤ) → ¬ (IsAnchorPoint (Some p) x y)) (λ anchor_point. IsAnchorPoint (Some p) anchor_point.x anchor_point.y) }
+        ((x y : ℤ) → ¬ (IsAnchorPoint (Some p) x y)) (λ anchor_point.
+        IsAnchorPoint (Some p) anchor_point.x anchor_point.y) }
 {
     let x = half(p.x)?;
     let y = half(p.y)?;

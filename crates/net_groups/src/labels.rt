@@ -53,7 +53,8 @@ fn visit_item_boxes(
     stack: &mut Vec<usize>,
 ) -> Result<(), AllocError>
     requires rises { Rises net.now.ids.now }
-    requires item_boxes { AreItemBoxes (TouchOn net.now.board.now) net.now.ids.now net.now.item_boxes.now }
+    requires item_boxes { AreItemBoxes (TouchOn net.now.board.now) net.now.ids.now
+        net.now.item_boxes.now }
     requires runs { AreBoxRuns net.now.item_boxes.now net.now.runs.now }
     requires places { length labels.old ≡ length net.now.ids.now }
     requires place { place < length net.now.ids.now }
@@ -145,7 +146,8 @@ fn visit_tiles(
 ) -> Result<(), AllocError>
     requires holds { HoldsItemBoxes net.now.item_boxes.now index.now }
     requires rises { Rises net.now.ids.now }
-    requires item_boxes { AreItemBoxes (TouchOn net.now.board.now) net.now.ids.now net.now.item_boxes.now }
+    requires item_boxes { AreItemBoxes (TouchOn net.now.board.now) net.now.ids.now
+        net.now.item_boxes.now }
     requires places { length labels.old ≡ length net.now.ids.now }
     requires own { IsItemBoxAt net.now.item_boxes.now own }
     ensures { OnOk result (IsVisitedWhole (TouchOn net.now.board.now) net.now.ids.now
@@ -173,7 +175,8 @@ fn visit(
 ) -> Result<(), AllocError>
     requires holds { IfSome index (λ held. HoldsItemBoxes net.now.item_boxes.now held.now) }
     requires rises { Rises net.now.ids.now }
-    requires item_boxes { AreItemBoxes (TouchOn net.now.board.now) net.now.ids.now net.now.item_boxes.now }
+    requires item_boxes { AreItemBoxes (TouchOn net.now.board.now) net.now.ids.now
+        net.now.item_boxes.now }
     requires runs { AreBoxRuns net.now.item_boxes.now net.now.runs.now }
     requires few { length net.now.ids.now < 2 ^ 32 }
     requires places { length labels.old ≡ length net.now.ids.now }
@@ -205,7 +208,8 @@ fn spread(
 ) -> Result<(), AllocError>
     requires holds { IfSome index (λ held. HoldsItemBoxes net.now.item_boxes.now held.now) }
     requires rises { Rises net.now.ids.now }
-    requires item_boxes { AreItemBoxes (TouchOn net.now.board.now) net.now.ids.now net.now.item_boxes.now }
+    requires item_boxes { AreItemBoxes (TouchOn net.now.board.now) net.now.ids.now
+        net.now.item_boxes.now }
     requires runs { AreBoxRuns net.now.item_boxes.now net.now.runs.now }
     requires few { length net.now.ids.now < 2 ^ 32 }
     requires labels { AreLabels (TouchOn net.now.board.now) net.now.ids.now start label labels.old }
@@ -232,7 +236,8 @@ fn label_all(
 ) -> Result<Labels, AllocError>
     requires holds { IfSome index (λ held. HoldsItemBoxes net.now.item_boxes.now held.now) }
     requires rises { Rises net.now.ids.now }
-    requires item_boxes { AreItemBoxes (TouchOn net.now.board.now) net.now.ids.now net.now.item_boxes.now }
+    requires item_boxes { AreItemBoxes (TouchOn net.now.board.now) net.now.ids.now
+        net.now.item_boxes.now }
     requires runs { AreBoxRuns net.now.item_boxes.now net.now.runs.now }
     requires few { length net.now.ids.now < 2 ^ 32 }
     ensures { IfOk result (λ found.
@@ -254,7 +259,8 @@ fn label_all(
 /// Labels the places of all groups, in the order of their first places.
 pub(crate) fn label_groups(alloc: Global, net: &Conductors<'_>) -> Result<Labels, AllocError>
     requires rises { Rises net.now.ids.now }
-    requires item_boxes { AreItemBoxes (TouchOn net.now.board.now) net.now.ids.now net.now.item_boxes.now }
+    requires item_boxes { AreItemBoxes (TouchOn net.now.board.now) net.now.ids.now
+        net.now.item_boxes.now }
     requires runs { AreBoxRuns net.now.item_boxes.now net.now.runs.now }
     requires few { length net.now.ids.now < 2 ^ 32 }
     ensures { IfOk result (λ found.

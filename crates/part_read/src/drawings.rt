@@ -68,7 +68,8 @@ fn take_raw_point(
     raw_points: &mut Vec<RawPoint>,
 ) -> Result<(), BoardError>
     requires { All IsReadRawPoint raw_points.old.items }
-    ensures taken { TakesRawPoint result curved (tree_of part.entry) raw_points.old.items raw_points.new.items }
+    ensures taken { TakesRawPoint result curved
+        (tree_of part.entry) raw_points.old.items raw_points.new.items }
     ensures within { OnOk result (All IsReadRawPoint raw_points.new.items) }
 {
     if has_head(part, b"xy") {

@@ -72,7 +72,8 @@ pub(crate) fn raw_point_at(list: Node<'_, '_>) -> Result<RawPoint, BoardError>
 
 /// The raw point in an element that the list must have.
 pub fn raw_point_of(node: Node<'_, '_>, found: Option<Node<'_, '_>>) -> Result<RawPoint, BoardError>
-    ensures { result ≡ in_needed raw_point_at (tree_of node.entry) (option_map tree_of found.entry) }
+    ensures { result ≡ in_needed raw_point_at (tree_of node.entry)
+        (option_map tree_of found.entry) }
 {
     match found {
         None => Err(missing(node)),

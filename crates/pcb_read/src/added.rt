@@ -70,7 +70,8 @@ fn read_alone(
     unit: u32,
     forms: Node<'_, '_>,
 ) -> Result<Vec<Item>, BoardError>
-    ensures items { GivesSome result (SaysAlone board.now unit (alone (parts (tree_of forms.entry)))) }
+    ensures items { GivesSome result
+        (SaysAlone board.now unit (alone (parts (tree_of forms.entry)))) }
     ensures ready { IfOk result (λ items. AreReady board.now unit items.items) }
 {
     let form = alone(forms)?;
@@ -153,9 +154,11 @@ pub fn read_item(
 ) -> Result<Vec<Item>, BoardError>
     requires text { IsReadable text.now }
     requires at { IsInText at }
-    ensures says { MatchResult result (λ items. SaysItem board.now unit text.now at (Ok items.items))
+    ensures says { MatchResult result (λ items.
+        SaysItem board.now unit text.now at (Ok items.items))
         (λ e. (e ≡ BoardError.OutOfMemory) ⊎ SaysItem board.now unit text.now at (Err e)) }
-    ensures only { (answer : Result (List Item) BoardError) → SaysItem board.now unit text.now at answer →
+    ensures only { (answer : Result (List Item) BoardError)
+        → SaysItem board.now unit text.now at answer →
         MatchResult result (λ items. answer ≡ Ok items.items)
         (λ e. (e ≡ BoardError.OutOfMemory) ⊎ (answer ≡ Err e)) }
     ensures ready { IfOk result (λ items. AreReady board.now unit items.items) }

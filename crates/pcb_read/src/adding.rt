@@ -61,7 +61,8 @@ pub(crate) fn add_one(
         (one_item said))) }
     ensures copper { OnOk result (board.new.copper ≡ board.old.copper) }
     ensures not_below { OnOk result (board.old.next_unit ≤ board.new.next_unit) }
-    ensures one_at_most { OnOk result (unit ≡ board.old.next_unit → board.new.next_unit ≤ suc board.old.next_unit) }
+    ensures one_at_most { OnOk result (unit ≡ board.old.next_unit
+        → board.new.next_unit ≤ suc board.old.next_unit) }
 {
     // A match moves the item less often than `?` does.
     match answer {

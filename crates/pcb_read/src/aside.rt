@@ -77,7 +77,8 @@ fn next_block<'d>(
     left: &mut Children<'d, 'd>,
 ) -> Result<Vec<Slot<'d>>, AllocError>
     requires { 0 < most }
-    ensures block { IfOk result (λ block. map tree_in block.items ++ trees_left left.new ≡ trees_left left.old) }
+    ensures block { IfOk result (λ block.
+        map tree_in block.items ++ trees_left left.new ≡ trees_left left.old) }
     ensures last { IfOk result (λ block. block.items ≡ [] → trees_left left.old ≡ []) }
 {
     let mut block = Vec::with_capacity(alloc, most)?;
@@ -113,7 +114,8 @@ fn draft_next(
 
 /// Whether the board is as the draft needs it.
 fn holds(board: &Board, copper: LayerSet, draft: &Draft) -> bool
-    ensures { result ≡ true → (board.now.copper ≡ copper) × (is_some (name_of board.now draft.now.net)
+    ensures { result ≡ true → (board.now.copper ≡ copper)
+        × (is_some (name_of board.now draft.now.net)
         ≡ true) }
 {
     board.copper() == copper && board.net_name(draft.net).is_some()

@@ -55,7 +55,8 @@ pub(crate) fn item_of(
     draft: Draft,
 ) -> Result<Item, BoardError>
     ensures read { Gives result (item_of unit (tree_of node.entry) draft) }
-    ensures ready { (board : PlainBoard) → FitsBoard board draft → IfOk result (IsReady board unit) }
+    ensures ready { (board : PlainBoard) → FitsBoard board draft
+        → IfOk result (IsReady board unit) }
 {
     let form = draft.form;
     let origin = Origin {

@@ -46,7 +46,8 @@ pub fn read_board(alloc: Global, text: &[u8]) -> Result<Board, BoardError>
     requires { IsReadable text.now }
     ensures says { MatchResult result (λ board. BoardSays text.now (Ok board))
         (λ e. (e ≡ BoardError.OutOfMemory) ⊎ BoardSays text.now (Err e)) }
-    ensures only { (answer : Result PlainBoard BoardError) → BoardSays text.now answer → MatchResult result
+    ensures only { (answer : Result PlainBoard BoardError) → BoardSays text.now answer
+        → MatchResult result
         (λ board. answer ≡ Ok board) (λ e. (e ≡ BoardError.OutOfMemory) ⊎ (answer ≡ Err e)) }
 {
     match read_with_spans(alloc, text) {
@@ -66,7 +67,8 @@ pub fn read_board_by(
     requires { IsReadable text.now }
     ensures says { MatchResult result (λ board. BoardSays text.now (Ok board))
         (λ e. (e ≡ BoardError.OutOfMemory) ⊎ BoardSays text.now (Err e)) }
-    ensures only { (answer : Result PlainBoard BoardError) → BoardSays text.now answer → MatchResult result
+    ensures only { (answer : Result PlainBoard BoardError) → BoardSays text.now answer
+        → MatchResult result
         (λ board. answer ≡ Ok board) (λ e. (e ≡ BoardError.OutOfMemory) ⊎ (answer ≡ Err e)) }
 {
     if workers == 1 {
@@ -86,7 +88,8 @@ pub fn read_with_spans(alloc: Global, text: &[u8]) -> Result<(Board, Spans), Boa
     requires { IsReadable text.now }
     ensures says { MatchResult result (λ read. BoardSays text.now (Ok read.0))
         (λ e. (e ≡ BoardError.OutOfMemory) ⊎ BoardSays text.now (Err e)) }
-    ensures only { (answer : Result PlainBoard BoardError) → BoardSays text.now answer → MatchResult result
+    ensures only { (answer : Result PlainBoard BoardError) → BoardSays text.now answer
+        → MatchResult result
         (λ read. answer ≡ Ok read.0) (λ e. (e ≡ BoardError.OutOfMemory) ⊎ (answer ≡ Err e)) }
     ensures spans { IfOk result (λ read. HasSpans text.now read.1) }
     ensures each { IfOk result (λ read. length read.1 ≡ read.0.next_unit) }

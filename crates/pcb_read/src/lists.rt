@@ -43,7 +43,8 @@ fn in_capacity(
     items: Vec<Item>,
 ) -> Result<Vec<Item>, BoardError>
     requires { All (IsReady board.now unit) items.items }
-    ensures items { GivesItems result (in_capacity board.now unit (tree_of node.entry) (Ok items.items)) }
+    ensures items { GivesItems result
+        (in_capacity board.now unit (tree_of node.entry) (Ok items.items)) }
     ensures ready { IfOk result (λ items. AreReady board.now unit items.items) }
 {
     if !has_capacity(board, unit, &items) {
@@ -88,7 +89,8 @@ fn graphic_items(
     kind: GraphicKind,
     node: Node<'_, '_>,
 ) -> Result<Vec<Item>, BoardError>
-    ensures items { GivesItems result (in_capacity board.now unit (tree_of node.entry) (on_ground board.now
+    ensures items { GivesItems result
+        (in_capacity board.now unit (tree_of node.entry) (on_ground board.now
         (tree_of node.entry) (graphic_by board.now unit as_it_is kind (tree_of node.entry)))) }
     ensures ready { IfOk result (λ items. AreReady board.now unit items.items) }
 {
@@ -103,7 +105,8 @@ fn curve_items(
     unit: u32,
     node: Node<'_, '_>,
 ) -> Result<Vec<Item>, BoardError>
-    ensures items { GivesItems result (on_ground board.now (tree_of node.entry) (curve_by (tree_of node.entry))) }
+    ensures items { GivesItems result
+        (on_ground board.now (tree_of node.entry) (curve_by (tree_of node.entry))) }
     ensures ready { IfOk result (λ items. AreReady board.now unit items.items) }
 {
     let lies = layer_role_of(board.copper(), node)?;
@@ -117,7 +120,8 @@ fn text_items(
     about: About,
     node: Node<'_, '_>,
 ) -> Result<Vec<Item>, BoardError>
-    ensures items { GivesItems result (in_capacity board.now unit (tree_of node.entry) (on_ground board.now
+    ensures items { GivesItems result
+        (in_capacity board.now unit (tree_of node.entry) (on_ground board.now
         (tree_of node.entry) (text_by unit about (tree_of node.entry)))) }
     ensures ready { IfOk result (λ items. AreReady board.now unit items.items) }
 {

@@ -205,7 +205,8 @@ fn read_spanned(
         with_span (record { board = board.old; layered = layered.old })
         (record { board = board.new; layered = layered.new }) (tree_of node.entry) others
         ≡ spans.new.items ++ others) }
-    ensures each { OnOk result (length spans.old.items ≡ board.old.next_unit → length spans.new.items
+    ensures each { OnOk result (length spans.old.items ≡ board.old.next_unit
+        → length spans.new.items
         ≡ board.new.next_unit) }
 {
     let unit = board.next_unit();
@@ -228,7 +229,8 @@ fn read_parts(
     ensures read { LeavesSome result (record { board = board.new; layered = layered.new })
         (SaysParts (record { board = board.old; layered = layered.old })
         (parts (tree_of root.entry))) }
-    ensures spans { IfOk result (λ spans. SaysSpans (record { board = board.old; layered = layered.old })
+    ensures spans { IfOk result (λ spans.
+        SaysSpans (record { board = board.old; layered = layered.old })
         (parts (tree_of root.entry)) spans.items) }
     ensures each { IfOk result (λ spans. length spans.items ≡ board.new.next_unit) }
 {
@@ -243,7 +245,8 @@ fn read_parts(
 fn new_board(alloc: Global, root: Node<'_, '_>) -> Result<Board, BoardError>
     ensures board { IfOk result (λ board. (board ≡ empty_board (record { bits = 0 })) ×
         (header_in (tree_of root.entry) ≡ Ok tt)) }
-    ensures refused { IfErr result (λ e. (e ≡ BoardError.OutOfMemory) ⊎ (header_in (tree_of root.entry) ≡ Err e)) }
+    ensures refused { IfErr result (λ e. (e ≡ BoardError.OutOfMemory)
+        ⊎ (header_in (tree_of root.entry) ≡ Err e)) }
 {
     check_header(root)?;
     let mut board = Board::new(alloc, LayerSet { bits: 0 })?;

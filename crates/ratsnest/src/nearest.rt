@@ -177,7 +177,8 @@ fn is_passed(
     best: Link,
 ) -> bool
     requires nodes { AreNodes tree.now.indexed_anchors.items tree.now.nodes.items }
-    requires names { AreNames tree.now.indexed_anchors.items labels.now tree.now.nodes.items names.now }
+    requires names { AreNames tree.now.indexed_anchors.items labels.now tree.now.nodes.items
+        names.now }
     ensures { IsTrue result
         → IsPassed tree.now.indexed_anchors.items labels.now from.now own part.low part.high best }
 {
@@ -202,7 +203,8 @@ fn look_at_each(
     best: &mut Link,
 )
     requires { high ≤ length tree.now.indexed_anchors.items }
-    ensures { IsLooked tree.now.indexed_anchors.items labels.now from.now own low high best.old best.new }
+    ensures { IsLooked tree.now.indexed_anchors.items labels.now from.now own low high best.old
+        best.new }
 {
     for i in low..high {
         let to = tree.indexed_anchors[i];
@@ -246,9 +248,11 @@ fn look(
     best: &mut Link,
 )
     requires nodes { AreNodes tree.now.indexed_anchors.items tree.now.nodes.items }
-    requires names { AreNames tree.now.indexed_anchors.items labels.now tree.now.nodes.items names.now }
+    requires names { AreNames tree.now.indexed_anchors.items labels.now tree.now.nodes.items
+        names.now }
     requires fits { part.high ≤ length tree.now.indexed_anchors.items }
-    ensures { IsLooked tree.now.indexed_anchors.items labels.now from.now own part.low part.high best.old best.new }
+    ensures { IsLooked tree.now.indexed_anchors.items labels.now from.now own part.low part.high
+        best.old best.new }
 {
     if is_passed(tree, labels, names, from, own, part, *best) {
         return;
@@ -297,7 +301,8 @@ pub(crate) fn largest(alloc: Global, tree: &Tree, labels: &[usize]) -> Result<us
 /// For each label but one the least link that leaves it.
 fn seek(tree: &Tree, labels: &[usize], names: &[Option<usize>], skipped: usize, best: &mut [Link])
     requires nodes { AreNodes tree.now.indexed_anchors.items tree.now.nodes.items }
-    requires names { AreNames tree.now.indexed_anchors.items labels.now tree.now.nodes.items names.now }
+    requires names { AreNames tree.now.indexed_anchors.items labels.now tree.now.nodes.items
+        names.now }
     requires labels { (g : ℕ) → label_at labels.now g < length best.old }
     requires none { best.old ≡ replicate (length best.old) no_link }
     ensures { AreBestTo tree.now.indexed_anchors.items labels.now skipped

@@ -169,7 +169,8 @@ fn all_nodes(alloc: Global, indexed_anchors: &[IndexedAnchor]) -> Result<Vec<Nod
 /// The tree of the anchors.
 pub(crate) fn tree_of(alloc: Global, anchors: &[Anchor]) -> Result<Tree, AllocError>
     requires few { length anchors.now < 2 ^ 32 }
-    ensures indexed_anchors { IfOk result (λ tree. AreIndexedAnchors anchors.now tree.indexed_anchors.items) }
+    ensures indexed_anchors { IfOk result (λ tree.
+        AreIndexedAnchors anchors.now tree.indexed_anchors.items) }
     ensures nodes { IfOk result (λ tree. AreNodes tree.indexed_anchors.items tree.nodes.items) }
 {
     let mut indexed_anchors = all_indexed_anchors(alloc, anchors)?;

@@ -25,7 +25,8 @@ pub fn dispositions()
     ensures fit { (draft : Draft) (f : Forest) (a : Reading) (dispositions : List Disposition)
         → DispositionsAre draft a (trees f) dispositions → AreAtoms f → AreUtf8 f
         → AreFit dispositions f × BecomeUtf8 dispositions f }
-    ensures first { (draft : Draft) (a : Reading) (dispositions : List Disposition) (s t : Span) (q : Bool)
+    ensures first { (draft : Draft) (a : Reading) (dispositions : List Disposition) (s t : Span)
+        (q : Bool)
         (c : List ℕ) (f : Forest) (u : Unit {0}) → header_in (branch s (atom t q c f)) ≡ Ok u
         → DispositionsAre draft a (trees f) dispositions → FirstIsThere dispositions f }
 {}

@@ -35,7 +35,8 @@ pub fn tracks()
 pub fn graphics()
     ensures graphics { (o : Option Shift) (board other : PlainBoard) (unit own : ℕ) (i j : Forest)
         (s r : Span) → SameLayersAndNets board other → Translated o i j → (kind : GraphicKind)
-        → GivesInCapacity (shift_of o) (Graphic kind) board other unit own (branch s i) (branch r j) }
+        → GivesInCapacity (shift_of o) (Graphic kind) board other unit own (branch s i)
+        (branch r j) }
     ensures curves { (o : Option Shift) (board other : PlainBoard) (unit own : ℕ) (i j : Forest)
         (s r : Span) → SameLayersAndNets board other → Translated o i j
         → GivesCarried (shift_of o) Curve board other unit own (branch s i) (branch r j) }

@@ -19,7 +19,8 @@ ghost use Rattle.roundtrip_lists.specs.Drawn.{DrawingRead};
 
 /// The drawings of lists equal up to translation are of the same width and fill, and their spots are moved.
 pub fn drawings()
-    ensures { (d : Option Shift) (i j : Forest) (s r : Span) → Translated d i j → (kind : GraphicKind)
+    ensures { (d : Option Shift) (i j : Forest) (s r : Span) → Translated d i j
+        → (kind : GraphicKind)
         → Agrees (DrawingRead d) (drawing_of kind (branch s i)) (drawing_of kind (branch r j)) }
 {}
 

@@ -36,7 +36,8 @@ pub fn moving()
     ensures translated { (d : Shift) (f : Forest) → Translated (Some d) f (moved d f) }
     ensures written { (d : Shift) (f : Forest) → AreAtoms f → IsRespelled f (moved d f) }
     ensures utf8 { (d : Shift) (f : Forest) → AreUtf8 f → AreUtf8 (moved d f) }
-    ensures same { (d : Option Shift) (f g h : Forest) → Translated d f g → SameTrees g h → Translated d f h }
+    ensures same { (d : Option Shift) (f g h : Forest) → Translated d f g → SameTrees g h
+        → Translated d f h }
     ensures itself { (f : Forest) → Translated None f f }
 {}
 
@@ -44,24 +45,29 @@ pub fn moving()
 pub fn elements()
     ensures heads { (d : Option Shift) (t u : Tree) (word : List ℕ) → TranslatedTrees d t u
         → has_head word t ≡ has_head word u }
-    ensures found { (d : Option Shift) (word : List ℕ) (s t : Span) (f g : Forest) → Translated d f g
-        → FoundTranslated d (has_head word) (element word (branch s f)) (element word (branch t g)) }
+    ensures found { (d : Option Shift) (word : List ℕ) (s t : Span) (f g : Forest)
+        → Translated d f g
+        → FoundTranslated d (has_head word) (element word (branch s f))
+        (element word (branch t g)) }
 {}
 
 /// Sizes, names, layers and nets of lists equal up to translation are the same, where the first list has them; spots are moved.
 pub fn numbers()
     ensures raw_points { (d : Option Shift) (word : List ℕ) → is_place_word word ≡ true
         → (i j : Forest) (s r : Span) → Translated d i j
-        → Agrees (IsMovedRawPoint d) (raw_point_of word (branch s i)) (raw_point_of word (branch r j)) }
+        → Agrees (IsMovedRawPoint d) (raw_point_of word (branch s i))
+        (raw_point_of word (branch r j)) }
     ensures sizes { (d : Option Shift) (word : List ℕ) → is_place_word word ≡ false
         → (i j : Forest) (s r : Span) → Translated d i j
         → Agrees Same (size_of word (branch s i)) (size_of word (branch r j)) }
     ensures names { (d : Option Shift) (i j : Forest) (s r : Span) → Translated d i j
         → name_in (branch s i) ≡ name_in (branch r j) }
     ensures layers { (d : Option Shift) (copper : LayerSet) (i j : Forest) (s r : Span)
-        → Translated d i j → Agrees Same (layer_of copper (branch s i)) (layer_of copper (branch r j)) }
+        → Translated d i j → Agrees Same (layer_of copper (branch s i))
+        (layer_of copper (branch r j)) }
     ensures nets { (d : Option Shift) (board other : PlainBoard)
-        → ((n : ℕ) → name_of board n ≡ name_of other n) → (i j : Forest) (s r : Span) → Translated d i j
+        → ((n : ℕ) → name_of board n ≡ name_of other n) → (i j : Forest) (s r : Span)
+        → Translated d i j
         → Agrees Same (net_of board (branch s i)) (net_of other (branch r j)) }
 {}
 

@@ -15,21 +15,24 @@ ghost use Rattle.roundtrip_text.specs.Pieces.{WritesForest, IsWordEnd, SpellsPar
 pub fn pieces()
     ensures cut { (text : List ℕ) (from to : ℕ) (f : Forest) → SpellsPart text from to f
         → WritesForest (slice_range text from to) f }
-    ensures set { (prefix bytes behind : List ℕ) (f : Forest) → IsWordEnd behind → WritesForest bytes f
+    ensures set { (prefix bytes behind : List ℕ) (f : Forest) → IsWordEnd behind
+        → WritesForest bytes f
         → let text : List ℕ = prefix ++ (bytes ++ behind) in (g : Forest) × SameTrees f g
         × SpellsForest (sign_of text) text (length prefix) (length prefix + length bytes) g }
 {}
 
 /// What is rewritten spells the trees that it is written from.
 pub fn writing()
-    ensures text_rewritten { (text : List ℕ) (f g : Forest) (from to : ℕ) → SpellsPart text from to f
+    ensures text_rewritten { (text : List ℕ) (f g : Forest) (from to : ℕ)
+        → SpellsPart text from to f
         → IsRespelled f g → WritesForest (text_rewritten text from to g) g }
     ensures alone { (first : Bool) (f : Forest) → AreAtoms f → WritesForest (spaced first f) f }
 {}
 
 /// A text of which lists are left out or rewritten spells the others, in order; its head stays, where what follows it does.
 pub fn editing()
-    ensures { (text : List ℕ) (dispositions : List Disposition) (s : Span) (q : Bool) (content : List ℕ)
+    ensures { (text : List ℕ) (dispositions : List Disposition) (s : Span) (q : Bool)
+        (content : List ℕ)
         (others : Forest) (from to : ℕ) → SpellsPart text from to (atom s q content others)
         → FitBehindHead dispositions others
         → WritesEdited (edited text from to dispositions (atom s q content others)) s q content
@@ -38,8 +41,10 @@ pub fn editing()
 
 /// What is UTF-8 spells atoms of UTF-8, and is spelled by them.
 pub fn utf8()
-    ensures apart { (bytes : List ℕ) (f : Forest) → WritesForest bytes f → IsUtf8 bytes → AreUtf8 f }
-    ensures joined { (bytes : List ℕ) (f : Forest) → WritesForest bytes f → AreUtf8 f → IsUtf8 bytes }
+    ensures apart { (bytes : List ℕ) (f : Forest) → WritesForest bytes f → IsUtf8 bytes
+        → AreUtf8 f }
+    ensures joined { (bytes : List ℕ) (f : Forest) → WritesForest bytes f → AreUtf8 f
+        → IsUtf8 bytes }
 {}
 
 /// The atoms of a text of forms are atoms that any text may have, and UTF-8.

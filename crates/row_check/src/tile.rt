@@ -66,7 +66,8 @@ fn is_changed(changed: &[u32], id: u32) -> bool
 /// The entries that changed.
 fn touched_of(alloc: Global, near: &[Entry], changed: &[u32]) -> Result<Vec<Entry>, AllocError>
     requires { IsStrictlyIncreasing changed.now }
-    ensures { IfOk result (λ touched. touched.items ≡ filter (λ (e : Entry). is_changed changed.now e.id) near.now) }
+    ensures { IfOk result (λ touched.
+        touched.items ≡ filter (λ (e : Entry). is_changed changed.now e.id) near.now) }
 {
     let mut touched = Vec::with_capacity(alloc, near.len().min(changed.len()))?;
     for entry in near {
@@ -98,8 +99,11 @@ fn partners<'a>(
     requires rising { IsRising (first.now ∷ later.now) }
     requires blocks { AreBoxes boxes later.now }
     ensures blocks { AreBoxes result.1 result.0.now }
-    ensures partners { (changed : Entry → Bool) → touched.now ≡ filter changed (first.now ∷ later.now) → result.0.now ≡ partners_of changed first.now later.now }
-    ensures touched { (changed : Entry → Bool) → touched.now ≡ filter changed (first.now ∷ later.now) → result.2.now ≡ filter changed later.now }
+    ensures partners { (changed : Entry → Bool) → touched.now
+        ≡ filter changed (first.now ∷ later.now)
+        → result.0.now ≡ partners_of changed first.now later.now }
+    ensures touched { (changed : Entry → Bool) → touched.now
+        ≡ filter changed (first.now ∷ later.now) → result.2.now ≡ filter changed later.now }
 {
     let Some((head, rest)) = touched.split_first() else {
         return (touched, no_boxes(touched), touched);
@@ -144,7 +148,9 @@ fn push_pair<L: Ledger>(
     requires second_fits { FitsWithin (pos 2000000000) second.now.bounds }
     requires first_there { IsEntryOf (checked_by tested.now.view.now).board first.now }
     requires second_there { IsEntryOf (checked_by tested.now.view.now).board second.now }
-    ensures rows { OnOk result (HasAddedRows (AreRowsOfPair (checked_by tested.now.view.now) one.entry.id other.entry.id) row_sink.old.rows.items row_sink.new.rows.items) }
+    ensures rows { OnOk result (HasAddedRows
+        (AreRowsOfPair (checked_by tested.now.view.now) one.entry.id other.entry.id)
+        row_sink.old.rows.items row_sink.new.rows.items) }
     ensures step { steps.new ≡ steps.old + 1 }
 {
     steps.tick();
@@ -206,12 +212,18 @@ fn push_beside<L: Ledger>(
     requires first { StandsAt (checked_by tested.now.view.now) one }
     requires rising { IsRising (first.now ∷ others.now) }
     requires fits { All (λ e. FitsWithin (pos 2000000000) e.bounds) (first.now ∷ others.now) }
-    requires there { All (IsEntryOf (checked_by tested.now.view.now).board) (first.now ∷ others.now) }
+    requires there { All (IsEntryOf (checked_by tested.now.view.now).board)
+        (first.now ∷ others.now) }
     requires blocks { AreBoxes at.now.boxes others.now }
     requires owned { StartsOwned at.now.index.now at.now.tile first.now others.now }
-    ensures rows { OnOk result (HasAddedRows (AreRowsOfPairs (checked_by tested.now.view.now) (pairs_with at.now.index.now at.now.tile first.now others.now)) row_sink.old.rows.items row_sink.new.rows.items) }
-    ensures steps { OnOk result (steps.new ≡ steps.old + length (pairs_with at.now.index.now at.now.tile first.now others.now)) }
-    ensures most { steps.new ≤ steps.old + length (pairs_with at.now.index.now at.now.tile first.now others.now) }
+    ensures rows { OnOk result (HasAddedRows
+        (AreRowsOfPairs (checked_by tested.now.view.now)
+        (pairs_with at.now.index.now at.now.tile first.now others.now)) row_sink.old.rows.items
+        row_sink.new.rows.items) }
+    ensures steps { OnOk result (steps.new
+        ≡ steps.old + length (pairs_with at.now.index.now at.now.tile first.now others.now)) }
+    ensures most { steps.new ≤ steps.old
+        + length (pairs_with at.now.index.now at.now.tile first.now others.now) }
 {
     let mut left = others;
     'walk: while let Some((second, rest)) = left.split_first() {
@@ -239,11 +251,17 @@ fn push_rows<L: Ledger>(
     requires operands { All (StandsAt (checked_by tested.now.view.now)) tested.now.operands.now }
     requires rising { IsRising (first.now ∷ others.now) }
     requires fits { All (λ e. FitsWithin (pos 2000000000) e.bounds) (first.now ∷ others.now) }
-    requires there { All (IsEntryOf (checked_by tested.now.view.now).board) (first.now ∷ others.now) }
+    requires there { All (IsEntryOf (checked_by tested.now.view.now).board)
+        (first.now ∷ others.now) }
     requires blocks { AreBoxes at.now.boxes others.now }
-    ensures rows { OnOk result (HasAddedRows (AreRowsOfPairs (checked_by tested.now.view.now) (pairs_with at.now.index.now at.now.tile first.now others.now)) row_sink.old.rows.items row_sink.new.rows.items) }
-    ensures steps { OnOk result (steps.new ≡ steps.old + length (pairs_with at.now.index.now at.now.tile first.now others.now)) }
-    ensures most { steps.new ≤ steps.old + length (pairs_with at.now.index.now at.now.tile first.now others.now) }
+    ensures rows { OnOk result (HasAddedRows
+        (AreRowsOfPairs (checked_by tested.now.view.now)
+        (pairs_with at.now.index.now at.now.tile first.now others.now)) row_sink.old.rows.items
+        row_sink.new.rows.items) }
+    ensures steps { OnOk result (steps.new
+        ≡ steps.old + length (pairs_with at.now.index.now at.now.tile first.now others.now)) }
+    ensures most { steps.new ≤ steps.old
+        + length (pairs_with at.now.index.now at.now.tile first.now others.now) }
 {
     let owned = owned_from(at, first, others);
     if owned.is_empty() {
@@ -287,7 +305,8 @@ pub fn test_tile<L: Ledger>(
     requires view { IsWholeView view.now }
     requires index { IsIndexOf (checked_by view.now) index.now }
     requires changed { IsStrictlyIncreasing changed.now }
-    ensures rows { IfOk result (λ rows. AreRowsOfTile (checked_by view.now) index.now tile changed.now rows.items) }
+    ensures rows { IfOk result (λ rows.
+        AreRowsOfTile (checked_by view.now) index.now tile changed.now rows.items) }
     ensures steps { steps.new ≤ steps.old + most_steps index.now tile changed.now }
 {
     let near = index.near(tile);

@@ -45,7 +45,9 @@ fn push_tile<L: Ledger>(
     requires view { IsWholeView view.now }
     requires index { IsIndexOf (checked_by view.now) index.now }
     requires changed { IsStrictlyIncreasing changed.now }
-    ensures { OnOk result (HasAddedRows (AreRowsOfTile (checked_by view.now) index.now tile changed.now) rows.old.items rows.new.items) }
+    ensures { OnOk result (HasAddedRows
+        (AreRowsOfTile (checked_by view.now) index.now tile changed.now) rows.old.items
+        rows.new.items) }
 {
     let found = test_tile(alloc, view, index, tile, changed, steps)?;
     rows.extend_from_slice(&found)?;
@@ -66,7 +68,8 @@ fn rows_of_tiles<L: Ledger>(
     requires sound { IsSoundIndex index.now }
     requires tiles { IsStrictlyIncreasing tiles.now }
     requires changed { IsStrictlyIncreasing changed.now }
-    ensures { IfOk result (λ rows. AreOnceWhere (IsOfTiles (checked_by view.now) index.now tiles.now changed.now) rows.items) }
+    ensures { IfOk result (λ rows.
+        AreOnceWhere (IsOfTiles (checked_by view.now) index.now tiles.now changed.now) rows.items) }
 {
     let mut rows = Vec::new(alloc);
     for tile in tiles {
@@ -77,7 +80,8 @@ fn rows_of_tiles<L: Ledger>(
 
 /// Whether the item is known to break nothing.
 fn breaks_nothing(enough: Option<Enough>, item: &Item) -> bool
-    ensures { (d : Deciders) → IfSome enough (AreEnoughAlone d) → result ≡ true → BreaksNothing d item.now }
+    ensures { (d : Deciders) → IfSome enough (AreEnoughAlone d) → result ≡ true
+        → BreaksNothing d item.now }
 {
     match enough {
         Some(enough) => enough.is_had_by(item),
@@ -95,7 +99,8 @@ fn push_single(
 ) -> Result<(), AllocError>
     requires view { IsWholeView view.now }
     requires enough { IfSome enough (AreEnoughAlone (deciders_of view.now)) }
-    ensures rows { OnOk result (HasAddedRows (AreRowsOfItem (checked_by view.now) id) rows.old.items rows.new.items) }
+    ensures rows { OnOk result (HasAddedRows
+        (AreRowsOfItem (checked_by view.now) id) rows.old.items rows.new.items) }
     ensures same { OnErr result (rows.new.items ≡ rows.old.items) }
 {
     match view.board.get(id) {
@@ -121,8 +126,11 @@ pub fn push_singles(
 ) -> Result<(), AllocError>
     requires view { IsWholeView view.now }
     requires rise { IsStrictlyIncreasing ids.now }
-    ensures rows { OnOk result (HasAddedRows (AreSingles (checked_by view.now) ids.now) rows.old.items rows.new.items) }
-    ensures first { OnErr result ((count : ℕ) × HasAddedRows (AreSingles (checked_by view.now) (take count ids.now)) rows.old.items rows.new.items) }
+    ensures rows { OnOk result (HasAddedRows
+        (AreSingles (checked_by view.now) ids.now) rows.old.items rows.new.items) }
+    ensures first { OnErr result ((count : ℕ)
+        × HasAddedRows (AreSingles (checked_by view.now)
+        (take count ids.now)) rows.old.items rows.new.items) }
 {
     let enough = enough_alone(view);
     for id in ids {
@@ -148,7 +156,9 @@ fn rows_counted<L: Ledger>(
     requires sound { IsSoundIndex index.now }
     requires tiles { IsStrictlyIncreasing tiles.now }
     requires changed { IsStrictlyIncreasing changed.now }
-    ensures { IfOk result (λ rows. AreRowsWhere (IsOfChanged (checked_by view.now) index.now tiles.now changed.now) rows.items) }
+    ensures { IfOk result (λ rows.
+        AreRowsWhere (IsOfChanged
+        (checked_by view.now) index.now tiles.now changed.now) rows.items) }
 {
     let mut steps: Steps<L> = Steps::new(blank);
     let mut rows = rows_of_tiles(alloc, view, index, tiles, changed, &mut steps)?;
@@ -173,7 +183,9 @@ pub fn rows_of_changed(
     requires index { IsIndexOf (checked_by view.now) index.now }
     requires tiles { IsStrictlyIncreasing tiles.now }
     requires changed { IsStrictlyIncreasing changed.now }
-    ensures { IfOk result (λ rows. AreRowsWhere (IsOfChanged (checked_by view.now) index.now tiles.now changed.now) rows.items) }
+    ensures { IfOk result (λ rows.
+        AreRowsWhere (IsOfChanged
+        (checked_by view.now) index.now tiles.now changed.now) rows.items) }
 {
     // the index says here that it is sound
     let _ = index.near(0);

@@ -89,7 +89,8 @@ fn with_cond(
     clause: Node<'_, '_>,
 ) -> Result<Draft, RuleError>
     requires { IsShort (tree_of clause) }
-    ensures { Gives plain_draft result (with_cond asked (plain_draft draft) (tree_of clause.entry)) }
+    ensures { Gives plain_draft result
+        (with_cond asked (plain_draft draft) (tree_of clause.entry)) }
 {
     if !asked || draft.cond.is_some() {
         return Ok(draft);
@@ -141,7 +142,8 @@ fn with_more(draft: Draft, constraint: Constraint) -> Result<Draft, RuleError>
 #[tactic(auto, unfolding(crate::specs::RuleWalk::with_constraint))]
 fn with_constraint(alloc: Global, draft: Draft, clause: Node<'_, '_>) -> Result<Draft, RuleError>
     requires { IsShort (tree_of clause) }
-    ensures { Gives plain_draft result (with_constraint (plain_draft draft) (tree_of clause.entry)) }
+    ensures { Gives plain_draft result
+        (with_constraint (plain_draft draft) (tree_of clause.entry)) }
 {
     let name = match name_at(clause) {
         Ok(name) => name,
@@ -173,7 +175,8 @@ fn with_clause(
     clause: Node<'_, '_>,
 ) -> Result<Draft, RuleError>
     requires { IsShort (tree_of clause) }
-    ensures { Gives plain_draft result (with_clause asked (plain_draft draft) (tree_of clause.entry)) }
+    ensures { Gives plain_draft result
+        (with_clause asked (plain_draft draft) (tree_of clause.entry)) }
 {
     if has_head(clause, b"layer") {
         with_layer(draft, clause)

@@ -110,7 +110,8 @@ fn run_members<R: Threads + Sync, T: TileWork, G: Gate>(
     requires members { All (IsReady
         (T.gives job.now.work.now) job.now.tiles job.now.others.now) crew.items }
     ensures long { length result.items ≡ length crew.items }
-    ensures run { HaveRun (T.gives job.now.work.now) job.now.tiles job.now.others.now crew.items result.items }
+    ensures run { HaveRun (T.gives job.now.work.now) job.now.tiles job.now.others.now crew.items
+        result.items }
 {
     run_all(rt, job, crew.as_mut_slice());
     crew

@@ -125,7 +125,8 @@ fn run_member<T: TileWork, G: Gate>(job: &Job<'_, T, G>, member: &mut Member<T::
     requires ready { T.ready job.now.work.now }
     requires count { job.now.tiles ≤ T.count job.now.work.now }
     requires member { IsReady (T.gives job.now.work.now) job.now.tiles job.now.others.now member.old }
-    ensures { HasRun (T.gives job.now.work.now) job.now.tiles job.now.others.now member.old member.new }
+    ensures { HasRun (T.gives job.now.work.now) job.now.tiles job.now.others.now member.old
+        member.new }
 {
     take_own(job, &mut member.own, &mut member.share);
     let seat = member.seat;
@@ -144,7 +145,8 @@ pub(crate) fn run_all<R: Threads + Sync, T: TileWork, G: Gate>(
     requires some { 0 < length members.old }
     requires members { All (λ m. IsReady
         (T.gives job.now.work.now) job.now.tiles job.now.others.now m) members.old }
-    ensures { HaveRun (T.gives job.now.work.now) job.now.tiles job.now.others.now members.old members.new }
+    ensures { HaveRun (T.gives job.now.work.now) job.now.tiles job.now.others.now members.old
+        members.new }
 {
     let threads = members.len();
     thread::for_each_mut(
@@ -154,7 +156,8 @@ pub(crate) fn run_all<R: Threads + Sync, T: TileWork, G: Gate>(
         &|_: usize, member: &mut Member<T::Out>|
             requires { T.ready job.now.work.now × (job.now.tiles ≤ T.count job.now.work.now)
                 × IsReady (T.gives job.now.work.now) job.now.tiles job.now.others.now member.now }
-            ensures { HasRun (T.gives job.entry.now.work.now) job.entry.now.tiles job.entry.now.others.now member.entry.now member.exit.now }
+            ensures { HasRun (T.gives job.entry.now.work.now) job.entry.now.tiles
+                job.entry.now.others.now member.entry.now member.exit.now }
         { run_member(job, member) },
     );
 }

@@ -35,8 +35,12 @@ pub(crate) fn steal_tiles<R: Threads + Sync, G: Gate>(
     requires index { IsIndexOf (checked_by work.view) work.index.now }
     requires changed { IsStrictlyIncreasing work.changed.now }
     requires few { length work.tiles.now ≤ 15625 }
-    ensures rows { IfOk result (λ r. AllZip (λ tile batch. AreRowsOfTile (checked_by work.entry.view) work.entry.index.now tile work.entry.changed.now batch) work.entry.tiles.now r.batches.items) }
-    ensures hands { IfOk result (λ r. (stolen_tiles r.stolen ≡ length work.entry.tiles.now) × (length (stolen_hands r.stolen) ≡ workers + 1)) }
+    ensures rows { IfOk result (λ r.
+        AllZip (λ tile batch.
+        AreRowsOfTile (checked_by work.entry.view) work.entry.index.now tile work.entry.changed.now
+        batch) work.entry.tiles.now r.batches.items) }
+    ensures hands { IfOk result (λ r. (stolen_tiles r.stolen ≡ length work.entry.tiles.now)
+        × (length (stolen_hands r.stolen) ≡ workers + 1)) }
 {
     let count = work.tiles.len() as u32;
     let (batches, stolen) = run_stolen(rt, alloc, workers, count, &work, gate)?;

@@ -10,7 +10,9 @@ use tile_pool::laws::one_list_of_answers;
 
 /// The work has one list of answers: so workers make the same, however many they are.
 pub fn one_value(work: &Tiles<'_>)
-    ensures { (count : ℕ) (answers others : List (List PlainRow)) → AreAnswers (AreRowsAt work.now) count answers → AreAnswers (AreRowsAt work.now) count others → answers ≡ others }
+    ensures { (count : ℕ) (answers others : List (List PlainRow))
+        → AreAnswers (AreRowsAt work.now) count answers
+        → AreAnswers (AreRowsAt work.now) count others → answers ≡ others }
 {
     one_list_of_answers(work);
 }

@@ -28,8 +28,12 @@ pub fn test_tiles<R: Threads + Sync, G: Gate>(
     requires index { IsIndexOf (checked_by work.view) work.index.now }
     requires changed { IsStrictlyIncreasing work.changed.now }
     requires few { length work.tiles.now ≤ 15625 }
-    ensures rows { IfOk result (λ r. AllZip (λ tile batch. AreRowsOfTile (checked_by work.entry.view) work.entry.index.now tile work.entry.changed.now batch) work.entry.tiles.now r.0.items) }
-    ensures dealt { IfOk result (λ r. (dealt_tiles r.1 ≡ length work.entry.tiles.now) × (dealt_seats r.1 ≡ workers)) }
+    ensures rows { IfOk result (λ r.
+        AllZip (λ tile batch.
+        AreRowsOfTile (checked_by work.entry.view) work.entry.index.now tile work.entry.changed.now
+        batch) work.entry.tiles.now r.0.items) }
+    ensures dealt { IfOk result (λ r. (dealt_tiles r.1 ≡ length work.entry.tiles.now)
+        × (dealt_seats r.1 ≡ workers)) }
 {
     let count = work.tiles.len() as u32;
     run_tiles(rt, alloc, workers, count, &work, gate)

@@ -39,7 +39,8 @@ fn rows_counted<L: Ledger>(
     requires view { IsWholeView view.now }
     requires index { IsIndexOf (checked_by view.now) index.now }
     requires changed { IsStrictlyIncreasing changed.now }
-    ensures { IfOk result (λ rows. AreRowsOfTile (checked_by view.now) index.now tile changed.now rows.items) }
+    ensures { IfOk result (λ rows.
+        AreRowsOfTile (checked_by view.now) index.now tile changed.now rows.items) }
 {
     let mut steps: Steps<L> = Steps::new(blank);
     test_tile(alloc, view, index, tile, changed, &mut steps)

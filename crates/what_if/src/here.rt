@@ -87,7 +87,8 @@ pub fn turn_back<R: Threads + Sync + AllocGlobal>(
     ensures stopped { OnErr result (session.new.stopped ≡ true) }
     ensures back { (s : State) (command : PlainCommand) → adds command ≡ false
         → Answers s command (Ok session.old.state)
-        → IsInverseChange (plain_change back) session.old.state s → OnOk result (session.new.state ≡ s) }
+        → IsInverseChange (plain_change back) session.old.state s
+        → OnOk result (session.new.state ≡ s) }
 {
     turned_back();
     session.turn(rt, workers, back, &NoGate)?;

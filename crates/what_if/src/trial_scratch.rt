@@ -89,7 +89,8 @@ impl<'a> TrialScratch<'a> {
         ensures running { IfOk result (λ r. r.0.stopped ≡ false) }
         ensures answer { IfOk result (λ r.
             Answers self.old.state (plain_command command.now) (Ok r.0.state)) }
-        ensures back { IfOk result (λ r. IsInverseChange (plain_change r.1) r.0.state self.old.state) }
+        ensures back { IfOk result (λ r.
+            IsInverseChange (plain_change r.1) r.0.state self.old.state) }
         ensures refused { IfErr result (IsRefusedAt self.old.state (plain_command command.now) 0) }
     {
         let mut copy = self.take_copy()?;

@@ -33,7 +33,8 @@ fn count_at<R: Threads + Sync + AllocGlobal>(
     requires place { place < length commands.now }
     requires fit { All Fits (map plain_command commands.now) }
     ensures same { trial_scratch.new ≡ trial_scratch.old }
-    ensures count { IfOk result (IsCountAt trial_scratch.old.state (map plain_command commands.now) place) }
+    ensures count { IfOk result (IsCountAt trial_scratch.old.state
+        (map plain_command commands.now) place) }
 {
     trial_scratch.count(rt, &commands[place])
 }

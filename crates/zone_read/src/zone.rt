@@ -179,7 +179,8 @@ fn area_in_capacity(
     node: Node<'_, '_>,
     corners: &Corners,
 ) -> Result<Shape, BoardError>
-    ensures shape { Gives result (area_in_capacity board.now unit (tree_of node.entry) corners.now) }
+    ensures shape { Gives result (area_in_capacity board.now unit
+        (tree_of node.entry) corners.now) }
     ensures near { OnOk result (fits_board (first_of corners.now) ≡ true) }
     ensures capacity { OnOk result (has_capacity_after 0 board.now unit ≡ true) }
 {
@@ -207,7 +208,8 @@ fn rule_area(
     ensures area { Gives result (rule_area owner.now.board.now owner.now.unit (tree_of node.entry)
         owner.now.net layers title (tree_of keepout.entry)) }
     ensures ready { IfOk result (IsReady owner.now.board.now owner.now.unit) }
-    ensures capacity { OnOk result (has_capacity_after 0 owner.now.board.now owner.now.unit ≡ true) }
+    ensures capacity { OnOk result (has_capacity_after 0 owner.now.board.now owner.now.unit
+        ≡ true) }
 {
     let corners = polygon_of(alloc, node)?;
     let bans = bans_in(keepout)?;
@@ -305,10 +307,12 @@ fn fill_in_capacity(
     requires below { layer < 32 }
     requires on { IsTrue (has_layer owner.now.board.now.copper layer) }
     requires net { is_some (name_of owner.now.board.now owner.now.net) ≡ true }
-    ensures fill { Gives result (fill_in_capacity found owner.now.board.now owner.now.unit owner.now.net
+    ensures fill { Gives result (fill_in_capacity found owner.now.board.now owner.now.unit
+        owner.now.net
         (tree_of node.entry) (tree_of list.entry) layer) }
     ensures ready { IfOk result (IsReady owner.now.board.now owner.now.unit) }
-    ensures capacity { OnOk result (has_capacity_after found owner.now.board.now owner.now.unit ≡ true) }
+    ensures capacity { OnOk result (has_capacity_after found owner.now.board.now owner.now.unit
+        ≡ true) }
 {
     if !is_thin(node) {
         return Err(BoardError::ThickFill { at: place(node) });
