@@ -187,7 +187,7 @@ impl Board {
         Ok(())
     }
 
-    /// Puts one item back, or gives it back where memory is wanting.
+    /// Puts one item back, or gives it back where memory runs out.
     fn put_one(&mut self, kept: Kept) -> Result<(), Kept>
         requires { FitsOne self.old (kept_entry kept) }
         ensures put { OnOk result (self.new ≡ record self.old {

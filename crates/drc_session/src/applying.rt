@@ -58,7 +58,7 @@ fn carry_out<R: Threads + Sync, G: Gate>(
 }
 
 impl Session {
-    /// Makes the edit. The session is stopped while it is changed, and stays so where memory is wanting.
+    /// Makes the edit. The session is stopped while it is changed, and stays so where memory runs out.
     fn make<R: Threads + Sync + AllocGlobal, G: Gate>(
         &mut self,
         rt: &R,

@@ -77,7 +77,7 @@ fn facts_of(sources: &Sources<'_, '_>, item: &Item) -> Result<Facts, AllocError>
     facts_among(sources.alloc, sources.board, class, item, &ids)
 }
 
-/// The facts of the item of an id; none where there is no such item, or memory is wanting.
+/// The facts of the item of an id; none where there is no such item, or memory runs out.
 fn facts_of_id(sources: &Sources<'_, '_>, id: u32) -> Option<Facts>
     requires { AreReady sources.now }
     ensures { IfSome result (AreFacts sources.now.board.now sources.now.classes.now id) }

@@ -59,7 +59,7 @@ impl History {
         }
     }
 
-    /// Goes back by one step, or says that there is none, or that memory is wanting. `NothingToUndo` says exactly that there is nothing to
+    /// Goes back by one step, or says that there is none, or that memory ran out. `NothingToUndo` says exactly that there is nothing to
     /// undo. After running out of memory the history is stopped, and its session is stopped or as it was.
     pub fn undo<R: Threads + Sync + AllocGlobal, G: Gate>(
         &mut self,
@@ -95,7 +95,7 @@ impl History {
         Ok(applied)
     }
 
-    /// Goes on by one step that was undone, or says that there is none, or that memory is wanting. `NothingToRedo` says exactly that
+    /// Goes on by one step that was undone, or says that there is none, or that memory ran out. `NothingToRedo` says exactly that
     /// nothing leads on. After running out of memory the history is stopped, and its session is stopped or as it was.
     pub fn redo<R: Threads + Sync + AllocGlobal, G: Gate>(
         &mut self,
